@@ -1,0 +1,93 @@
+-- Blocks with their check: what is sealed passes the tests, and what passes them is sealed.
+use Prim.Native.Nat.{ℕ, suc, _+_, _*_, _%_, _^_, _-_, _<_, _≤_}
+use native.Mathlib.Omega.{arith}
+use native.Mathlib.Nat.{mod-lt}
+use mathlib.Core.Bool.{true}
+use mathlib.Core.Path.{_≡_, refl, sym, ap, ap₂, _∙_}
+use mathlib.Core.List.{List, [], _∷_}
+use borrow.Author.Tests.{eqb-true}
+use lib.ListN.{take, drop, length, replicate, length-append, length-replicate, length-drop, take-append-drop}
+use lib.Seq.{take-add, take-all, take-at, drop-at, take-take, drop-append-seam, length-take-le}
+use Rattle.model.specs.Lists.{tab, sum, allOf}
+use Rattle.model.specs.Bytes.{Bytes, u32At, u32Bytes, blockLength, checkOffset, block, wordAt, checksum, isZero, zeroFrom, padded, sealed}
+use Rattle.lists.proofs.Bools.{and-true}
+use Rattle.lists.proofs.Tab.{tab-ext-0}
+use Rattle.lists.proofs.AllOf.{allOf-replicate}
+use Rattle.format.proofs.ByteLaws.{bytes-append, bytes-take, bytes-drop, bytes-zeros, bytes-u32, length-u32, u32-take, u32-read, u32-written}
+
+-- ---- a block of a list
+pub bytes-block : (s : List ℕ) (k : ℕ) → Bytes s → Bytes (block s k)
+unfolding block
+bytes-block s k y = bytes-take 512 (drop (512 * k) s) (bytes-drop (512 * k) s y)
+
+pub length-block : (s : List ℕ) (k : ℕ) → blockLength * suc k ≤ length s → length (block s k) ≡ blockLength
+unfolding block
+length-block s k l = length-take-le 512 (drop (512 * k) s) (omega (arith, length-drop (512 * k) s))
+
+-- ---- the checksum is of 32 bits, and of the first 508 bytes
+pub checksum-small : (k : ℕ) (b : List ℕ) → checksum k b < 2 ^ 32
+unfolding checksum
+checksum-small k b = mod-lt (sum (tab (wordAt b) 0 127) + suc k) {m = 2 ^ 32} (omega arith)
+
+pub checksum-take : (k : ℕ) (b : List ℕ) → checksum k (take checkOffset b) ≡ checksum k b
+unfolding checksum wordAt
+checksum-take k b =
+    ap (λ (l : List ℕ). (sum l + suc k) % 2 ^ 32) (tab-ext-0 (wordAt (take 508 b)) (wordAt b) 127 (λ w l. u32-take 508 b (4 * w) (omega arith)))
+
+-- ---- a sealed block: its length, its bytes, its content's place
+pub length-padded : (c : List ℕ) → length c ≤ checkOffset → length (padded c) ≡ checkOffset
+unfolding padded
+length-padded c l = length-append c (replicate (508 - length c) 0) ∙ omega (arith, length-replicate {A = ℕ} (508 - length c) 0)
+
+pub length-sealed : (k : ℕ) (c : List ℕ) → length c ≤ checkOffset → length (sealed k c) ≡ blockLength
+unfolding sealed
+length-sealed k c l =
+    length-append (padded c) (u32Bytes (checksum k (padded c))) ∙ omega (arith, length-padded c l, length-u32 (checksum k (padded c)))
+
+pub bytes-sealed : (k : ℕ) (c : List ℕ) → Bytes c → Bytes (sealed k c)
+unfolding sealed padded
+bytes-sealed k c y =
+    bytes-append (padded c) (u32Bytes (checksum k (padded c)))
+    (bytes-append c (replicate (508 - length c) 0) y (bytes-zeros (508 - length c)))
+    (bytes-u32 (checksum k (padded c)))
+
+pub take-sealed : (k : ℕ) (c : List ℕ) → length c ≤ checkOffset → take checkOffset (sealed k c) ≡ padded c
+unfolding sealed
+take-sealed k c l = take-at (padded c) (u32Bytes (checksum k (padded c))) 508 (length-padded c l)
+
+-- its check is right
+pub sealed-check : (k : ℕ) (c : List ℕ) → length c ≤ checkOffset → checksum k (sealed k c) ≡ u32At (sealed k c) checkOffset
+unfolding sealed
+sealed-check k c l =
+    let w = checksum k (padded c) in
+    let at-end : take 4 (drop 508 (sealed k c)) ≡ u32Bytes (checksum k (padded c)) =
+    rw (drop-at (padded c) (u32Bytes w) 508 (length-padded c l)) (take-all 4 (u32Bytes w) (omega (arith, length-u32 w))) in
+    sym (checksum-take k (sealed k c)) ∙ ap (checksum k) (take-sealed k c l) ∙ sym (u32-read (sealed k c) 508 w (checksum-small k (padded c)) at-end)
+
+-- and it is zero after its content
+pub sealed-zero : (k : ℕ) (c : List ℕ) → length c ≤ checkOffset → zeroFrom (length c) (sealed k c) ≡ true
+unfolding zeroFrom padded isZero
+sealed-zero k c l =
+    rw (take-sealed k c l, drop-append-seam c (replicate (508 - length c) 0)) (allOf-replicate isZero (508 - length c) 0 refl)
+
+-- ---- a block that is zero after its content, with the right check, is its content sealed
+zeros-are : (s : List ℕ) → allOf isZero s ≡ true → s ≡ replicate (length s) 0
+unfolding allOf isZero
+zeros-are [] a = refl
+zeros-are (b ∷ bs) a =
+    let h = and-true (isZero b) (allOf isZero bs) a in
+    ap₂ (λ (x : ℕ) (l : List ℕ). x ∷ l) (eqb-true b 0 (h .0)) (zeros-are bs (h .1))
+
+module _ (b : List ℕ) (i : ℕ) (l : length b ≡ blockLength) (h : i ≤ checkOffset) (z : zeroFrom i b ≡ true) where
+  pub padded-of : padded (take i b) ≡ take checkOffset b
+  unfolding padded zeroFrom
+  padded-of =
+      let li : length (take i b) ≡ i = length-take-le i b (omega arith) in
+      let ld : length (drop i (take 508 b)) ≡ 508 - i = length-drop i (take 508 b) ∙ rw (length-take-le 508 b (omega arith)) in
+      let zeros : replicate (508 - i) 0 ≡ drop i (take 508 b) = sym (zeros-are (drop i (take 508 b)) z ∙ ap (λ (n : ℕ). replicate n 0) ld) in
+      rw (li, zeros, ← take-take i 508 b h) (take-append-drop i (take 508 b))
+
+  pub sealed-of : (k : ℕ) → Bytes b → checksum k b ≡ u32At b checkOffset → sealed k (take i b) ≡ b
+  unfolding sealed
+  sealed-of k y c =
+      rw (padded-of, checksum-take k b, c, u32-written b y 508 (omega arith)) (sym (take-add 508 4 b) ∙ take-all 512 b (omega arith))

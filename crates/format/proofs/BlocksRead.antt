@@ -1,0 +1,117 @@
+-- The fields of a written block, read: a constraint's numbers, and the head's sizes and bounds.
+use Prim.Native.Nat.{ℕ, _+_, _*_, _^_, _-_, _<_}
+use native.Mathlib.Omega.{arith}
+use mathlib.Core.Bool.{true}
+use mathlib.Core.Path.{_≡_, refl, sym, ap₂}
+use mathlib.Core.List.{List, [], _++_, append-assoc}
+use lib.IntN.{ℤ, pos}
+use lib.ListN.{take, drop, length, replicate}
+use Rattle.model.specs.Lists.{tab, parts, all, allOf}
+use Rattle.model.specs.Ranges.{maxBound, maxCoefficient, within}
+use Rattle.model.specs.Constraint.{Constraint, noBounds, coefficientAt, lowerAt, upperAt, inRange}
+use Rattle.model.specs.Problem.{Problem, variables, boundsInRange, domainInRange}
+use Rattle.model.specs.Bytes.{u16At, u32At, i32At, u16Bytes, u32Bytes, i32Bytes, checksum, padded, sealed}
+use Rattle.model.specs.File.{magic, coefficientOffset, coefficientIn, constraintIn, boundsBytes, headBytes, coefficientBytes, constraintBytes}
+use Rattle.lists.proofs.Bools.{and-true}
+use Rattle.lists.proofs.Tab.{tab-is}
+use Rattle.lists.proofs.Parts.{part-of}
+use Rattle.lists.proofs.AllOf.{allOf-getD}
+use Rattle.format.proofs.Within.{within-mag}
+use Rattle.format.proofs.ByteLaws.{length-i32, place, halves, u16-read, u32-read, i32-read}
+use Rattle.format.proofs.FileShape.{length-coefficient, length-bounds}
+
+-- what a sealed block has after its content
+end : ℕ → List ℕ → List ℕ
+end q c = replicate (508 - length c) 0 ++ u32Bytes (checksum q (padded c))
+
+-- ---- a constraint
+module _ (n q : ℕ) (k : Constraint) where
+  constraint-stands : sealed q (constraintBytes n k) ≡ i32Bytes (k .constant) ++ (parts (coefficientBytes k) 0 n ++ end q (constraintBytes n k))
+  unfolding sealed padded constraintBytes end
+  constraint-stands = simp append-assoc
+
+  constant-read : within maxCoefficient (k .constant) ≡ true → i32At (sealed q (constraintBytes n k)) 0 ≡ k .constant
+  constant-read w =
+      let c = i32Bytes (k .constant) in
+      i32-read (sealed q (constraintBytes n k)) 0 (k .constant) (within-mag maxCoefficient (2 ^ 31) (k .constant) (omega arith) w)
+      (rw constraint-stands (place [] c (parts (coefficientBytes k) 0 n ++ end q (constraintBytes n k)) 0 4 refl (length-i32 (k .constant))))
+
+  coefficient-stands : (i : ℕ) → i < n → take 4 (drop (4 + 4 * i) (sealed q (constraintBytes n k))) ≡ coefficientBytes k i
+  coefficient-stands i l =
+      rw constraint-stands
+      (rw (length-i32 (k .constant)) at (part-of 4 (coefficientBytes k) n (i32Bytes (k .constant)) (end q (constraintBytes n k)) i (λ j m. length-coefficient k j) l))
+
+  coefficient-read : (i : ℕ) → i < n → within maxCoefficient (coefficientAt k i) ≡ true → coefficientIn (sealed q (constraintBytes n k)) i ≡ coefficientAt k i
+  unfolding coefficientIn coefficientOffset coefficientBytes
+  coefficient-read i l w =
+      i32-read (sealed q (constraintBytes n k)) (4 + 4 * i) (coefficientAt k i) (within-mag maxCoefficient (2 ^ 31) (coefficientAt k i) (omega arith) w) (coefficient-stands i l)
+
+pub constraint-read : (n q : ℕ) (k : Constraint) → length (k .coefficients) ≡ n → inRange k ≡ true → constraintIn n (sealed q (constraintBytes n k)) ≡ k
+unfolding constraintIn inRange coefficientAt
+constraint-read n q k e r =
+    let b = and-true (within maxCoefficient (k .constant)) (allOf (within maxCoefficient) (k .coefficients)) r in
+    let s = sealed q (constraintBytes n k) in
+    let cs : tab (coefficientIn (sealed q (constraintBytes n k))) 0 n ≡ k .coefficients =
+    tab-is (k .coefficients) n (coefficientIn s) (pos 0) e
+    (λ i l. sym (coefficient-read n q k i l (allOf-getD (within maxCoefficient) (k .coefficients) i (pos 0) (b .1) (omega arith)))) in
+    ap₂ (λ (c : ℤ) (xs : List ℤ). record { constant = c; coefficients = xs }) (constant-read n q k (b .0)) cs
+
+-- ---- the head
+abbrev pub headBlock : Problem → List ℕ
+headBlock p = sealed 0 (headBytes p)
+
+front : Problem → List ℕ
+front p = magic ++ (u16Bytes (variables p) ++ (u16Bytes (length (p .constraints)) ++ u32Bytes (p .budget)))
+
+length-front : (p : Problem) → length (front p) ≡ 12
+unfolding front magic u16Bytes u32Bytes
+length-front p = refl
+
+module _ (p : Problem) where
+  -- the letters and the sizes
+  pub magic-stands : take 4 (headBlock p) ≡ magic
+  unfolding sealed padded headBytes magic
+  magic-stands = refl
+
+  pub variables-read : variables p < 65536 → u16At (headBlock p) 4 ≡ variables p
+  unfolding sealed padded headBytes magic u16Bytes
+  variables-read l = u16-read (headBlock p) 4 (variables p) l refl
+
+  pub constraints-read : length (p .constraints) < 65536 → u16At (headBlock p) 6 ≡ length (p .constraints)
+  unfolding sealed padded headBytes magic u16Bytes
+  constraints-read l = u16-read (headBlock p) 6 (length (p .constraints)) l refl
+
+  pub budget-read : p .budget < 2 ^ 32 → u32At (headBlock p) 8 ≡ p .budget
+  unfolding sealed padded headBytes magic u16Bytes u32Bytes
+  budget-read l = u32-read (headBlock p) 8 (p .budget) l refl
+
+  -- the bounds of variable i
+  bounds-stand : headBlock p ≡ front p ++ (parts (boundsBytes p) 0 (variables p) ++ end 0 (headBytes p))
+  unfolding sealed padded headBytes front end
+  bounds-stand = simp append-assoc
+
+  pair-stands : (i : ℕ) → i < variables p → take 8 (drop (12 + 8 * i) (headBlock p)) ≡ boundsBytes p i
+  pair-stands i l =
+      rw bounds-stand (rw (length-front p) at (part-of 8 (boundsBytes p) (variables p) (front p) (end 0 (headBytes p)) i (λ j m. length-bounds p j) l))
+
+  module _ (r : domainInRange p ≡ true) (i : ℕ) (l : i < variables p) where
+    each : (take 4 (drop (12 + 8 * i) (headBlock p)) ≡ i32Bytes (lowerAt (p .domain) i)) × (take 4 (drop (12 + 8 * i + 4) (headBlock p)) ≡ i32Bytes (upperAt (p .domain) i))
+    unfolding boundsBytes
+    each =
+        let lo = lowerAt (p .domain) i in
+        let hi = upperAt (p .domain) i in
+        halves (headBlock p) (i32Bytes lo) (i32Bytes hi) 4 4 (12 + 8 * i) (length-i32 lo) (length-i32 hi) (pair-stands i l)
+
+    ranges : (within maxBound (lowerAt (p .domain) i) ≡ true) × (within maxBound (upperAt (p .domain) i) ≡ true)
+    unfolding domainInRange boundsInRange all lowerAt upperAt variables
+    ranges =
+        let a = and-true _ _ (allOf-getD boundsInRange (p .domain) i noBounds r l) in
+        (a .0, and-true _ _ (a .1) .0)
+
+    pub lower-read : i32At (headBlock p) (12 + 8 * i) ≡ lowerAt (p .domain) i
+    lower-read =
+        let z = lowerAt (p .domain) i in i32-read (headBlock p) (12 + 8 * i) z (within-mag maxBound (2 ^ 31) z (omega arith) (ranges .0)) (each .0)
+
+    pub upper-read : i32At (headBlock p) (12 + 8 * i + 4) ≡ upperAt (p .domain) i
+    upper-read =
+        let z = upperAt (p .domain) i in i32-read (headBlock p) (12 + 8 * i + 4) z (within-mag maxBound (2 ^ 31) z (omega arith) (ranges .1)) (each .1)

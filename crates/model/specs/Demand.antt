@@ -1,0 +1,116 @@
+-- Demand 3: what is claimed of every list of turns from a fresh opening of an accepted file.
+use Prim.Native.Nat.{ℕ, zero, suc, _≤_, _<_}
+use mathlib.Core.List.{List, [], _∷_, _++_}
+use mathlib.Core.Logic.{_⊎_, _↔_}
+use mathlib.Core.Option.{Option, none, some}
+use mathlib.Core.Path.{_≡_}
+use lib.ListN.{length}
+use Rattle.model.specs.Problem.{Problem, variables, Result, ok, error}
+use Rattle.model.specs.Bytes.{Bytes}
+use Rattle.model.specs.File.{readError, problemIn}
+use Rattle.model.specs.Search.{Search, openProblem, openFile}
+use Rattle.model.specs.Journal.{cutIn}
+use Rattle.model.specs.Step.{Verdict, goOn, noSolution, outOfBudget, solution, Outcome, step, run, stepCall, runCall}
+use Rattle.model.specs.Points.{Point, Inside, allPoints, points, Meets, Solution, First}
+
+-- ---- a list of turns, each on the walk that the one before returned
+-- the walk after a call: a refusal leaves it as it was
+unfoldable pub after : Search → Result Outcome → Search
+after s (ok o) = o .state
+after s (error e) = s
+
+unfoldable pub stateAfter : ℕ → Search → Search
+stateAfter zero s = s
+stateAfter (suc k) s = stateAfter k (after s (stepCall s))
+
+-- the answer of turn k, counted from 0
+unfoldable pub answerAt : ℕ → Search → Result Outcome
+answerAt k s = stepCall (stateAfter k s)
+
+-- ---- the 'journal': the blocks in the answers, in order
+unfoldable pub blockIn : Option (List ℕ) → List (List ℕ)
+blockIn none = []
+blockIn (some b) = b ∷ []
+
+unfoldable pub blocksIn : Result Outcome → List (List ℕ)
+blocksIn (ok o) = blockIn (o .block)
+blocksIn (error e) = []
+
+-- of the first k turns
+unfoldable pub journal : ℕ → Search → List (List ℕ)
+journal zero s = []
+journal (suc k) s = blocksIn (stepCall s) ++ journal k (after s (stepCall s))
+
+-- the point meets the cut, of n coefficients, in each block
+abbrev pub MeetsCuts : ℕ → Point → List (List ℕ) → Type 0
+MeetsCuts n v [] = Unit {0}
+MeetsCuts n v (b ∷ bs) = Meets v (cutIn n b) × MeetsCuts n v bs
+
+-- ---- membership
+abbrev pub In : Point → List Point → Type 0
+In v [] = ⊥
+In v (u ∷ us) = (v ≡ u) ⊎ In v us
+
+abbrev pub NoRepeats : List Point → Type 0
+NoRepeats [] = Unit {0}
+NoRepeats (v ∷ vs) = (In v vs → ⊥) × NoRepeats vs
+
+-- `allPoints` lists the points inside a box, each once; `points` is its length
+pub record Listed (p : Problem) : Type 0 where
+  pub every : (v : Point) → Inside v (p .domain) ↔ In v (allPoints (p .domain))
+  pub once : NoRepeats (allPoints (p .domain))
+
+-- ---- verdicts and budgets
+unfoldable pub withBudget : Problem → ℕ → Problem
+withBudget p b = record { domain = p .domain; constraints = p .constraints; budget = b }
+
+-- the verdict of a problem under a budget, in a file or not
+unfoldable pub verdictWith : Problem → ℕ → Verdict
+verdictWith p b = run (openProblem (withBudget p b)) .verdict
+
+-- 'none' exactly when there is no solution, else the first solution
+pub record Decides (p : Problem) (v : Verdict) : Type 0 where
+  pub none-iff : (v ≡ noSolution) ↔ ((x : Point) → Solution p x → ⊥)
+  pub else-first : ¬ (v ≡ noSolution) → (x : Point) × (v ≡ solution x) × First p x
+
+-- ---- the claim
+pub record Turns (p : Problem) (s : Search) : Type 0 where
+  pub listed : Listed p
+  -- no turn of the list is refused
+  pub taken : (k : ℕ) → answerAt k s ≡ ok (step (stateAfter k s))
+  -- after each turn the count is the number of journal blocks so far, and at most the number of points
+  pub counted : (k : ℕ) → step (stateAfter k s) .count ≡ length (journal (suc k) s)
+  pub bounded : (k : ℕ) → step (stateAfter k s) .count ≤ points (p .domain)
+  -- every solution meets every cut in those blocks
+  pub cuts : (k : ℕ) (x : Point) → Solution p x → MeetsCuts (variables p) x (journal k s)
+  -- turns kept up reach a verdict, at turn `last`; every later turn, and a run, gives that verdict and its count
+  pub last : ℕ
+  pub before : (k : ℕ) → k < last → step (stateAfter k s) .verdict ≡ goOn
+  pub reached : ¬ (step (stateAfter last s) .verdict ≡ goOn)
+  pub later : (k : ℕ) → last ≤ k → (step (stateAfter k s) .verdict ≡ step (stateAfter last s) .verdict) × (step (stateAfter k s) .count ≡ step (stateAfter last s) .count)
+  pub ran : runCall s ≡ ok (run s)
+  pub run-same : (run s .verdict ≡ step (stateAfter last s) .verdict) × (run s .count ≡ step (stateAfter last s) .count)
+  -- with a budget of at least the points the verdict is 'none' exactly when there is no solution, else the first solution; also where no file can hold so large a budget
+  pub decides : points (p .domain) ≤ p .budget → Decides p (run s .verdict)
+  pub decides-with : (b : ℕ) → points (p .domain) ≤ b → Decides p (verdictWith p b)
+  -- under every budget it is that verdict, or 'spent'
+  pub smaller : (b c : ℕ) → points (p .domain) ≤ b → (verdictWith p c ≡ verdictWith p b) ⊎ (verdictWith p c ≡ outOfBudget)
+  pub own : run s .verdict ≡ verdictWith p (p .budget)
+
+-- Two files: equally many variables and the same solutions
+pub record SameSolutions (p q : Problem) : Type 0 where
+  pub sizes : variables p ≡ variables q
+  pub solutions : (x : Point) → Solution p x ↔ Solution q x
+
+-- An accepted file: none of the table's conditions on files holds.
+pub record Accepted (f : List ℕ) : Type 0 where
+  pub bytes : Bytes f
+  pub fine : readError f ≡ 0
+
+pub record Demand3 : Type 0 where
+  -- a list starts at the walk that opening returns
+  pub opens : (f : List ℕ) → Accepted f → openFile f ≡ ok (openProblem (problemIn f))
+  pub turns : (f : List ℕ) → Accepted f → Turns (problemIn f) (openProblem (problemIn f))
+  -- equal verdicts for equal solution sets, whatever the lines and limits
+  pub same : (f g : List ℕ) → Accepted f → Accepted g → SameSolutions (problemIn f) (problemIn g) → (b c : ℕ) →
+      points (problemIn f .domain) ≤ b → points (problemIn g .domain) ≤ c → verdictWith (problemIn f) b ≡ verdictWith (problemIn g) c

@@ -1,0 +1,78 @@
+-- The words of the demands: points, solutions, dictionary order.
+use Prim.Native.Nat.{ℕ, zero, suc}
+use mathlib.Core.Bool.{Bool, cond}
+use mathlib.Core.List.{List, [], _∷_, _++_, map}
+use mathlib.Core.Logic.{_⊎_}
+use mathlib.Core.Path.{_≡_}
+use lib.IntN.{ℤ, pos, natAbs, _+ℤ_, _-ℤ_, _*ℤ_}
+use lib.Signed.{leZ, _≤ℤ_, _<ℤ_}
+use lib.ListN.{length}
+use Rattle.model.specs.Constraint.{Constraint, Bounds, Box, nextValue}
+use Rattle.model.specs.Problem.{Problem}
+
+-- a 'point' is a choice of all variables' values
+abbrev pub Point : Type 0
+Point = List ℤ
+
+-- inside the limits: as many values as bounds, each from L to U
+abbrev pub Inside : Point → Box → Type 0
+Inside [] [] = Unit {0}
+Inside [] (b ∷ box) = ⊥
+Inside (x ∷ v) [] = ⊥
+Inside (x ∷ v) (b ∷ box) = (b .lower ≤ℤ x) × (x ≤ℤ b .upper) × Inside v box
+
+-- ---- the number of points
+-- how many whole numbers lie from L to U
+unfoldable pub valuesBetween : ℤ → ℤ → ℕ
+valuesBetween l u = cond (leZ l u) (suc (natAbs (u -ℤ l))) 0
+
+unfoldable pub valuesFrom : ℕ → ℤ → List ℤ
+valuesFrom zero v = []
+valuesFrom (suc count) v = v ∷ valuesFrom count (nextValue v)
+
+unfoldable pub values : Bounds → List ℤ
+values b = valuesFrom (valuesBetween (b .lower) (b .upper)) (b .lower)
+
+-- each value before each point
+unfoldable pub prefixed : List ℤ → List Point → List Point
+prefixed [] vs = []
+prefixed (x ∷ xs) vs = map (λ (v : Point). x ∷ v) vs ++ prefixed xs vs
+
+unfoldable pub allPoints : Box → List Point
+allPoints [] = [] ∷ []
+allPoints (b ∷ box) = prefixed (values b) (allPoints box)
+
+unfoldable pub points : Box → ℕ
+points box = length (allPoints box)
+
+-- ---- solutions
+unfoldable pub dot : List ℤ → Point → ℤ
+dot [] v = pos 0
+dot (a ∷ cs) [] = pos 0
+dot (a ∷ cs) (x ∷ v) = a *ℤ x +ℤ dot cs v
+
+unfoldable pub value : Constraint → Point → ℤ
+value k v = k .constant +ℤ dot (k .coefficients) v
+
+-- 'meets' a line
+abbrev pub Meets : Point → Constraint → Type 0
+Meets v k = value k v ≤ℤ pos 0
+
+abbrev pub MeetsAll : Point → List Constraint → Type 0
+MeetsAll v [] = Unit {0}
+MeetsAll v (k ∷ ks) = Meets v k × MeetsAll v ks
+
+pub record Solution (p : Problem) (v : Point) : Type 0 where
+  pub inside : Inside v (p .domain)
+  pub meets : MeetsAll v (p .constraints)
+
+-- 'dictionary order': u comes before v
+abbrev pub Before : Point → Point → Type 0
+Before [] v = ⊥
+Before (x ∷ u) [] = ⊥
+Before (x ∷ u) (y ∷ v) = (x <ℤ y) ⊎ ((x ≡ y) × Before u v)
+
+-- the solution that every other one follows
+pub record First (p : Problem) (s : Point) : Type 0 where
+  pub solves : Solution p s
+  pub first : (v : Point) → Solution p v → (v ≡ s) ⊎ Before s v

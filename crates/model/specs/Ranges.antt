@@ -1,0 +1,33 @@
+-- The sizes and ranges of document 01, each once.
+use Prim.Native.Nat.{ℕ, _^_}
+use mathlib.Core.Bool.{Bool, _&&_}
+use lib.IntN.{ℤ, pos, negℤ}
+use lib.Signed.{leZ}
+
+-- quantities: 1 to 32
+abbrev pub maxVariables : ℕ
+maxVariables = 32
+
+-- lines: 0 to 64
+abbrev pub maxConstraints : ℕ
+maxConstraints = 64
+
+-- the newest cuts that are kept
+abbrev pub maxCuts : ℕ
+maxCuts = 64
+
+-- the budget of dead ends: 0 to 1,000,000,000
+abbrev pub maxBudget : ℕ
+maxBudget = 1_000_000_000
+
+-- limits and bounds: −2^20 to 2^20
+abbrev pub maxBound : ℕ
+maxBound = 2 ^ 20
+
+-- coefficients and constants: −2^30 to 2^30
+abbrev pub maxCoefficient : ℕ
+maxCoefficient = 2 ^ 30
+
+-- −b ≤ z ≤ b
+unfoldable pub within : ℕ → ℤ → Bool
+within b z = leZ (negℤ (pos b)) z && leZ z (pos b)

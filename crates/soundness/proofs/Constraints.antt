@@ -1,0 +1,259 @@
+-- Constraints and the points that meet them: rounding keeps exactly these, a resolvent is met by what meets both, and the minimum activity is one.
+use Prim.Native.Nat.{ℕ, zero, suc, _/_, _≤_, _<_, _∣_}
+use native.Mathlib.Nat.{zero-lt-suc, dvd-trans}
+use native.Mathlib.Omega.{arith}
+use mathlib.Core.Bool.{not}
+use mathlib.Core.List.{List, [], _∷_, map}
+use mathlib.Core.Logic.{_↔_}
+use mathlib.Core.Path.{_≡_, refl, sym, ap, ap₂, _∙_}
+use lib.Dec.{T}
+use lib.IntN.{ℤ, pos, negsuc, negℤ, natAbs, _+ℤ_, _*ℤ_, *ℤ-zero}
+use lib.ListN.{length, length-map}
+use Rattle.model.specs.Division.{ceilDiv, exactDiv, gcd}
+use Rattle.model.specs.Lists.{allOf}
+use Rattle.model.specs.Ranges.{within, maxCoefficient}
+use Rattle.model.specs.Constraint.{Constraint, Bounds, Box, coefficientAt, term, terms, activity, falsified, divisor, roundedBy, rounded, mixed, combination, resolvent, inRange}
+use Rattle.model.specs.Step.{lowers}
+use Rattle.model.specs.Points.{Point, Inside, dot, value, Meets}
+use Rattle.integer.specs.Parts.{_⊑_, add-parts, mul-parts, neg-up, neg-down, le-in, le-out, lt-in, lt-out, nlt-in}
+use Rattle.integer.specs.Ring.{ring, ⊑-add, ⊑-scale, ⊑-flip}
+use Rattle.integer.specs.Rounding.{ceil-min, ceil-only, ceil-size, exact-size}
+use Rattle.integer.specs.Divisor.{gcd-left, gcd-right, exact}
+use Rattle.integer.specs.Size.{between-in, between-out}
+use Rattle.integer.specs.Tests.{and-in, and-left, and-right}
+use Rattle.soundness.proofs.Boxes.{Ordered, Nested, Fixed}
+
+-- ---- rounding
+-- h divides each coefficient
+abbrev Divides : ℕ → List ℤ → Type 0
+Divides h [] = Unit {0}
+Divides h (a ∷ cs) = (h ∣ natAbs a) × Divides h cs
+
+divides-less : (g h : ℕ) (cs : List ℤ) → g ∣ h → Divides h cs → Divides g cs
+divides-less g h [] d e = tt
+divides-less g h (a ∷ cs) d e = (dvd-trans g d (e .0), divides-less g h cs d (e .1))
+
+divisor-divides : (cs : List ℤ) → Divides (divisor cs) cs
+unfolding divisor
+divisor-divides [] = tt
+divisor-divides (a ∷ cs) =
+    let n = divisor cs in
+    (gcd-left (natAbs a) n, divides-less (gcd (natAbs a) n) n cs (gcd-right (natAbs a) n) (divisor-divides cs))
+
+exact-dot : (h : ℕ) (cs : List ℤ) (x : Point) → Divides h cs → dot cs x ≡ pos h *ℤ dot (map (exactDiv h) cs) x
+unfolding dot
+exact-dot h [] x d = sym (*ℤ-zero (pos h))
+exact-dot h (a ∷ cs) [] d = sym (*ℤ-zero (pos h))
+exact-dot h (a ∷ cs) (y ∷ x) d =
+    ap₂ (λ (b r : ℤ). b *ℤ y +ℤ r) (exact h a (d .0)) (exact-dot h cs x (d .1)) ∙ simp ring
+
+-- ceil (c / h) + s ≤ 0 exactly when c + h · s ≤ 0
+ceil-meets : (h : ℕ) (c s : ℤ) → 0 < h → (ceilDiv c h +ℤ s ⊑ pos 0) ↔ (c +ℤ pos h *ℤ s ⊑ pos 0)
+ceil-meets h c s l = (
+  λ m. omega (
+    arith,
+    add-parts c (pos h *ℤ s),
+    mul-parts (pos h) s,
+    simp (neg-up, neg-down) at (ceil-only c h (negℤ s) l (simp (neg-up, neg-down) (omega (arith, add-parts (ceilDiv c h) s)))),
+  ),
+  λ m. omega (
+    arith,
+    add-parts (ceilDiv c h) s,
+    simp (neg-up, neg-down) at (ceil-min c h (negℤ s) l (simp (neg-up, neg-down) (omega (arith, add-parts c (pos h *ℤ s), mul-parts (pos h) s)))),
+  ),
+)
+
+rounded-by-meets : (h : ℕ) (k : Constraint) (x : Point) → Divides h (k .coefficients) → Meets x (roundedBy h k) ↔ Meets x k
+unfolding roundedBy value
+rounded-by-meets zero k x d = (λ m. m, λ m. m)
+rounded-by-meets (suc h) k x d =
+    let c = k .constant in
+    let s = dot (map (exactDiv (suc h)) (k .coefficients)) x in
+    let e = exact-dot (suc h) (k .coefficients) x d in
+    let both = ceil-meets (suc h) c s (zero-lt-suc h) in (
+      λ m. record { le = le-out (c +ℤ dot (k .coefficients) x) (pos 0) (rw e (both .0 (le-in (ceilDiv c (suc h) +ℤ s) (pos 0) (m .le)))) },
+      λ m. record { le = le-out (ceilDiv c (suc h) +ℤ s) (pos 0) (both .1 (rw e at (le-in (c +ℤ dot (k .coefficients) x) (pos 0) (m .le)))) },
+    )
+
+pub rounded-meets : (k : Constraint) (x : Point) → Meets x (rounded k) ↔ Meets x k
+unfolding rounded
+rounded-meets k x = rounded-by-meets (divisor (k .coefficients)) k x (divisor-divides (k .coefficients))
+
+rounded-by-length : (h : ℕ) (k : Constraint) → length (roundedBy h k .coefficients) ≡ length (k .coefficients)
+unfolding roundedBy
+rounded-by-length zero k = refl
+rounded-by-length (suc h) k = length-map (k .coefficients) (exactDiv (suc h))
+
+pub rounded-length : (k : Constraint) → length (rounded k .coefficients) ≡ length (k .coefficients)
+unfolding rounded
+rounded-length k = rounded-by-length (divisor (k .coefficients)) k
+
+-- a number no farther from zero stays in range
+within-less : (b : ℕ) (y z : ℤ) → natAbs y ≤ natAbs z → T (within b z) → T (within b y)
+unfolding within
+within-less b y z h t = between-out b y (omega (arith, between-in b z t))
+
+exact-in-range : (h b : ℕ) (cs : List ℤ) → T (allOf (within b) cs) → T (allOf (within b) (map (exactDiv h) cs))
+unfolding allOf
+exact-in-range h b [] t = tt
+exact-in-range h b (a ∷ cs) t =
+    and-in (within b (exactDiv h a)) (allOf (within b) (map (exactDiv h) cs))
+    (within-less b (exactDiv h a) a (exact-size h a) (and-left (within b a) (allOf (within b) cs) t))
+    (exact-in-range h b cs (and-right (within b a) (allOf (within b) cs) t))
+
+rounded-by-in-range : (h : ℕ) (k : Constraint) → T (inRange k) → T (inRange (roundedBy h k))
+unfolding roundedBy inRange
+rounded-by-in-range zero k t = t
+rounded-by-in-range (suc h) k t =
+    let c = k .constant in
+    let cs = k .coefficients in
+    let fits = within maxCoefficient in
+    and-in (fits (ceilDiv c (suc h))) (allOf fits (map (exactDiv (suc h)) cs))
+    (within-less maxCoefficient (ceilDiv c (suc h)) c (ceil-size c (suc h)) (and-left (fits c) (allOf fits cs) t))
+    (exact-in-range (suc h) maxCoefficient cs (and-right (fits c) (allOf fits cs) t))
+
+pub rounded-in-range : (k : Constraint) → T (inRange k) → T (inRange (rounded k))
+unfolding rounded
+rounded-in-range k t = rounded-by-in-range (divisor (k .coefficients)) k t
+
+-- ---- resolving
+mixed-length : (s : ℕ) (cs : List ℤ) (t : ℕ) (ds : List ℤ) → length cs ≡ length ds → length (mixed s cs t ds) ≡ length cs
+unfolding mixed
+mixed-length s [] t ds e = refl
+mixed-length s (a ∷ cs) t [] e = let z : ⊥ = omega arith in absurd z
+mixed-length s (a ∷ cs) t (b ∷ ds) e = ap suc (mixed-length s cs t ds (omega arith))
+
+pub resolvent-length : (i : ℕ) (f j : Constraint) → length (f .coefficients) ≡ length (j .coefficients) → length (resolvent i f j .coefficients) ≡ length (f .coefficients)
+unfolding resolvent combination
+resolvent-length i f j e =
+    let a = natAbs (coefficientAt f i) in
+    let b = natAbs (coefficientAt j i) in
+    let s = b / gcd a b in
+    let t = a / gcd a b in
+    rounded-length (combination s f t j) ∙ mixed-length s (f .coefficients) t (j .coefficients) e
+
+mixed-zero : (s t : ℕ) → pos 0 ≡ pos s *ℤ pos 0 +ℤ pos t *ℤ pos 0
+mixed-zero s t = ap₂ _+ℤ_ (sym (*ℤ-zero (pos s))) (sym (*ℤ-zero (pos t)))
+
+mixed-dot : (s : ℕ) (cs : List ℤ) (t : ℕ) (ds : List ℤ) (x : Point) → length cs ≡ length ds →
+    dot (mixed s cs t ds) x ≡ pos s *ℤ dot cs x +ℤ pos t *ℤ dot ds x
+unfolding dot mixed
+mixed-dot s [] t [] x e = mixed-zero s t
+mixed-dot s [] t (b ∷ ds) x e = let z : ⊥ = omega arith in absurd z
+mixed-dot s (a ∷ cs) t [] x e = let z : ⊥ = omega arith in absurd z
+mixed-dot s (a ∷ cs) t (b ∷ ds) [] e = mixed-zero s t
+mixed-dot s (a ∷ cs) t (b ∷ ds) (y ∷ x) e =
+    ap (λ (r : ℤ). (pos s *ℤ a +ℤ pos t *ℤ b) *ℤ y +ℤ r) (mixed-dot s cs t ds x (omega arith)) ∙ simp ring
+
+combination-value : (s : ℕ) (f : Constraint) (t : ℕ) (j : Constraint) (x : Point) → length (f .coefficients) ≡ length (j .coefficients) →
+    value (combination s f t j) x ≡ pos s *ℤ value f x +ℤ pos t *ℤ value j x
+unfolding combination value
+combination-value s f t j x e =
+    ap (λ (r : ℤ). (pos s *ℤ f .constant +ℤ pos t *ℤ j .constant) +ℤ r) (mixed-dot s (f .coefficients) t (j .coefficients) x e) ∙ simp ring
+
+combination-meets : (s : ℕ) (f : Constraint) (t : ℕ) (j : Constraint) (x : Point) → length (f .coefficients) ≡ length (j .coefficients) →
+    Meets x f → Meets x j → Meets x (combination s f t j)
+combination-meets s f t j x e m n =
+    let p = value f x in
+    let q = value j x in
+    let h : pos s *ℤ p +ℤ pos t *ℤ q ⊑ pos 0 =
+    omega (
+      arith,
+      add-parts (pos s *ℤ p) (pos t *ℤ q),
+      ⊑-scale s p (pos 0) (le-in p (pos 0) (m .le)),
+      ⊑-scale t q (pos 0) (le-in q (pos 0) (n .le)),
+    ) in
+    record { le = le-out (value (combination s f t j) x) (pos 0) (rw (combination-value s f t j x e) h) }
+
+pub resolvent-meets : (i : ℕ) (f j : Constraint) (x : Point) → length (f .coefficients) ≡ length (j .coefficients) → Meets x f → Meets x j → Meets x (resolvent i f j)
+unfolding resolvent
+resolvent-meets i f j x e m n =
+    let a = natAbs (coefficientAt f i) in
+    let b = natAbs (coefficientAt j i) in
+    let s = b / gcd a b in
+    let t = a / gcd a b in
+    rounded-meets (combination s f t j) x .1 (combination-meets s f t j x e m n)
+
+-- ---- falsified
+pub term-least : (a : ℤ) (b : Bounds) (x : ℤ) → b .lower ⊑ x → x ⊑ b .upper → term a b ⊑ a *ℤ x
+unfolding term
+term-least (pos a) b x h k = ⊑-scale a (b .lower) x h
+term-least (negsuc a) b x h k = ⊑-flip a x (b .upper) k
+
+pub terms-least : (cs : List ℤ) (x : Point) (box : Box) → Inside x box → terms cs box ⊑ dot cs x
+unfolding terms dot
+terms-least [] x box h = omega arith
+terms-least (a ∷ cs) [] [] h = omega arith
+terms-least (a ∷ cs) [] (b ∷ box) h = absurd h
+terms-least (a ∷ cs) (y ∷ x) [] h = absurd h
+terms-least (a ∷ cs) (y ∷ x) (b ∷ box) h =
+    ⊑-add (term a b) (a *ℤ y) (terms cs box) (dot cs x)
+    (term-least a b y (le-in (b .lower) y (h .0 .le)) (le-in y (b .upper) (h .1 .le)))
+    (terms-least cs x box (h .2))
+
+pub activity-least : (k : Constraint) (x : Point) (box : Box) → Inside x box → activity k box ⊑ value k x
+unfolding activity value
+activity-least k x box h =
+    let c = k .constant in
+    ⊑-add c c (terms (k .coefficients) box) (dot (k .coefficients) x) (omega arith) (terms-least (k .coefficients) x box h)
+
+-- no point inside meets a constraint that is falsified there
+pub falsified-empty : (k : Constraint) (x : Point) (box : Box) → T (falsified k box) → Inside x box → Meets x k → ⊥
+unfolding falsified
+falsified-empty k x box f h m =
+    omega (arith, activity-least k x box h, lt-in (pos 0) (activity k box) f, le-in (value k x) (pos 0) (m .le))
+
+-- it stays falsified in smaller boxes
+term-nested : (a : ℤ) (b o : Bounds) → o .lower ⊑ b .lower → b .upper ⊑ o .upper → term a o ⊑ term a b
+unfolding term
+term-nested (pos a) b o h k = ⊑-scale a (o .lower) (b .lower) h
+term-nested (negsuc a) b o h k = ⊑-flip a (b .upper) (o .upper) k
+
+terms-nested : (cs : List ℤ) (box outer : Box) → Nested box outer → terms cs outer ⊑ terms cs box
+unfolding terms
+terms-nested [] box outer n = omega arith
+terms-nested (a ∷ cs) [] [] n = omega arith
+terms-nested (a ∷ cs) [] (o ∷ outer) n = absurd n
+terms-nested (a ∷ cs) (b ∷ box) [] n = absurd n
+terms-nested (a ∷ cs) (b ∷ box) (o ∷ outer) n =
+    ⊑-add (term a o) (term a b) (terms cs outer) (terms cs box) (term-nested a b o (n .0) (n .1)) (terms-nested cs box outer (n .2))
+
+pub falsified-nested : (k : Constraint) (box outer : Box) → Nested box outer → T (falsified k outer) → T (falsified k box)
+unfolding falsified activity
+falsified-nested k box outer n f =
+    let c = k .constant in
+    let p = terms (k .coefficients) outer in
+    let q = terms (k .coefficients) box in
+    lt-out (pos 0) (c +ℤ q) (omega (
+      arith,
+      lt-in (pos 0) (c +ℤ p) f,
+      ⊑-add c c p q (omega arith) (terms-nested (k .coefficients) box outer n),
+    ))
+
+-- at a single point the test is exact
+term-fixed : (a : ℤ) (b : Bounds) → b .upper ⊑ b .lower → a *ℤ b .lower ⊑ term a b
+unfolding term
+term-fixed (pos a) b h = omega arith
+term-fixed (negsuc a) b h = ⊑-flip a (b .upper) (b .lower) h
+
+terms-fixed : (cs : List ℤ) (box : Box) → Fixed box → dot cs (lowers box) ⊑ terms cs box
+unfolding terms dot lowers
+terms-fixed [] box h = omega arith
+terms-fixed (a ∷ cs) [] h = omega arith
+terms-fixed (a ∷ cs) (b ∷ box) h =
+    ⊑-add (a *ℤ b .lower) (term a b) (dot cs (lowers box)) (terms cs box) (term-fixed a b (h .0)) (terms-fixed cs box (h .1))
+
+pub fixed-meets : (k : Constraint) (box : Box) → Fixed box → Ordered box → T (not (falsified k box)) → Meets (lowers box) k
+unfolding falsified activity value
+fixed-meets k box h o f =
+    let c = k .constant in
+    let p = dot (k .coefficients) (lowers box) in
+    let q = terms (k .coefficients) box in
+    record {
+      le =
+          le-out (c +ℤ p) (pos 0) (omega (
+            arith,
+            nlt-in (pos 0) (c +ℤ q) f,
+            ⊑-add c c p q (omega arith) (terms-fixed (k .coefficients) box h),
+          ));
+    }

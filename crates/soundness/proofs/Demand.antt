@@ -1,0 +1,113 @@
+-- Demand 3, of every list of turns from a fresh opening of an accepted file.
+use Prim.Native.Nat.{ℕ, zero, suc, _+_, _-_, _≤_, _<_}
+use native.Mathlib.Omega.{arith}
+use mathlib.Core.Bool.{Bool, true, false, _&&_}
+use mathlib.Core.List.{List, [], _∷_}
+use mathlib.Core.Path.{_≡_, refl, sym, ap, subst, _∙_}
+use lib.Dec.{T, eqb→eq}
+use lib.ListN.{length, length-map}
+use Rattle.model.specs.Lists.{all, allOf}
+use Rattle.model.specs.Ranges.{maxVariables, maxConstraints, maxBudget}
+use Rattle.model.specs.Constraint.{Constraint, rounded}
+use Rattle.model.specs.Problem.{Problem, variables, sizesInRange, ok, resultOf}
+use Rattle.model.specs.File.{readError, problemIn, readFile}
+use Rattle.model.specs.Search.{undecided, Search, coreOf, openProblem, openedBy, openFile}
+use Rattle.model.specs.Validity.{constraintShaped, statusValid, valid}
+use Rattle.model.specs.Points.{points}
+use Rattle.model.specs.Step.{Outcome, step, runFor, withoutBlock, run, checked, runCall}
+use Rattle.model.specs.Demand.{stateAfter, answerAt, Listed, withBudget, verdictWith, Turns, SameSolutions, Accepted, Demand3}
+use Rattle.format.proofs.AcceptedShape as Small
+use Rattle.format.proofs.AcceptedShape.{tests, sizes, accepted-domain, accepted-constraints, problem-shaped}
+use Rattle.integer.specs.Tests.{and-left, and-right}
+use Rattle.soundness.proofs.Sizes.{size, points-size, points-every, points-once}
+use Rattle.soundness.proofs.States.{Every, Sizes, fits-shaped, fits-valid}
+use Rattle.soundness.proofs.Steps.{Valid}
+use Rattle.soundness.proofs.Turns.{Open}
+use Rattle.soundness.proofs.Runs.{ProblemFits, opened-fits, opened-open}
+use Rattle.soundness.proofs.Verdicts.{decides-with, smaller-budget, same-verdict}
+use Rattle.soundness.proofs.TurnLists.{checked-true, call-taken, valid-after, Reached, still, list-counted, list-few, list-cuts, Ends, run-ends-list}
+
+-- ---- an accepted file
+coefficients : (n : ℕ) (ks : List Constraint) → T (allOf (constraintShaped n) ks) → Every (λ (k : Constraint). length (k .coefficients) ≡ n) ks
+unfolding allOf constraintShaped
+coefficients n [] t = tt
+coefficients n (k ∷ ks) t =
+    (eqb→eq (length (k .coefficients)) n (and-left (constraintShaped n k) (allOf (constraintShaped n) ks) t), coefficients n ks (and-right (constraintShaped n k) (allOf (constraintShaped n) ks) t))
+
+fits-of : (f : List ℕ) → Accepted f → ProblemFits (problemIn f)
+fits-of f a =
+    record { domain = accepted-domain f (a .fine); constraints = accepted-constraints f (a .fine); sizes = coefficients (variables (problemIn f)) (problemIn f .constraints) (problem-shaped f) }
+
+module _ (p : Problem) (z : Small.Sizes p) (f : ProblemFits p) where
+  opened-valid : Valid (openProblem p)
+  unfolding openProblem coreOf variables
+  opened-valid =
+      let c = opened-fits p f in
+      record {
+        shape = fits-shaped (coreOf p) c;
+        tests =
+            fits-valid (openProblem p) c
+            (record {
+              some = z .some;
+              few = z .few-variables;
+              inputs = omega (arith, z .few-constraints, length-map (p .constraints) rounded);
+              budget = z .small-budget;
+              conflicts = omega arith;
+              made = omega arith;
+            }) (unfold statusValid in tt);
+      }
+
+  opened-conflicts : openProblem p .conflicts ≡ 0
+  unfolding openProblem
+  opened-conflicts = refl
+
+  opened-fuel : openProblem p .conflicts + (openProblem p .budget - openProblem p .conflicts) ≡ openProblem p .budget
+  unfolding openProblem
+  opened-fuel = omega arith
+
+  own-budget : openProblem p ≡ openProblem (withBudget p (p .budget))
+  unfolding withBudget
+  own-budget = refl
+
+  run-taken : runCall (openProblem p) ≡ ok (run (openProblem p))
+  unfolding runCall
+  run-taken = checked-true (valid (openProblem p)) (run (openProblem p)) (opened-valid .tests)
+
+  turns-of : Turns p (openProblem p)
+  unfolding run withoutBlock answerAt
+  turns-of =
+      let s = openProblem p in
+      let v = opened-valid in
+      let o = opened-open p f in
+      let e = run-ends-list p (s .budget - s .conflicts) s v o opened-fuel in
+      let own : run s .verdict ≡ verdictWith p (p .budget) = unfold verdictWith in ap (λ (x : Search). run x .verdict) own-budget in
+      record {
+        listed = record { every = points-every (p .domain); once = points-once (p .domain) };
+        taken = λ k. call-taken (stateAfter k s) (valid-after k s v);
+        counted = λ k. omega (arith, list-counted p k s v (still o), opened-conflicts);
+        bounded = λ k. omega (arith, list-few p k s v (still o), points-size (p .domain));
+        cuts = λ k x q. list-cuts p k s (z .few-variables) v (still o) x q;
+        last = e .last;
+        before = e .before;
+        reached = λ h. e .reached (ap (λ (x : Outcome). x .verdict) (e .ran) ∙ h);
+        later = λ k h.
+            (e .later k h .0 ∙ ap (λ (x : Outcome). x .verdict) (e .ran), e .later k h .1 ∙ ap (λ (x : Outcome). x .count) (e .ran));
+        ran = run-taken;
+        run-same = (ap (λ (x : Outcome). x .verdict) (e .ran), ap (λ (x : Outcome). x .count) (e .ran));
+        decides = λ h. rw own (decides-with p (p .budget) f h);
+        decides-with = λ b h. decides-with p b f h;
+        smaller = λ b c h. smaller-budget p b c f h;
+        own = own;
+      }
+
+opens-of : (f : List ℕ) → Accepted f → openFile f ≡ ok (openProblem (problemIn f))
+unfolding openFile readFile
+opens-of f a = rw (a .fine) (unfold resultOf openedBy in refl)
+
+pub demand-3 : Demand3
+demand-3 =
+    record {
+      opens = opens-of;
+      turns = λ f a. turns-of (problemIn f) (sizes (problemIn f) (tests f (a .fine) .sized)) (fits-of f a);
+      same = λ f g a b e c d h k. same-verdict (problemIn f) (problemIn g) c d (fits-of f a) (fits-of g b) (e .solutions) h k;
+    }

@@ -1,0 +1,214 @@
+-- The state of a search from an opening: no solution is lost, fewer points are left after each conflict, and a point reached is the first solution.
+use Prim.Native.Nat.{ℕ, zero, suc, _+_, _-_, _≤_, _<_}
+use native.Mathlib.Omega.{arith}
+use mathlib.Core.List.{List, [], _∷_, _++_, map}
+use mathlib.Core.Logic.{_⊎_, inl, inr, ⊎-elim}
+use mathlib.Core.Option.{Option, none, some}
+use mathlib.Core.Path.{_≡_, refl, sym, ap, subst, _∙_}
+use lib.Dec.{T}
+use lib.IntN.{ℤ}
+use lib.ListN.{getD, length, drop, length-drop}
+use native.Mathlib.Nat.{sub-zero}
+use Rattle.model.specs.Constraint.{Constraint, Box, falsified, rounded}
+use Rattle.model.specs.File.{noConstraint}
+use Rattle.model.specs.Problem.{Problem, variables}
+use Rattle.model.specs.Search.{constraint, Level, Core, Status, undecided, infeasible, solved, Search, depth, levels, withLevels, withDeepest, kept, numberAt, raiseLower, lowerUpper, decideAt}
+use Rattle.model.specs.Move.{Stop, descend}
+use Rattle.model.specs.Conflict.{Conflict, analyze, numbered, backjumpLevel, backFrom, backUp, settled, conflictOf, atConflict}
+use Rattle.model.specs.Points.{Point, Inside, Meets, MeetsAll, Solution, Before, First}
+use Rattle.model.specs.Step.{lowers}
+use Rattle.soundness.proofs.Boxes.{Fixed, Ordered, Nested, nested-refl, nested-inside, set-lower-nested, set-upper-nested, set-lower-ordered, set-upper-ordered, set-lower-inside, set-upper-inside, lowers-inside, fixed-only}
+use Rattle.soundness.proofs.Sizes.{size, size-nested}
+use Rattle.soundness.proofs.Constraints.{rounded-meets, fixed-meets}
+use Rattle.soundness.proofs.Moves.{Clear, Falsifies, Finishes, Raises, Lowers, Decides}
+use Rattle.soundness.proofs.States.{Every, CoreFits, raise-fits, lower-fits, decide-fits, deepest-ordered}
+use Rattle.soundness.proofs.Conflicts.{analyze-meets, Keeps, numbered-keeps, numbered-every, Back}
+use Rattle.soundness.proofs.Remaining.{Chain, Remains, remaining, chain-ordered, chain-domain, chain-smaller, remains-smaller, remaining-smaller, chain-decided, remains-decided, remaining-decided, FalsifiedTo, RemainsAfter, remainingAfter, ChainAfter, remains-back, remaining-back, chain-back, falsified-to, remains-later}
+use Rattle.soundness.proofs.Descent.{EndsAt, Ended, descend-keeps}
+use Rattle.soundness.proofs.Steps.{Settled}
+
+-- met by every point that meets the problem's constraints, inside the limits or not
+abbrev pub Implied : Problem → Constraint → Type 0
+Implied p k = (x : Point) → MeetsAll x (p .constraints) → Meets x k
+
+-- the state of a search from an opening of p, with at most `room` points left
+pub record Sound (p : Problem) (room : ℕ) (c : Core) : Type 0 where
+  pub fits : CoreFits c
+  pub variables : c .variables ≡ variables p
+  pub inputs : c .inputs ≡ map rounded (p .constraints)
+  pub implied : Every (Implied p) (kept c)
+  pub chain : Chain (p .domain) (c .deepest) (c .outer)
+  pub cover : (x : Point) → Solution p x → Remains x (c .deepest) (c .outer)
+  pub left : remaining (c .deepest) (c .outer) ≤ room
+
+pub every-at : {A : Type 0} (q : A → Type 0) (xs : List A) (j : ℕ) (d : A) → Every q xs → j < length xs → q (getD xs j d)
+every-at q [] j d e h = let z : ⊥ = omega arith in absurd z
+every-at q (x ∷ xs) zero d e h = e .0
+every-at q (x ∷ xs) (suc j) d e h = every-at q xs j d (e .1) (omega arith)
+
+module _ (p : Problem) (room : ℕ) where
+  -- a smaller box that keeps the solutions
+  smaller : (c : Core) (l : Level) → Sound p room c → CoreFits (withDeepest c l) → l .decided ≡ c .deepest .decided → Ordered (l .box) →
+      Nested (l .box) (c .deepest .box) → ((x : Point) → Solution p x → Inside x (c .deepest .box) → Inside x (l .box)) → Sound p room (withDeepest c l)
+  unfolding withDeepest withLevels kept
+  smaller c l s f e o n k =
+      record {
+        fits = f;
+        variables = s .variables;
+        inputs = s .inputs;
+        implied = s .implied;
+        chain = chain-smaller (c .deepest) l e (p .domain) (c .outer) o n (s .chain);
+        cover = λ x z. remains-smaller (c .deepest) l e x (c .outer) (k x z) (s .cover x z);
+        left = omega (arith, s .left, remaining-smaller (c .deepest) l e (c .outer) (size-nested (l .box) (c .deepest .box) o n));
+      }
+
+  sound-raise : (c : Core) (j i : ℕ) (v : ℤ) → Sound p room c → Raises (kept c) (c .deepest .box) j i v → Sound p room (withDeepest c (raiseLower i v (constraint (numberAt c j)) (c .deepest)))
+  sound-raise c j i v s m =
+      let box = c .deepest .box in
+      smaller c (raiseLower i v (constraint (numberAt c j)) (c .deepest)) s (raise-fits c j i v (s .fits) m) (unfold raiseLower in refl)
+      (unfold raiseLower in set-lower-ordered i v box (chain-ordered (p .domain) (c .deepest) (c .outer) (s .chain)) (m .fits))
+      (unfold raiseLower in set-lower-nested i v box (omega (arith, m .better)))
+      (λ x z q. unfold raiseLower in set-lower-inside i v box x q (m .implied x q (every-at (Implied p) (kept c) j noConstraint (s .implied) (m .constraint) x (z .meets))))
+
+  sound-lower : (c : Core) (j i : ℕ) (v : ℤ) → Sound p room c → Lowers (kept c) (c .deepest .box) j i v → Sound p room (withDeepest c (lowerUpper i v (constraint (numberAt c j)) (c .deepest)))
+  sound-lower c j i v s m =
+      let box = c .deepest .box in
+      smaller c (lowerUpper i v (constraint (numberAt c j)) (c .deepest)) s (lower-fits c j i v (s .fits) m) (unfold lowerUpper in refl)
+      (unfold lowerUpper in set-upper-ordered i v box (chain-ordered (p .domain) (c .deepest) (c .outer) (s .chain)) (m .fits))
+      (unfold lowerUpper in set-upper-nested i v box (omega (arith, m .better)))
+      (λ x z q. unfold lowerUpper in set-upper-inside i v box x q (m .implied x q (every-at (Implied p) (kept c) j noConstraint (s .implied) (m .constraint) x (z .meets))))
+
+  sound-decide : (c : Core) (i : ℕ) → Sound p room c → Decides (kept c) (c .deepest .box) i → Sound p room (withLevels c (decideAt i (c .deepest)) (levels c))
+  unfolding withLevels kept levels
+  sound-decide c i s m =
+      let o = chain-ordered (p .domain) (c .deepest) (c .outer) (s .chain) in
+      record {
+        fits = decide-fits c i (s .fits) m;
+        variables = s .variables;
+        inputs = s .inputs;
+        implied = s .implied;
+        chain = chain-decided (p .domain) i (c .deepest) (c .outer) (m .first) (s .chain);
+        cover = λ x z. remains-decided x i (c .deepest) (c .outer) (s .cover x z);
+        left = omega (arith, s .left, remaining-decided i (c .deepest) (c .outer) o (m .first));
+      }
+
+  pub descend-sound : (c : Core) → Sound p room c → Ended (Sound p room) (descend c)
+  descend-sound c s = descend-keeps (Sound p room) (λ d h. deepest-ordered d (h .fits)) sound-raise sound-lower sound-decide c s
+
+-- ---- the solution
+clear-meets : (ks : List Constraint) (box : Box) → Fixed box → Ordered box → Clear ks box → Every (Meets (lowers box)) ks
+clear-meets [] box f o c = tt
+clear-meets (k ∷ ks) box f o c = (fixed-meets k box f o (c .0), clear-meets ks box f o (c .1))
+
+-- what meets the rounded inputs meets the problem's own constraints
+inputs-met : (x : Point) (ks rest : List Constraint) → Every (Meets x) (map rounded ks ++ rest) → MeetsAll x ks
+inputs-met x [] rest e = tt
+inputs-met x (k ∷ ks) rest e = (rounded-meets k x .0 (e .0), inputs-met x ks rest (e .1))
+
+pub finish-first : (p : Problem) (room : ℕ) (c : Core) → Sound p room c → Finishes (kept c) (c .deepest .box) → First p (lowers (c .deepest .box))
+unfolding kept
+finish-first p room c s f =
+    let box = c .deepest .box in
+    let o = chain-ordered (p .domain) (c .deepest) (c .outer) (s .chain) in
+    let here = lowers-inside box o in
+    let met = clear-meets (c .inputs ++ c .cuts) box (f .fixed) o (f .clear) in
+    record {
+      solves = record {
+        inside = nested-inside (lowers box) box (p .domain) (chain-domain (p .domain) (c .deepest) (c .outer) (s .chain)) here;
+        meets = inputs-met (lowers box) (p .constraints) (c .cuts) (subst (λ (ks : List Constraint). Every (Meets (lowers box)) (ks ++ c .cuts)) (s .inputs) met);
+      };
+      first = λ v z.
+          ⊎-elim (λ h. inl (fixed-only box v (f .fixed) h)) (λ h. inr h)
+          (remains-later (p .domain) (c .deepest) (c .outer) (lowers box) v (s .chain) here (s .cover v z));
+    }
+
+-- ---- a conflict
+every-map : {A : Type 0} (q r : A → Type 0) (xs : List A) → ((x : A) → q x → r x) → Every q xs → Every r xs
+every-map q r [] f e = tt
+every-map q r (x ∷ xs) f e = (f x (e .0), every-map q r xs f (e .1))
+
+-- the cut follows from the problem's constraints alone
+pub cut-implied : (p : Problem) (room : ℕ) (c : Core) (j : ℕ) → Sound p room c → Falsifies (kept c) (c .deepest .box) j → Implied p (atConflict c j .cut)
+unfolding atConflict conflictOf
+cut-implied p room c j s f x m =
+    analyze-meets c j x (s .fits) (f .at) (every-map (Implied p) (Meets x) (kept c) (λ k i. i x m) (s .implied))
+
+-- what is left after the levels down to the first of `ds` are dropped
+record Leaves (p : Problem) (room : ℕ) (ds : List Level) : Type 0 where
+  chain : ChainAfter (p .domain) ds
+  cover : (x : Point) → Solution p x → RemainsAfter x ds
+  less : remainingAfter ds < room
+
+leaves : (p : Problem) (room : ℕ) (c : Core) (j : ℕ) (k : Constraint) (level : Level) (rest : List Level) → Sound p room c → Implied p k →
+    drop j (levels c) ≡ level ∷ rest → T (falsified k (level .box)) → Leaves p room (drop j (levels c))
+unfolding levels
+leaves p room c j k level rest s i e f =
+    let l = c .deepest in
+    let ls = c .outer in
+    let o = chain-ordered (p .domain) l ls (s .chain) in
+    record {
+      chain = chain-back (p .domain) j l ls (s .chain);
+      cover = λ x z.
+          remains-back k x j l l ls (i x (z .meets)) refl (nested-refl (l .box)) (falsified-to (p .domain) k j l level ls rest (s .chain) e f) (s .cover x z);
+      less = omega (arith, s .left, remaining-back (p .domain) j l l ls refl o (s .chain));
+    }
+
+-- back to level 0: nothing
+remains-none : (x : Point) (l : Level) (ls : List Level) → RemainsAfter x (drop (length ls) (l ∷ ls)) → ⊥
+remains-none x l [] r = r
+remains-none x l (o ∷ ls) r = remains-none x o ls r
+
+-- back to a later one: a sound state with fewer points
+pub record Backed (p : Problem) (room : ℕ) (c : Core) : Type 0 where
+  pub left : ℕ
+  pub less : left < room
+  pub sound : Sound p left c
+
+backed : (p : Problem) (room : ℕ) (n : Core) (ds : List Level) → 1 < length ds → Leaves p room ds → CoreFits (backFrom ds n) → n .variables ≡ variables p →
+    n .inputs ≡ map rounded (p .constraints) → Every (Implied p) (kept n) → Backed p room (backFrom ds n)
+unfolding backFrom withLevels kept
+backed p room n [] h l f v i e = let z : ⊥ = omega arith in absurd z
+backed p room n (a ∷ []) h l f v i e = let z : ⊥ = omega arith in absurd z
+backed p room n (a ∷ o ∷ ls) h l f v i e =
+    record {
+      left = remainingAfter (a ∷ o ∷ ls);
+      less = l .less;
+      sound = record { fits = f; variables = v; inputs = i; implied = e; chain = l .chain; cover = l .cover; left = omega arith };
+    }
+
+-- what a conflict with backjump level d leaves
+abbrev pub After : Problem → ℕ → ℕ → Core → Type 0
+After p room zero c = ((x : Point) → Solution p x → ⊥) × (1 ≤ room)
+After p room (suc d) c = Backed p room c
+
+-- numbering the cut leaves the levels as they are
+dropped-same : (d : ℕ) (c n : Core) → Keeps c n → drop (depth n - d) (levels n) ≡ drop (depth c - d) (levels c)
+unfolding depth levels
+dropped-same d c n k = rw (k .deepest, k .outer)
+
+dropped-many : (d : ℕ) (c : Core) → suc d ≤ depth c → 1 < length (drop (depth c - suc d) (levels c))
+unfolding depth levels
+dropped-many d c h = simp length-drop (omega arith)
+
+after-back : (p : Problem) (room d : ℕ) (c : Core) (k : Constraint) → Sound p room c → Implied p k → Back k c d → CoreFits (settled d (numbered c k .core)) →
+    After p room d (settled d (numbered c k .core))
+unfolding settled backUp
+after-back p room zero c k s i b f =
+    let l = leaves p room c (depth c - 0) k (b .level) (b .rest) s i (b .dropped) (b .false) in (
+      λ x z. remains-none x (c .deepest) (c .outer) (unfold depth levels in subst (λ (j : ℕ). RemainsAfter x (drop j (c .deepest ∷ c .outer))) (sub-zero (length (c .outer))) (l .cover x z)),
+      omega (arith, l .less),
+    )
+after-back p room (suc d) c k s i b f =
+    let n = numbered c k .core in
+    let same = numbered-keeps c k in
+    let e = dropped-same (suc d) c n same in
+    backed p room n (drop (depth n - suc d) (levels n)) (rw e (dropped-many d c (b .reach)))
+    (subst (λ (ds : List Level). Leaves p room ds) (sym e) (leaves p room c (depth c - suc d) k (b .level) (b .rest) s i (b .dropped) (b .false))) f
+    (same .variables ∙ s .variables) (same .inputs ∙ s .inputs) (numbered-every (Implied p) c k (s .implied) i)
+
+pub conflict-after : (p : Problem) (room : ℕ) (c : Core) (j : ℕ) → Sound p room c → Falsifies (kept c) (c .deepest .box) j → Settled c (atConflict c j) →
+    After p room (atConflict c j .back) (atConflict c j .core)
+unfolding atConflict conflictOf
+conflict-after p room c j s f t =
+    let k = analyze c (getD (kept c) j noConstraint) .cut in
+    after-back p room (backjumpLevel k c) c k s (unfold atConflict conflictOf in cut-implied p room c j s f) (t .back) (t .fits)

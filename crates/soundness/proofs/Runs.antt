@@ -1,0 +1,121 @@
+-- Runs of a problem under any budget, in a file or not: the verdict is right, and there is only one right verdict.
+use Prim.Native.Nat.{ℕ, zero, suc, _+_, _-_, _≤_, _<_}
+use native.Mathlib.Omega.{arith}
+use mathlib.Core.List.{List, [], _∷_, _++_, map}
+use mathlib.Core.Logic.{_⊎_, inl, inr, _↔_}
+use mathlib.Core.Path.{_≡_, refl, sym, ap, subst, _∙_}
+use lib.Dec.{T}
+use lib.IntN.{ℤ}
+use lib.ListN.{length, replicate, length-replicate}
+use Rattle.model.specs.Lists.{tab, allOf}
+use Rattle.model.specs.Constraint.{Constraint, inRange, rounded}
+use Rattle.model.specs.Problem.{Problem, variables, domainInRange, boundsInRange, constraintsInRange}
+use Rattle.model.specs.Search.{noReasons, Reasons, Core, undecided, Search, kept, levels, levelOf, coreOf, openProblem}
+use Rattle.model.specs.Validity.{reasonValid, reasonsValid}
+use Rattle.model.specs.Points.{Point, Inside, MeetsAll, Solution, Before, First, points}
+use Rattle.model.specs.Step.{Verdict, goOn, noSolution, outOfBudget, solution, Outcome, step, continue, runFor, withoutBlock, run}
+use Rattle.model.specs.Demand.{withBudget, verdictWith, Decides}
+use Rattle.integer.specs.Parts.{up, down, _⊑_, _⊏_, lt-in}
+use Rattle.integer.specs.Tests.{and-in, and-left, and-right}
+use Rattle.soundness.proofs.Boxes.{Ordered, Nested, nested-refl}
+use Rattle.soundness.proofs.Sizes.{size, points-size}
+use Rattle.soundness.proofs.Constraints.{rounded-meets, rounded-length, rounded-in-range}
+use Rattle.soundness.proofs.States.{Every, ConstraintFits, LevelFits, CoreFits, level-ordered}
+use Rattle.soundness.proofs.Opened.{Implied, Sound}
+use Rattle.soundness.proofs.Turns.{Open, Says, Turned, turned}
+use Rattle.soundness.proofs.Steps.{impossible}
+
+-- ---- opening: a problem with its limits and constraints in range, each constraint of n coefficients
+pub record ProblemFits (p : Problem) : Type 0 where
+  pub domain : T (domainInRange p)
+  pub constraints : T (constraintsInRange p)
+  pub sizes : Every (λ (k : Constraint). length (k .coefficients) ≡ variables p) (p .constraints)
+
+rounded-fit : (n : ℕ) (ks : List Constraint) → T (allOf inRange ks) → Every (λ (k : Constraint). length (k .coefficients) ≡ n) ks → Every (ConstraintFits n) (map rounded ks ++ [])
+unfolding allOf
+rounded-fit n [] t e = tt
+rounded-fit n (k ∷ ks) t e = (
+  record { range = rounded-in-range k (and-left (inRange k) (allOf inRange ks) t); size = rounded-length k ∙ e .0 },
+  rounded-fit n ks (and-right (inRange k) (allOf inRange ks) t) (e .1),
+)
+
+no-causes : (last n : ℕ) → T (allOf (reasonsValid last) (replicate n noReasons))
+unfolding allOf reasonsValid reasonValid
+no-causes last zero = tt
+no-causes last (suc n) = no-causes last n
+
+rounded-implied : (p : Problem) (ks : List Constraint) → Every (Implied p) ks → Every (Implied p) (map rounded ks ++ [])
+rounded-implied p [] e = tt
+rounded-implied p (k ∷ ks) e = (λ x m. rounded-meets k x .1 (e .0 x m), rounded-implied p ks (e .1))
+
+own-implied : (p : Problem) (ks : List Constraint) → ((x : Point) → MeetsAll x (p .constraints) → MeetsAll x ks) → Every (Implied p) ks
+own-implied p [] f = tt
+own-implied p (k ∷ ks) f = (λ x m. f x m .0, own-implied p ks (λ x m. f x m .1))
+
+pub opened-fits : (p : Problem) → ProblemFits p → CoreFits (coreOf p)
+unfolding coreOf levelOf kept levels tab variables domainInRange constraintsInRange
+opened-fits p f =
+    record {
+      constraints = rounded-fit (length (p .domain)) (p .constraints) (f .constraints) (f .sizes);
+      cuts = omega arith;
+      numbers = refl;
+      levels = (record { box = refl; reasons = length-replicate (length (p .domain)) noReasons; range = f .domain; causes = no-causes (length (map rounded (p .constraints)) + 0) (length (p .domain)) }, tt);
+      stacked = tt;
+    }
+
+pub opened-open : (p : Problem) → ProblemFits p → Open p (openProblem p)
+unfolding openProblem levels
+opened-open p f =
+    let c = opened-fits p f in
+    record {
+      room = size (p .domain);
+      sound = unfold coreOf levelOf kept in record {
+        fits = c;
+        variables = refl;
+        inputs = refl;
+        implied = rounded-implied p (p .constraints) (own-implied p (p .constraints) (λ x m. m));
+        chain = (level-ordered _ _ (levelOf p) (c .levels .0), nested-refl (p .domain));
+        cover = λ x z. z .inside;
+        left = omega arith;
+      };
+      total = omega arith;
+      budget = refl;
+      afford = omega arith;
+      status = refl;
+    }
+
+-- ---- a right verdict
+abbrev pub Right : Problem → Verdict → Type 0
+Right p goOn = ⊥
+Right p noSolution = (x : Point) → Solution p x → ⊥
+Right p outOfBudget = p .budget < size (p .domain)
+Right p (solution x) = First p x
+
+continue-right : (p : Problem) (s : Search) (o : Outcome) (v : Verdict) (go : Search → Outcome) → o .verdict ≡ v → Says p s o v →
+    (Open p (o .state) → o .state .conflicts ≡ suc (s .conflicts) → Right p (go (o .state) .verdict)) → Right p (continue v o go .verdict)
+unfolding continue
+continue-right p s o goOn go e h next = next (h .0) (h .1)
+continue-right p s o noSolution go e h next = rw e (h .0)
+continue-right p s o outOfBudget go e h next = rw e (h .1)
+continue-right p s o (solution x) go e h next = rw e (h .0)
+
+run-for-right : (p : Problem) (fuel : ℕ) (s : Search) → Open p s → s .conflicts + fuel ≡ s .budget → Right p (runFor fuel s .verdict)
+unfolding runFor
+run-for-right p zero s o h =
+    let t = turned p s o in
+    last (step s) (step s .verdict) (t .says)
+  where
+    last : (a : Outcome) (v : Verdict) → Says p s a v → Right p v
+    last a goOn q = let z : ⊥ = omega (arith, q .1, q .0 .afford, q .0 .budget, o .budget) in absurd z
+    last a noSolution q = q .0
+    last a outOfBudget q = q .1
+    last a (solution x) q = q .0
+run-for-right p (suc fuel) s o h =
+    let t = turned p s o in
+    continue-right p s (step s) (step s .verdict) (runFor fuel) refl (t .says)
+    (λ n c. run-for-right p fuel (step s .state) n (omega (arith, c, n .budget, o .budget)))
+
+pub run-right : (p : Problem) → ProblemFits p → Right p (run (openProblem p) .verdict)
+unfolding run withoutBlock
+run-right p f =
+    run-for-right p (openProblem p .budget - openProblem p .conflicts) (openProblem p) (opened-open p f) (unfold openProblem in omega arith)

@@ -1,0 +1,227 @@
+-- A step on every valid state, made-up ones too: it leaves a valid state, and a run from there ends.
+use Prim.Native.Nat.{ℕ, zero, suc, _+_, _-_, _≤_, _<_}
+use native.Mathlib.Omega.{arith}
+use mathlib.Core.Bool.{Bool, true, false, not, _&&_, _||_, cond}
+use mathlib.Core.List.{List, [], _∷_, _++_}
+use mathlib.Core.Option.{Option, none, some}
+use mathlib.Core.Path.{_≡_, refl, sym, ap, subst, _∙_}
+use lib.Dec.{T, eqb, eqb→eq, eqb-refl}
+use lib.IntN.{ℤ}
+use lib.ListN.{getD, length, drop}
+use lib.Signed.{ltZ}
+use Rattle.model.specs.Lists.{anyOf}
+use Rattle.model.specs.Constraint.{Constraint, Box, falsified}
+use Rattle.model.specs.File.{noConstraint}
+use Rattle.model.specs.Search.{constraint, Level, Core, Status, undecided, infeasible, solved, Search, depth, levels, withLevels, withDeepest, kept, numberAt, raiseLower, lowerUpper, decideAt}
+use Rattle.model.specs.Move.{Stop, descend}
+use Rattle.model.specs.Conflict.{Analysis, Numbered, Conflict, analyze, numbered, backjumpLevel, backFrom, backUp, settled, conflictOf, atConflict}
+use Rattle.model.specs.Validity.{isOpen, falsifies, anyFalsified, outermost, statusValid, valid, shaped}
+use Rattle.model.specs.Step.{Verdict, goOn, noSolution, outOfBudget, solution, Outcome, withStatus, solvedBy, budgetSpent, verdictAt, statusAt, counted, atDeadEnd, endedAt, ended, again, stepBy, step, continue, runFor, withoutBlock, run}
+use Rattle.integer.specs.Parts.{_⊑_, nlt-out}
+use Rattle.integer.specs.Tests.{and-in, not-out}
+use Rattle.soundness.proofs.Boxes.{Fixed}
+use Rattle.soundness.proofs.Moves.{Clear, Falsifies, Finishes, Raises, Lowers, Decides}
+use Rattle.soundness.proofs.States.{CoreFits, Sizes, core-fits, sizes-fit, fits-shaped, fits-valid, deepest-ordered, raise-fits, lower-fits, decide-fits}
+use Rattle.soundness.proofs.Conflicts.{Learned, analyze-learned, Keeps, numbered-keeps, numbered-fits, numbered-falsifies, Back, backjump-back, back-outermost, back-fits}
+use Rattle.soundness.proofs.Descent.{EndsAt, Ended, descend-keeps}
+
+-- ---- moves 2 and 3: the state stays valid, with the same sizes
+pub record Along (c d : Core) : Type 0 where
+  pub fits : CoreFits d
+  pub variables : d .variables ≡ c .variables
+  pub inputs : d .inputs ≡ c .inputs
+  pub made : d .made ≡ c .made
+
+pub descend-along : (c : Core) → CoreFits c → Ended (Along c) (descend c)
+descend-along c f =
+    descend-keeps (Along c) (λ d a. deepest-ordered d (a .fits))
+    (λ d j i v a m. unfold withDeepest withLevels in record { fits = raise-fits d j i v (a .fits) m; variables = a .variables; inputs = a .inputs; made = a .made })
+    (λ d j i v a m. unfold withDeepest withLevels in record { fits = lower-fits d j i v (a .fits) m; variables = a .variables; inputs = a .inputs; made = a .made })
+    (λ d i a m. unfold withLevels in record { fits = decide-fits d i (a .fits) m; variables = a .variables; inputs = a .inputs; made = a .made })
+    c (record { fits = f; variables = refl; inputs = refl; made = refl })
+
+-- ---- a conflict
+-- what a conflict in position j gives
+pub record Settled (c : Core) (x : Conflict) : Type 0 where
+  pub fits : CoreFits (x .core)
+  pub learned : Learned c (x .cut)
+  pub back : Back (x .cut) c (x .back)
+  pub variables : x .core .variables ≡ c .variables
+  pub inputs : x .core .inputs ≡ c .inputs
+  pub made : x .core .made ≤ suc (c .made)
+  pub status : T (statusValid (x .core) (statusAt (x .back)))
+
+-- going back changes the levels alone
+record Sized (c d : Core) : Type 0 where
+  variables : d .variables ≡ c .variables
+  inputs : d .inputs ≡ c .inputs
+  made : d .made ≡ c .made
+
+from-sized : (ls : List Level) (c : Core) → Sized c (backFrom ls c)
+unfolding backFrom withLevels
+from-sized [] c = record { variables = refl; inputs = refl; made = refl }
+from-sized (l ∷ []) c = record { variables = refl; inputs = refl; made = refl }
+from-sized (l ∷ o ∷ ls) c = record { variables = refl; inputs = refl; made = refl }
+
+settled-sized : (d : ℕ) (c : Core) → Sized c (settled d c)
+unfolding settled backUp
+settled-sized zero c = record { variables = refl; inputs = refl; made = refl }
+settled-sized (suc d) c = from-sized (drop (depth c - suc d) (levels c)) c
+
+settled-fits : (d : ℕ) (c n : Core) → Keeps c n → CoreFits n → d ≤ depth c → CoreFits (settled d n)
+unfolding settled depth
+settled-fits zero c n k f h = f
+settled-fits (suc d) c n k f h = back-fits d n f (unfold depth in rw (k .outer) h)
+
+settled-status : (d : ℕ) (c : Core) (k : Constraint) → Back k c d → T (statusValid (settled d (numbered c k .core)) (statusAt d))
+unfolding settled statusAt statusValid anyFalsified
+settled-status zero c k b =
+    let n = numbered-keeps c k in
+    rw (n .deepest, n .outer) (numbered-falsifies c k (outermost (c .deepest) (c .outer) .box) (back-outermost k c b))
+settled-status (suc d) c k b = tt
+
+pub conflict-settled : (c : Core) (j : ℕ) → CoreFits c → Falsifies (kept c) (c .deepest .box) j → Settled c (atConflict c j)
+unfolding atConflict conflictOf
+conflict-settled c j f h =
+    let k = analyze c (getD (kept c) j noConstraint) .cut in
+    let l = analyze-learned c j f h in
+    let b = backjump-back k c (l .false) in
+    let d = backjumpLevel k c in
+    let n = numbered-keeps c k in
+    let z = settled-sized d (numbered c k .core) in
+    record {
+      fits = settled-fits d c (numbered c k .core) n (numbered-fits c k f (l .fits)) (b .reach);
+      learned = l;
+      back = b;
+      variables = z .variables ∙ n .variables;
+      inputs = z .inputs ∙ n .inputs;
+      made = omega (arith, z .made, n .made);
+      status = settled-status d c k b;
+    }
+
+-- ---- the marks
+neither : (s t : Bool) → T (not s) → T (not t) → T (not (s || t))
+neither true t h k = h
+neither false t h k = k
+
+fixed-status : (box : Box) → Fixed box → T (not (anyOf isOpen box))
+unfolding anyOf isOpen
+fixed-status [] f = tt
+fixed-status (b ∷ box) f = neither (ltZ (b .lower) (b .upper)) (anyOf isOpen box) (nlt-out (b .lower) (b .upper) (f .0)) (fixed-status box (f .1))
+
+clear-status : (ks : List Constraint) (box : Box) → Clear ks box → T (not (anyOf (falsifies box) ks))
+unfolding anyOf falsifies
+clear-status [] box c = tt
+clear-status (k ∷ ks) box c = neither (falsified k box) (anyOf (falsifies box) ks) (c .0) (clear-status ks box (c .1))
+
+-- ---- a step
+pub record Valid (s : Search) : Type 0 where
+  pub shape : T (shaped (s .core))
+  pub tests : T (valid s)
+
+valid-of : (s : Search) → CoreFits (s .core) → Sizes s → T (statusValid (s .core) (s .status)) → Valid s
+valid-of s f z t = record { shape = fits-shaped (s .core) f; tests = fits-valid s f z t }
+
+solved-valid : (s : Search) (c : Core) → Sizes s → Along (s .core) c → Finishes (kept c) (c .deepest .box) → Valid (solvedBy s c .state)
+unfolding solvedBy withStatus statusValid anyFalsified
+solved-valid s c z a f =
+    valid-of (withStatus s c solved) (a .fits)
+    (record {
+      some = rw (a .variables) (z .some);
+      few = rw (a .variables) (z .few);
+      inputs = rw (a .inputs) (z .inputs);
+      budget = z .budget;
+      conflicts = z .conflicts;
+      made = rw (a .made) (z .made);
+    })
+    (and-in (not (anyOf isOpen (c .deepest .box))) (not (anyOf (falsifies (c .deepest .box)) (kept c))) (fixed-status (c .deepest .box) (f .fixed)) (clear-status (kept c) (c .deepest .box) (f .clear)))
+
+counted-valid : (s : Search) (c : Core) (x : Conflict) → Sizes s → Along (s .core) c → Settled c x → s .conflicts < s .budget → Valid (counted s x .state)
+unfolding counted
+counted-valid s c x z a t h =
+    valid-of _ (t .fits)
+    (record {
+      some = rw (t .variables, a .variables) (z .some);
+      few = rw (t .variables, a .variables) (z .few);
+      inputs = rw (t .inputs, a .inputs) (z .inputs);
+      budget = z .budget;
+      conflicts = h;
+      made = omega (arith, t .made, a .made, z .made);
+    })
+    (t .status)
+
+-- at a dead end: out of budget the state stays, else it is counted
+pub dead-end : (q : Outcome → Type 0) (s : Search) (c : Core) (j : ℕ) → s .conflicts ≤ s .budget → (s .conflicts ≡ s .budget → q (budgetSpent s)) →
+    (s .conflicts < s .budget → q (counted s (atConflict c j))) → q (atDeadEnd s c j)
+unfolding atDeadEnd
+dead-end q s c j h f g = go (eqb (s .conflicts) (s .budget)) (λ t. eqb→eq (s .conflicts) (s .budget) t) (λ t e. t (subst (λ (b : ℕ). T (eqb (s .conflicts) b)) e (eqb-refl (s .conflicts))))
+  where
+    go : (t : Bool) → (T t → s .conflicts ≡ s .budget) → ((T t → ⊥) → s .conflicts ≡ s .budget → ⊥) → q (cond t (budgetSpent s) (counted s (atConflict c j)))
+    go true y n = f (y tt)
+    go false y n = let m = n (λ z. z) in g (omega arith)
+
+ended-valid : (s : Search) (c : Core) (e : Option ℕ) → Valid s → Sizes s → Along (s .core) c → EndsAt c e → Valid (endedAt s c e .state)
+unfolding endedAt
+ended-valid s c none v z a f = solved-valid s c z a f
+ended-valid s c (some j) v z a f =
+    dead-end (λ o. Valid (o .state)) s c j (z .conflicts) (λ e. unfold budgetSpent in v) (λ h. counted-valid s c (atConflict c j) z a (conflict-settled c j (a .fits) f) h)
+
+step-by : (m : Status) (s : Search) → Valid s → Valid (stepBy m s .state)
+unfolding stepBy again ended
+step-by undecided s v =
+    let d = descend-along (s .core) (core-fits s (v .shape) (v .tests)) in
+    ended-valid s (descend (s .core) .core) (descend (s .core) .falsified) v (sizes-fit s (v .tests)) (d .holds) (d .ends)
+step-by infeasible s v = v
+step-by solved s v = v
+
+-- a step keeps validity
+pub step-valid : (s : Search) → Valid s → Valid (step s .state)
+unfolding step
+step-valid s v = step-by (s .status) s v
+
+-- ---- a run
+-- two different constructors
+pub impossible : {A : Type 0} → _≡_ {A = ℕ} 0 1 → A
+impossible e = let z : ⊥ = omega arith in absurd z
+
+-- a step that goes on counts a conflict
+record Counts (s : Search) (o : Outcome) : Type 0 where
+  conflicts : o .verdict ≡ goOn → o .state .conflicts ≡ suc (s .conflicts)
+  budget : o .state .budget ≡ s .budget
+
+ended-counts : (s : Search) (c : Core) (e : Option ℕ) → s .conflicts ≤ s .budget → Counts s (endedAt s c e)
+unfolding endedAt solvedBy withStatus
+ended-counts s c none h = record { conflicts = λ e. impossible (cc); budget = refl }
+ended-counts s c (some j) h =
+    dead-end (Counts s) s c j h
+    (λ e. unfold budgetSpent in record { conflicts = λ e. impossible (cc); budget = refl })
+    (λ k. unfold counted in record { conflicts = λ e. refl; budget = refl })
+
+step-counts : (m : Status) (s : Search) → s .conflicts ≤ s .budget → Counts s (stepBy m s)
+unfolding stepBy again ended
+step-counts undecided s h = ended-counts s (descend (s .core) .core) (descend (s .core) .falsified) h
+step-counts infeasible s h = record { conflicts = λ e. impossible (cc); budget = refl }
+step-counts solved s h = record { conflicts = λ e. impossible (cc); budget = refl }
+
+continue-ends : (v : Verdict) (o : Outcome) (go : Search → Outcome) → o .verdict ≡ v → (v ≡ goOn → ¬ (go (o .state) .verdict ≡ goOn)) → ¬ (continue v o go .verdict ≡ goOn)
+unfolding continue
+continue-ends goOn o go e f h = f refl h
+continue-ends noSolution o go e f h = impossible (cc)
+continue-ends outOfBudget o go e f h = impossible (cc)
+continue-ends (solution x) o go e f h = impossible (cc)
+
+run-for-ends : (fuel : ℕ) (s : Search) → Valid s → s .conflicts + fuel ≡ s .budget → ¬ (runFor fuel s .verdict ≡ goOn)
+unfolding runFor step
+run-for-ends zero s v h e =
+    let c = step-counts (s .status) s (sizes-fit s (v .tests) .conflicts) in
+    let z = sizes-fit (stepBy (s .status) s .state) (step-by (s .status) s v .tests) in
+    omega (arith, c .conflicts e, c .budget, z .conflicts)
+run-for-ends (suc fuel) s v h e =
+    let c = step-counts (s .status) s (sizes-fit s (v .tests) .conflicts) in
+    let o = stepBy (s .status) s in
+    continue-ends (o .verdict) o (runFor fuel) refl (λ g. run-for-ends fuel (o .state) (step-by (s .status) s v) (omega (arith, c .conflicts g, c .budget))) e
+
+-- a run from any valid state ends within budget − conflicts further steps
+pub run-ends : (s : Search) → Valid s → ¬ (run s .verdict ≡ goOn)
+unfolding run withoutBlock
+run-ends s v = run-for-ends (s .budget - s .conflicts) s v (omega (arith, sizes-fit s (v .tests) .conflicts))

@@ -1,0 +1,98 @@
+-- There is one right verdict: what it says with enough budget, under every smaller one, and for another problem with the same solutions.
+use Prim.Native.Nat.{ℕ, zero, suc, _+_, _≤_, _<_}
+use native.Mathlib.Omega.{arith}
+use mathlib.Core.List.{List, [], _∷_}
+use mathlib.Core.Logic.{_⊎_, inl, inr, _↔_}
+use mathlib.Core.Path.{_≡_, refl, sym, ap, subst}
+use lib.IntN.{ℤ}
+use lib.Signed.{_<ℤ_}
+use Rattle.model.specs.Constraint.{Constraint}
+use Rattle.model.specs.Problem.{Problem, variables, domainInRange, constraintsInRange}
+use Rattle.model.specs.Points.{Point, Solution, Before, First, points}
+use Rattle.model.specs.Search.{openProblem}
+use Rattle.model.specs.Step.{Verdict, goOn, noSolution, outOfBudget, solution, run}
+use Rattle.model.specs.Demand.{withBudget, verdictWith, Decides}
+use Rattle.integer.specs.Parts.{up, down, lt-in}
+use Rattle.soundness.proofs.Sizes.{size, points-size}
+use Rattle.soundness.proofs.Steps.{impossible}
+use Rattle.soundness.proofs.Runs.{ProblemFits, Right, run-right}
+
+-- ---- there is one first solution
+before-asym : (u v : Point) → Before u v → Before v u → ⊥
+before-asym [] v h g = h
+before-asym (x ∷ u) [] h g = h
+before-asym (x ∷ u) (y ∷ v) (inl h) (inl g) = omega (arith, lt-in x y (h .lt), lt-in y x (g .lt))
+before-asym (x ∷ u) (y ∷ v) (inl h) (inr g) = omega (arith, lt-in x y (h .lt), ap up (g .0), ap down (g .0))
+before-asym (x ∷ u) (y ∷ v) (inr h) (inl g) = omega (arith, lt-in y x (g .lt), ap up (h .0), ap down (h .0))
+before-asym (x ∷ u) (y ∷ v) (inr h) (inr g) = before-asym u v (h .1) (g .1)
+
+one-first : (u v : Point) → (v ≡ u) ⊎ Before u v → (u ≡ v) ⊎ Before v u → u ≡ v
+one-first u v (inl h) g = sym h
+one-first u v (inr h) (inl g) = g
+one-first u v (inr h) (inr g) = absurd (before-asym u v h g)
+
+-- ---- two problems with the same solutions
+module _ (p q : Problem) (same : (x : Point) → Solution p x ↔ Solution q x) where
+  first-same : (x : Point) → First p x → First q x
+  first-same x f = record { solves = same x .0 (f .solves); first = λ v z. f .first v (same v .1 z) }
+
+  -- a right verdict of p, with enough budget, decides q
+  right-decides : (v : Verdict) → Right p v → size (p .domain) ≤ p .budget → Decides q v
+  right-decides goOn h k = absurd h
+  right-decides noSolution h k = record { none-iff = (λ e x z. h x (same x .1 z), λ n. refl); else-first = λ n. absurd (n refl) }
+  right-decides outOfBudget h k = let z : ⊥ = omega arith in absurd z
+  right-decides (solution x) h k =
+      record { none-iff = (λ e. impossible (cc), λ n. absurd (n x (same x .0 (h .solves)))); else-first = λ n. (x, refl, first-same x h) }
+
+  -- a right verdict of p is that of q, or 'spent', where q has enough budget
+  right-either : (u v : Verdict) → Right p u → Right q v → size (q .domain) ≤ q .budget → (u ≡ v) ⊎ (u ≡ outOfBudget)
+  right-either goOn v h g k = absurd h
+  right-either outOfBudget v h g k = inr refl
+  right-either noSolution goOn h g k = absurd g
+  right-either noSolution noSolution h g k = inl refl
+  right-either noSolution outOfBudget h g k = let z : ⊥ = omega arith in absurd z
+  right-either noSolution (solution y) h g k = absurd (h y (same y .1 (g .solves)))
+  right-either (solution x) goOn h g k = absurd g
+  right-either (solution x) noSolution h g k = absurd (g x (same x .0 (h .solves)))
+  right-either (solution x) outOfBudget h g k = let z : ⊥ = omega arith in absurd z
+  right-either (solution x) (solution y) h g k =
+      inl (ap (λ (z : Point). solution z) (one-first x y (h .first y (same y .1 (g .solves))) (g .first x (same x .0 (h .solves)))))
+
+-- ---- budgets
+budget-same : (p : Problem) (b : ℕ) (x : Point) → Solution (withBudget p b) x ↔ Solution p x
+unfolding withBudget
+budget-same p b x = (λ z. record { inside = z .inside; meets = z .meets }, λ z. record { inside = z .inside; meets = z .meets })
+
+budget-fits : (p : Problem) (b : ℕ) → ProblemFits p → ProblemFits (withBudget p b)
+unfolding withBudget domainInRange constraintsInRange variables
+budget-fits p b f = record { domain = f .domain; constraints = f .constraints; sizes = f .sizes }
+
+budget-right : (p : Problem) (b : ℕ) → ProblemFits p → Right (withBudget p b) (verdictWith p b)
+unfolding verdictWith
+budget-right p b f = run-right (withBudget p b) (budget-fits p b f)
+
+enough : (p : Problem) (b : ℕ) → points (p .domain) ≤ b → size (withBudget p b .domain) ≤ withBudget p b .budget
+unfolding withBudget
+enough p b h = omega (arith, points-size (p .domain))
+
+pub decides-with : (p : Problem) (b : ℕ) → ProblemFits p → points (p .domain) ≤ b → Decides p (verdictWith p b)
+decides-with p b f h = right-decides (withBudget p b) p (budget-same p b) (verdictWith p b) (budget-right p b f) (enough p b h)
+
+pub smaller-budget : (p : Problem) (b c : ℕ) → ProblemFits p → points (p .domain) ≤ b → (verdictWith p c ≡ verdictWith p b) ⊎ (verdictWith p c ≡ outOfBudget)
+smaller-budget p b c f h =
+    right-either (withBudget p c) (withBudget p b) (λ x. (λ z. budget-same p b x .1 (budget-same p c x .0 z), λ z. budget-same p c x .1 (budget-same p b x .0 z)))
+    (verdictWith p c) (verdictWith p b) (budget-right p c f) (budget-right p b f) (enough p b h)
+
+pub same-verdict : (p q : Problem) (b c : ℕ) → ProblemFits p → ProblemFits q → ((x : Point) → Solution p x ↔ Solution q x) → points (p .domain) ≤ b → points (q .domain) ≤ c →
+    verdictWith p b ≡ verdictWith q c
+same-verdict p q b c f g e h k =
+    not-spent (verdictWith p b) (verdictWith q c) (budget-right p b f)
+    (right-either (withBudget p b) (withBudget q c)
+    (λ x. (λ z. budget-same q c x .1 (e x .0 (budget-same p b x .0 z)), λ z. budget-same p b x .1 (e x .1 (budget-same q c x .0 z))))
+    (verdictWith p b) (verdictWith q c) (budget-right p b f) (budget-right q c g) (enough q c k))
+  where
+    not-spent : (u v : Verdict) → Right (withBudget p b) u → (u ≡ v) ⊎ (u ≡ outOfBudget) → u ≡ v
+    not-spent u v r (inl e) = e
+    not-spent u v r (inr e) =
+        let m : withBudget p b .budget < size (withBudget p b .domain) = subst (λ (w : Verdict). Right (withBudget p b) w) e r in
+        let z : ⊥ = omega (arith, enough p b h) in absurd z
