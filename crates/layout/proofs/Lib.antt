@@ -1,0 +1,2 @@
+-- Laws of the views.
+pub mod Rows

@@ -1,0 +1,35 @@
+-- Constraints lie in rows of 33 numbers, one after the other in a flat array: the constant, then a coefficient for each of 32 variables. Bounds lie
+-- in two arrays. What stands past the first n variables is not read.
+use Prim.Native.Nat.{ℕ, suc, _+_, _*_}
+use mathlib.Core.List.{List}
+use lib.IntN.{ℤ, pos}
+use lib.ListN.{getD}
+use Rattle.model.specs.Lists.{tab}
+use Rattle.model.specs.Constraint.{Constraint, Bounds, Box}
+
+-- the numbers of a row
+abbrev pub rowLength : ℕ
+rowLength = 33
+
+-- element i of an array, 0 past its end
+unfoldable pub numberIn : List ℤ → ℕ → ℤ
+numberIn xs i = getD xs i (pos 0)
+
+-- coefficient i of the constraint whose row starts at `start`
+unfoldable pub cell : List ℤ → ℕ → ℕ → ℤ
+cell rows start i = numberIn rows (start + 1 + i)
+
+-- the constraint of n variables whose row starts at `start`
+unfoldable pub constraintAt : ℕ → List ℤ → ℕ → Constraint
+constraintAt n rows start = record { constant = numberIn rows start; coefficients = tab (cell rows start) 0 n }
+
+-- the constraint in row j
+unfoldable pub rowAt : ℕ → List ℤ → ℕ → Constraint
+rowAt n rows j = constraintAt n rows (rowLength * j)
+
+-- the bounds of variable i, and the box of the first n variables
+unfoldable pub boundsAt : List ℤ → List ℤ → ℕ → Bounds
+boundsAt lower upper i = record { lower = numberIn lower i; upper = numberIn upper i }
+
+unfoldable pub boxOf : ℕ → List ℤ → List ℤ → Box
+boxOf n lower upper = tab (boundsAt lower upper) 0 n

@@ -1,0 +1,1 @@
+// Views alone: see specs/. Their laws are in proofs/.
