@@ -7,7 +7,8 @@ use lib.IntN.{ℤ, pos}
 use lib.ListN.{getD, set, length}
 use Rattle.model.specs.Lists.{tab}
 use Rattle.model.specs.Constraint.{Constraint, Bounds, Box, noBounds, coefficientAt, lowerAt, upperAt, setLower, setUpper}
-use Rattle.lists.proofs.Tab.{length-tab, getD-tab}
+use lib.Seq.{getD-set-same, getD-set-other}
+use Rattle.lists.proofs.Tab.{length-tab, getD-tab, set-tab}
 use Rattle.layout.specs.Rows.{numberIn, cell, constraintAt, boundsAt, boxOf}
 
 pub length-box : (n : ℕ) (lower upper : List ℤ) → length (boxOf n lower upper) ≡ n
@@ -29,3 +30,20 @@ lower-at n lower upper i h = ap (λ (b : Bounds). b .lower) (getD-tab (boundsAt 
 pub upper-at : (n : ℕ) (lower upper : List ℤ) (i : ℕ) → i < n → upperAt (boxOf n lower upper) i ≡ numberIn upper i
 unfolding upperAt boxOf boundsAt
 upper-at n lower upper i h = ap (λ (b : Bounds). b .upper) (getD-tab (boundsAt lower upper) n i noBounds h)
+
+-- ---- a bound stored at variable i
+pub box-lower : (n : ℕ) (lower upper : List ℤ) (i : ℕ) (v : ℤ) → i < n → i < length lower → boxOf n (set lower i v) upper ≡ setLower i v (boxOf n lower upper)
+unfolding setLower
+box-lower n lower upper i v h k =
+    rw (upper-at n lower upper i h)
+    (unfold boxOf in sym (set-tab (boundsAt lower upper) (boundsAt (set lower i v) upper) n i (record { lower = v; upper = numberIn upper i })
+    (unfold boundsAt numberIn in ap (λ (z : ℤ). record { lower = z; upper = getD upper i (pos 0) }) (getD-set-same lower i v (pos 0) k))
+    (λ j e. unfold boundsAt numberIn in ap (λ (z : ℤ). record { lower = z; upper = getD upper j (pos 0) }) (getD-set-other lower i j v (pos 0) e))))
+
+pub box-upper : (n : ℕ) (lower upper : List ℤ) (i : ℕ) (v : ℤ) → i < n → i < length upper → boxOf n lower (set upper i v) ≡ setUpper i v (boxOf n lower upper)
+unfolding setUpper
+box-upper n lower upper i v h k =
+    rw (lower-at n lower upper i h)
+    (unfold boxOf in sym (set-tab (boundsAt lower upper) (boundsAt lower (set upper i v)) n i (record { lower = numberIn lower i; upper = v })
+    (unfold boundsAt numberIn in ap (λ (z : ℤ). record { lower = getD lower i (pos 0); upper = z }) (getD-set-same upper i v (pos 0) k))
+    (λ j e. unfold boundsAt numberIn in ap (λ (z : ℤ). record { lower = getD lower j (pos 0); upper = z }) (getD-set-other upper i j v (pos 0) e))))

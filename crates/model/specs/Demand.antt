@@ -2,7 +2,6 @@
 use Prim.Native.Nat.{ℕ, zero, suc, _≤_, _<_}
 use mathlib.Core.List.{List, [], _∷_, _++_}
 use mathlib.Core.Logic.{_⊎_, _↔_}
-use mathlib.Core.Option.{Option, none, some}
 use mathlib.Core.Path.{_≡_}
 use lib.ListN.{length}
 use Rattle.model.specs.Problem.{Problem, variables, Result, ok, error}
@@ -10,7 +9,7 @@ use Rattle.model.specs.Bytes.{Bytes}
 use Rattle.model.specs.File.{readError, problemIn}
 use Rattle.model.specs.Search.{Search, openProblem, openFile}
 use Rattle.model.specs.Journal.{cutIn}
-use Rattle.model.specs.Step.{Verdict, goOn, noSolution, outOfBudget, solution, Outcome, step, run, stepCall, runCall}
+use Rattle.model.specs.Step.{Verdict, goOn, noSolution, outOfBudget, solution, Outcome, blockIn, step, run, stepCall, runCall}
 use Rattle.model.specs.Points.{Point, Inside, allPoints, points, Meets, Solution, First}
 
 -- ---- a list of turns, each on the walk that the one before returned
@@ -28,10 +27,6 @@ unfoldable pub answerAt : ℕ → Search → Result Outcome
 answerAt k s = stepCall (stateAfter k s)
 
 -- ---- the 'journal': the blocks in the answers, in order
-unfoldable pub blockIn : Option (List ℕ) → List (List ℕ)
-blockIn none = []
-blockIn (some b) = b ∷ []
-
 unfoldable pub blocksIn : Result Outcome → List (List ℕ)
 blocksIn (ok o) = blockIn (o .block)
 blocksIn (error e) = []

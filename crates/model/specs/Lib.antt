@@ -12,5 +12,6 @@ pub mod Conflict
 pub mod Journal
 pub mod Validity
 pub mod Step
+pub mod Trace
 pub mod Points
 pub mod Demand

@@ -25,6 +25,11 @@ pub record Outcome : Type 0 where
   pub block : Option (List ℕ)
   pub state : Search
 
+-- the blocks of an answer: one or none
+unfoldable pub blockIn : Option (List ℕ) → List (List ℕ)
+blockIn none = []
+blockIn (some b) = b ∷ []
+
 unfoldable pub lowers : Box → List ℤ
 lowers box = map (λ (b : Bounds). b .lower) box
 

@@ -1,20 +1,6 @@
--- Demand 3: the argument, from boxes and constraints up to lists of turns.
-pub mod Boxes
+-- Demand 3: the argument for searches from an opening, from what is left to search up to lists of turns.
 pub mod Sizes
-pub mod Constraints
-pub mod Moves
-pub mod Every
-pub mod Tests
-pub mod Depth
-pub mod States
-pub mod Elements
-pub mod Analysis
-pub mod Keeping
-pub mod Backjump
-pub mod Conflicts
-pub mod Descent
 pub mod Remaining
-pub mod Steps
 pub mod Opened
 pub mod Turns
 pub mod Runs

@@ -17,15 +17,15 @@ use Rattle.model.specs.Move.{Stop, descend}
 use Rattle.model.specs.Conflict.{Conflict, analyze, numbered, backjumpLevel, backFrom, backUp, settled, conflictOf, atConflict}
 use Rattle.model.specs.Points.{Point, Inside, Meets, MeetsAll, Solution, Before, First}
 use Rattle.model.specs.Step.{lowers}
-use Rattle.soundness.proofs.Boxes.{Fixed, Ordered, Nested, nested-refl, nested-inside, set-lower-nested, set-upper-nested, set-lower-ordered, set-upper-ordered, set-lower-inside, set-upper-inside, lowers-inside, fixed-only}
+use Rattle.validity.proofs.Boxes.{Fixed, Ordered, Nested, nested-refl, nested-inside, set-lower-nested, set-upper-nested, set-lower-ordered, set-upper-ordered, set-lower-inside, set-upper-inside, lowers-inside, fixed-only}
 use Rattle.soundness.proofs.Sizes.{size, size-nested}
-use Rattle.soundness.proofs.Constraints.{rounded-meets, fixed-meets}
-use Rattle.soundness.proofs.Moves.{Clear, Falsifies, Finishes, Raises, Lowers, Decides}
-use Rattle.soundness.proofs.States.{Every, CoreFits, raise-fits, lower-fits, decide-fits, deepest-ordered}
-use Rattle.soundness.proofs.Conflicts.{analyze-meets, Keeps, numbered-keeps, numbered-every, Back}
+use Rattle.validity.proofs.Constraints.{rounded-meets, fixed-meets}
+use Rattle.validity.proofs.Moves.{Clear, Falsifies, Finishes, Raises, Lowers, Decides}
+use Rattle.validity.proofs.States.{Every, CoreFits, raise-fits, lower-fits, decide-fits, deepest-ordered}
+use Rattle.validity.proofs.Conflicts.{analyze-meets, Keeps, numbered-keeps, numbered-every, Back}
 use Rattle.soundness.proofs.Remaining.{Chain, Remains, remaining, chain-ordered, chain-domain, chain-smaller, remains-smaller, remaining-smaller, chain-decided, remains-decided, remaining-decided, FalsifiedTo, RemainsAfter, remainingAfter, ChainAfter, remains-back, remaining-back, chain-back, falsified-to, remains-later}
-use Rattle.soundness.proofs.Descent.{EndsAt, Ended, descend-keeps}
-use Rattle.soundness.proofs.Steps.{Settled}
+use Rattle.validity.proofs.Descent.{EndsAt, Ended, descend-keeps}
+use Rattle.validity.proofs.Steps.{Settled}
 
 -- met by every point that meets the problem's constraints, inside the limits or not
 abbrev pub Implied : Problem → Constraint → Type 0

@@ -10,9 +10,9 @@ use lib.ListN.{drop}
 use Rattle.model.specs.Constraint.{Constraint, Box, falsified}
 use Rattle.model.specs.Search.{Level, raiseLower, decideAt, flipAt}
 use Rattle.model.specs.Points.{Point, Inside, Meets, Before}
-use Rattle.soundness.proofs.Boxes.{Ordered, Nested, FirstOpen, first-open, nested-refl, nested-trans, nested-inside, lowHalf, highHalf, low-nested, low-ordered, high-nested, high-ordered, halves-inside, halves-before}
+use Rattle.validity.proofs.Boxes.{Ordered, Nested, FirstOpen, first-open, nested-refl, nested-trans, nested-inside, lowHalf, highHalf, low-nested, low-ordered, high-nested, high-ordered, halves-inside, halves-before}
 use Rattle.soundness.proofs.Sizes.{size, size-positive, size-nested, halves-size}
-use Rattle.soundness.proofs.Constraints.{falsified-empty, falsified-nested}
+use Rattle.validity.proofs.Constraints.{falsified-empty, falsified-nested}
 
 -- ---- the levels of an opened search: each lies in the low half of its decision, which is at the first open variable of the one above
 abbrev pub Chain : Box → Level → List Level → Type 0

@@ -17,13 +17,13 @@ use Rattle.model.specs.Step.{Verdict, goOn, noSolution, outOfBudget, solution, 
 use Rattle.model.specs.Demand.{withBudget, verdictWith, Decides}
 use Rattle.integer.specs.Parts.{up, down, _⊑_, _⊏_, lt-in}
 use Rattle.integer.specs.Tests.{and-in, and-left, and-right}
-use Rattle.soundness.proofs.Boxes.{Ordered, Nested, nested-refl}
+use Rattle.validity.proofs.Boxes.{Ordered, Nested, nested-refl}
 use Rattle.soundness.proofs.Sizes.{size, points-size}
-use Rattle.soundness.proofs.Constraints.{rounded-meets, rounded-length, rounded-in-range}
-use Rattle.soundness.proofs.States.{Every, ConstraintFits, LevelFits, CoreFits, level-ordered}
+use Rattle.validity.proofs.Constraints.{rounded-meets, rounded-length, rounded-in-range}
+use Rattle.validity.proofs.States.{Every, ConstraintFits, LevelFits, CoreFits, level-ordered}
 use Rattle.soundness.proofs.Opened.{Implied, Sound}
 use Rattle.soundness.proofs.Turns.{Open, Says, Turned, turned}
-use Rattle.soundness.proofs.Steps.{impossible}
+use Rattle.validity.proofs.Steps.{impossible}
 
 -- ---- opening: a problem with its limits and constraints in range, each constraint of n coefficients
 pub record ProblemFits (p : Problem) : Type 0 where

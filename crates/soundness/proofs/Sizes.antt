@@ -15,7 +15,7 @@ use Rattle.model.specs.Points.{Point, Inside, valuesBetween, valuesFrom, values
 use Rattle.model.specs.Demand.{In, NoRepeats}
 use Rattle.integer.specs.Parts.{up, down, _⊑_, _⊏_, le-in, le-out, lt-in, nle-in, eq-in, eq-out}
 use Rattle.integer.specs.Order.{≤-or-<}
-use Rattle.soundness.proofs.Boxes.{Ordered, Nested, OpenAt, gap-parts, next-parts, lowHalf, highHalf}
+use Rattle.validity.proofs.Boxes.{Ordered, Nested, OpenAt, gap-parts, next-parts, lowHalf, highHalf}
 
 unfoldable pub size : Box → ℕ
 size [] = 1

@@ -12,10 +12,10 @@ use Rattle.model.specs.Problem.{Problem, variables, Result, ok, error}
 use Rattle.model.specs.Search.{Status, undecided, infeasible, solved, Search}
 use Rattle.model.specs.Validity.{valid}
 use Rattle.model.specs.Points.{Point, Solution}
-use Rattle.model.specs.Step.{Verdict, goOn, noSolution, outOfBudget, solution, Outcome, lowers, again, stepBy, step, continue, runFor, checked, stepCall}
-use Rattle.model.specs.Demand.{after, stateAfter, answerAt, blockIn, blocksIn, journal, MeetsCuts}
+use Rattle.model.specs.Step.{Verdict, goOn, noSolution, outOfBudget, solution, Outcome, blockIn, lowers, again, stepBy, step, continue, runFor, checked, stepCall}
+use Rattle.model.specs.Demand.{after, stateAfter, answerAt, blocksIn, journal, MeetsCuts}
 use Rattle.soundness.proofs.Sizes.{size}
-use Rattle.soundness.proofs.Steps.{Valid, step-valid, impossible}
+use Rattle.validity.proofs.Steps.{Valid, step-valid, impossible}
 use Rattle.soundness.proofs.Turns.{Open, Says, Turned, turned}
 
 -- ---- a valid state is not refused

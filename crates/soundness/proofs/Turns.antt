@@ -14,14 +14,14 @@ use Rattle.model.specs.Move.{descend}
 use Rattle.model.specs.Conflict.{Conflict, atConflict}
 use Rattle.model.specs.Journal.{Record, recordBytes, cutIn}
 use Rattle.model.specs.Points.{Point, Meets, Solution, First}
-use Rattle.model.specs.Step.{Verdict, goOn, noSolution, outOfBudget, solution, Outcome, lowers, withStatus, solvedBy, budgetSpent, recordOf, verdictAt, statusAt, counted, atDeadEnd, endedAt, ended, stepBy, step}
-use Rattle.model.specs.Demand.{blockIn, MeetsCuts}
+use Rattle.model.specs.Step.{Verdict, goOn, noSolution, outOfBudget, solution, Outcome, blockIn, lowers, withStatus, solvedBy, budgetSpent, recordOf, verdictAt, statusAt, counted, atDeadEnd, endedAt, ended, stepBy, step}
+use Rattle.model.specs.Demand.{MeetsCuts}
 use Rattle.format.proofs.RecordCut.{cut-in-record}
 use Rattle.soundness.proofs.Sizes.{size}
-use Rattle.soundness.proofs.Moves.{Falsifies, Finishes}
-use Rattle.soundness.proofs.States.{CoreFits}
-use Rattle.soundness.proofs.Descent.{EndsAt, Ended}
-use Rattle.soundness.proofs.Steps.{Settled, conflict-settled, dead-end}
+use Rattle.validity.proofs.Moves.{Falsifies, Finishes}
+use Rattle.validity.proofs.States.{CoreFits}
+use Rattle.validity.proofs.Descent.{EndsAt, Ended}
+use Rattle.validity.proofs.Steps.{Settled, conflict-settled, dead-end}
 use Rattle.soundness.proofs.Opened.{Implied, Sound, descend-sound, finish-first, cut-implied, Backed, After, conflict-after}
 
 -- a search from an opening of p that has no verdict yet

@@ -14,7 +14,7 @@ use Rattle.model.specs.Step.{Verdict, goOn, noSolution, outOfBudget, solution, 
 use Rattle.model.specs.Demand.{withBudget, verdictWith, Decides}
 use Rattle.integer.specs.Parts.{up, down, lt-in}
 use Rattle.soundness.proofs.Sizes.{size, points-size}
-use Rattle.soundness.proofs.Steps.{impossible}
+use Rattle.validity.proofs.Steps.{impossible}
 use Rattle.soundness.proofs.Runs.{ProblemFits, Right, run-right}
 
 -- ---- there is one first solution

@@ -6,7 +6,7 @@ use mathlib.Core.List.{List, [], _∷_, _++_}
 use mathlib.Core.Option.{Option, none, some}
 use lib.Dec.{T}
 use lib.ListN.{getD, length, drop, getElem?}
-use Rattle.soundness.proofs.States.{Every}
+use Rattle.validity.proofs.States.{Every}
 
 pub every-left : {A : Type 0} (p : A → Type 0) (xs ys : List A) → Every p (xs ++ ys) → Every p xs
 every-left p [] ys h = tt

@@ -8,8 +8,8 @@ use lib.ListN.{length}
 use Rattle.model.specs.Constraint.{Constraint, coefficientAt, falsified, resolvent, opposite, inRange}
 use Rattle.model.specs.Search.{Reason, domain, decision, flipped, constraint, reasonsAt, Core, kept, dropped, keptNumber}
 use Rattle.model.specs.Conflict.{Resolved, unchanged, takeIf, resolveWith, resolveKept, resolveBy, usedReason, resolveAt, analyzeFrom}
-use Rattle.soundness.proofs.States.{Every}
-use Rattle.soundness.proofs.Elements.{every-left, every-right, Holds, holds-cond, holds-elem}
+use Rattle.validity.proofs.States.{Every}
+use Rattle.validity.proofs.Elements.{every-left, every-right, Holds, holds-cond, holds-elem}
 
 -- p is what holds of F, and q what holds of the kept constraints
 module _ (c : Core) (p q : Constraint → Type 0) (given : Every q (kept c))

@@ -5,7 +5,7 @@ use mathlib.Core.List.{[], _∷_}
 use lib.ListN.{length}
 use Rattle.model.specs.Constraint.{Box, lowerAt, upperAt}
 use Rattle.integer.specs.Parts.{up, down, _⊑_, _⊏_}
-use Rattle.soundness.proofs.Boxes.{Nested}
+use Rattle.validity.proofs.Boxes.{Nested}
 
 -- 1 for each variable with L < U
 abbrev pub opens : Box → ℕ

@@ -13,17 +13,17 @@ use Rattle.model.specs.Lists.{anyOf}
 use Rattle.model.specs.Constraint.{Constraint, Box, falsified}
 use Rattle.model.specs.File.{noConstraint}
 use Rattle.model.specs.Search.{constraint, Level, Core, Status, undecided, infeasible, solved, Search, depth, levels, withLevels, withDeepest, kept, numberAt, raiseLower, lowerUpper, decideAt}
-use Rattle.model.specs.Move.{Stop, descend}
+use Rattle.model.specs.Move.{nextMove, Stop, follow, descend}
 use Rattle.model.specs.Conflict.{Analysis, Numbered, Conflict, analyze, numbered, backjumpLevel, backFrom, backUp, settled, conflictOf, atConflict}
 use Rattle.model.specs.Validity.{isOpen, falsifies, anyFalsified, outermost, statusValid, valid, shaped}
 use Rattle.model.specs.Step.{Verdict, goOn, noSolution, outOfBudget, solution, Outcome, withStatus, solvedBy, budgetSpent, verdictAt, statusAt, counted, atDeadEnd, endedAt, ended, again, stepBy, step, continue, runFor, withoutBlock, run}
 use Rattle.integer.specs.Parts.{_⊑_, nlt-out}
 use Rattle.integer.specs.Tests.{and-in, not-out}
-use Rattle.soundness.proofs.Boxes.{Fixed}
-use Rattle.soundness.proofs.Moves.{Clear, Falsifies, Finishes, Raises, Lowers, Decides}
-use Rattle.soundness.proofs.States.{CoreFits, Sizes, core-fits, sizes-fit, fits-shaped, fits-valid, deepest-ordered, raise-fits, lower-fits, decide-fits}
-use Rattle.soundness.proofs.Conflicts.{Learned, analyze-learned, Keeps, numbered-keeps, numbered-fits, numbered-falsifies, Back, backjump-back, back-outermost, back-fits}
-use Rattle.soundness.proofs.Descent.{EndsAt, Ended, descend-keeps}
+use Rattle.validity.proofs.Boxes.{Fixed}
+use Rattle.validity.proofs.Moves.{Clear, Falsifies, Finishes, Raises, Lowers, Decides}
+use Rattle.validity.proofs.States.{CoreFits, Sizes, core-fits, sizes-fit, fits-shaped, fits-valid, deepest-ordered, raise-fits, lower-fits, decide-fits}
+use Rattle.validity.proofs.Conflicts.{Learned, analyze-learned, Keeps, numbered-keeps, numbered-fits, numbered-falsifies, Back, backjump-back, back-outermost, back-fits}
+use Rattle.validity.proofs.Descent.{EndsAt, Ended, descend-keeps, descend-next}
 
 -- ---- moves 2 and 3: the state stays valid, with the same sizes
 pub record Along (c d : Core) : Type 0 where
@@ -39,6 +39,10 @@ descend-along c f =
     (λ d j i v a m. unfold withDeepest withLevels in record { fits = lower-fits d j i v (a .fits) m; variables = a .variables; inputs = a .inputs; made = a .made })
     (λ d i a m. unfold withLevels in record { fits = decide-fits d i (a .fits) m; variables = a .variables; inputs = a .inputs; made = a .made })
     c (record { fits = f; variables = refl; inputs = refl; made = refl })
+
+-- the descent from a valid state is its next move and the descent from there
+pub descent-next : (c : Core) → CoreFits c → descend c ≡ follow (nextMove (kept c) (c .deepest .box)) c descend
+descent-next c f = descend-next CoreFits deepest-ordered raise-fits lower-fits decide-fits c f
 
 -- ---- a conflict
 -- what a conflict in position j gives

@@ -21,7 +21,7 @@ use Rattle.integer.specs.Rounding.{ceil-min, ceil-only, ceil-size, exact-size}
 use Rattle.integer.specs.Divisor.{gcd-left, gcd-right, exact}
 use Rattle.integer.specs.Size.{between-in, between-out}
 use Rattle.integer.specs.Tests.{and-in, and-left, and-right}
-use Rattle.soundness.proofs.Boxes.{Ordered, Nested, Fixed}
+use Rattle.validity.proofs.Boxes.{Ordered, Nested, Fixed}
 
 -- ---- rounding
 -- h divides each coefficient

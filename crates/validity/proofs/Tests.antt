@@ -18,8 +18,8 @@ use Rattle.model.specs.Validity.{reasonValid, reasonsValid, inside, boxInside}
 use Rattle.integer.specs.Parts.{_⊑_, le-in, le-out, eq-out}
 use Rattle.lists.proofs.Bools.{true-of, T-of}
 use Rattle.lists.proofs.AllPairs.{pairs-equal, pairs-refl}
-use Rattle.soundness.proofs.Boxes.{Ordered, Nested}
-use Rattle.soundness.proofs.Every.{_&_, all-in, all-out}
+use Rattle.validity.proofs.Boxes.{Ordered, Nested}
+use Rattle.validity.proofs.Every.{_&_, all-in, all-out}
 
 -- ---- equality
 pub equal-in : (a b : ℤ) → T (equalℤ a b) → a ≡ b

@@ -22,9 +22,9 @@ use Rattle.integer.specs.Parts.{_⊏_, suc-parts, le-in, le-out, eq-in}
 use Rattle.integer.specs.Tests.{and-in, and-left, and-right}
 use Rattle.lists.proofs.Bools.{true-of, T-of}
 use Rattle.lists.proofs.AllOf.{allOf-getD, allOf-set}
-use Rattle.soundness.proofs.Boxes.{OpenAt, highHalf, nested-trans, set-lower-length, high-nested}
-use Rattle.soundness.proofs.States.{Every, LevelFits, Under, Stacked, CoreFits}
-use Rattle.soundness.proofs.Elements.{Holds, holds-cond}
+use Rattle.validity.proofs.Boxes.{OpenAt, highHalf, nested-trans, set-lower-length, high-nested}
+use Rattle.validity.proofs.States.{Every, LevelFits, Under, Stacked, CoreFits}
+use Rattle.validity.proofs.Elements.{Holds, holds-cond}
 
 -- ---- the least depth, the levels given from the deepest out
 pub record Reached (k : Constraint) (ls : List Level) (d : ℕ) : Type 0 where

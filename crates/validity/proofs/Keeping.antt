@@ -21,8 +21,8 @@ use Rattle.lists.proofs.Tab.{length-tab, tab-drop, tab-more, tab-shift}
 use Rattle.lists.proofs.AllOf.{allOf-weaker}
 use Rattle.lists.proofs.AnyOf.{anyOf-append}
 use Rattle.lists.proofs.AllPairs.{pairs-equal}
-use Rattle.soundness.proofs.States.{Every, ConstraintFits, LevelFits, CoreFits}
-use Rattle.soundness.proofs.Elements.{every-left, every-right, every-append, every-drop, every-map, Holds, holds-map, holds-cond}
+use Rattle.validity.proofs.States.{Every, ConstraintFits, LevelFits, CoreFits}
+use Rattle.validity.proofs.Elements.{every-left, every-right, every-append, every-drop, every-map, Holds, holds-map, holds-cond}
 
 pub keep-every : (p : Constraint → Type 0) (c : Core) (k : Constraint) → Every p (kept c) → p k → Every p (kept (keep k c))
 unfolding kept keep newest

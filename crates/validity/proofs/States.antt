@@ -18,12 +18,12 @@ use Rattle.model.specs.Validity.{scalarsValid, constraintsValid, cutNumber, num
 use Rattle.integer.specs.Parts.{_⊏_, lt-in, lt-out, eq-in}
 use Rattle.lists.proofs.Bools.{true-of, T-of}
 use Rattle.lists.proofs.AllOf.{allOf-set}
-use Rattle.soundness.proofs.Boxes.{Ordered, Nested, first-open, nested-length, nested-trans, set-lower-nested, set-lower-ordered, set-upper-nested, set-upper-ordered, lowHalf, low-nested, low-ordered}
-use Rattle.soundness.proofs.Moves.{Raises, Lowers, Decides}
-use Rattle.soundness.proofs.Every.{_&_, all-in, all-out, every-in, every-out}
-use Rattle.soundness.proofs.Tests.{equal-in, equal-refl, eqb-out, numbers-in, numbers-out, nested-in, nested-out, range-ordered, range-nested, fixed-nested, causes-at, number-valid}
-use Rattle.soundness.proofs.Depth.{opens, opens-few, opens-decided}
-pub use Rattle.soundness.proofs.Every.{Every}
+use Rattle.validity.proofs.Boxes.{Ordered, Nested, first-open, nested-length, nested-trans, set-lower-nested, set-lower-ordered, set-upper-nested, set-upper-ordered, lowHalf, low-nested, low-ordered}
+use Rattle.validity.proofs.Moves.{Raises, Lowers, Decides}
+use Rattle.validity.proofs.Every.{_&_, all-in, all-out, every-in, every-out}
+use Rattle.validity.proofs.Tests.{equal-in, equal-refl, eqb-out, numbers-in, numbers-out, nested-in, nested-out, range-ordered, range-nested, fixed-nested, causes-at, number-valid}
+use Rattle.validity.proofs.Depth.{opens, opens-few, opens-decided}
+pub use Rattle.validity.proofs.Every.{Every}
 
 pub record ConstraintFits (n : ℕ) (k : Constraint) : Type 0 where
   pub range : T (inRange k)

@@ -3,12 +3,13 @@ use Prim.Native.Nat.{ℕ, zero, suc, _+_, _≤_, _<_}
 use native.Mathlib.Omega.{arith}
 use mathlib.Core.List.{List, [], _∷_}
 use mathlib.Core.Option.{Option, none, some}
+use mathlib.Core.Path.{_≡_, refl}
 use lib.IntN.{ℤ}
 use Rattle.model.specs.Constraint.{Box}
 use Rattle.model.specs.Search.{constraint, Core, levels, withLevels, withDeepest, kept, numberAt, raiseLower, lowerUpper, decideAt}
 use Rattle.model.specs.Move.{Move, conflict, newLower, newUpper, decide, finish, nextMove, Stop, follow, slack, descendFor, descend}
-use Rattle.soundness.proofs.Boxes.{Ordered, first-open, lowHalf, low-slack, set-lower-slack, set-upper-slack}
-use Rattle.soundness.proofs.Moves.{Falsifies, Raises, Lowers, Decides, Finishes, Chosen, next-chosen}
+use Rattle.validity.proofs.Boxes.{Ordered, first-open, lowHalf, low-slack, set-lower-slack, set-upper-slack}
+use Rattle.validity.proofs.Moves.{Falsifies, Raises, Lowers, Decides, Finishes, Chosen, next-chosen}
 
 -- where the moves end
 abbrev pub EndsAt : Core → Option ℕ → Type 0
@@ -49,3 +50,31 @@ module _
     pub descend-keeps : (c : Core) → p c → Ended p (descend c)
     unfolding descend
     descend-keeps c h = descend-for (suc (slack (c .deepest .box))) c h (omega arith)
+
+    -- ---- a fuel above the slack does not matter
+    follow-same : (m : Move) (c : Core) (go to : Core → Stop) → p c → Chosen (kept c) (c .deepest .box) m →
+        ((d : Core) → p d → slack (d .deepest .box) < slack (c .deepest .box) → go d ≡ to d) → follow m c go ≡ follow m c to
+    unfolding follow withDeepest withLevels raiseLower lowerUpper decideAt
+    follow-same (conflict j) c go to h m next = refl
+    follow-same (newLower j i v) c go to h m next =
+        next _ (raise c j i v h m) (set-lower-slack i v (c .deepest .box) (m .variable) (ordered c h) (m .better) (m .fits))
+    follow-same (newUpper j i v) c go to h m next =
+        next _ (lower c j i v h m) (set-upper-slack i v (c .deepest .box) (m .variable) (ordered c h) (m .fits) (m .better))
+    follow-same (decide i) c go to h m next =
+        next _ (deeper c i h m) (unfold lowHalf in low-slack i (c .deepest .box) (ordered c h) (first-open i (c .deepest .box) (m .first)))
+    follow-same finish c go to h m next = refl
+
+    descend-fuel : (f g : ℕ) (c : Core) → p c → slack (c .deepest .box) < f → slack (c .deepest .box) < g → descendFor f c ≡ descendFor g c
+    unfolding descendFor
+    descend-fuel zero g c h k l = let z : ⊥ = omega arith in absurd z
+    descend-fuel (suc f) zero c h k l = let z : ⊥ = omega arith in absurd z
+    descend-fuel (suc f) (suc g) c h k l =
+        follow-same (nextMove (kept c) (c .deepest .box)) c (descendFor f) (descendFor g) h (next-chosen (kept c) (c .deepest .box) (ordered c h))
+        (λ d q s. descend-fuel f g d q (omega arith) (omega arith))
+
+    -- the descent from a state is its next move and the descent from there
+    pub descend-next : (c : Core) → p c → descend c ≡ follow (nextMove (kept c) (c .deepest .box)) c descend
+    unfolding descend descendFor
+    descend-next c h =
+        follow-same (nextMove (kept c) (c .deepest .box)) c (descendFor (slack (c .deepest .box))) descend h (next-chosen (kept c) (c .deepest .box) (ordered c h))
+        (λ d q s. unfold descend in descend-fuel (slack (c .deepest .box)) (suc (slack (d .deepest .box))) d q s (omega arith))

@@ -16,13 +16,13 @@ use Rattle.model.specs.Conflict.{analyze, firstEqual, numberedBy, numbered, bac
 use Rattle.model.specs.Validity.{falsifies, outermost}
 use Rattle.model.specs.Points.{Point, Meets}
 use Rattle.integer.specs.Tests.{and-left, and-right}
-use Rattle.soundness.proofs.Constraints.{resolvent-length, resolvent-meets}
-use Rattle.soundness.proofs.Moves.{Falsifies}
-use Rattle.soundness.proofs.States.{Every, ConstraintFits, CoreFits}
-use Rattle.soundness.proofs.Elements.{every-getD, Holds}
-use Rattle.soundness.proofs.Analysis.{analysis-keeps}
-use Rattle.soundness.proofs.Keeping.{keep-every, keep-fits, equal-falsifies, keep-falsifies}
-use Rattle.soundness.proofs.Backjump.{least-default, drop-outer, back-from}
+use Rattle.validity.proofs.Constraints.{resolvent-length, resolvent-meets}
+use Rattle.validity.proofs.Moves.{Falsifies}
+use Rattle.validity.proofs.States.{Every, ConstraintFits, CoreFits}
+use Rattle.validity.proofs.Elements.{every-getD, Holds}
+use Rattle.validity.proofs.Analysis.{analysis-keeps}
+use Rattle.validity.proofs.Keeping.{keep-every, keep-fits, equal-falsifies, keep-falsifies}
+use Rattle.validity.proofs.Backjump.{least-default, drop-outer, back-from}
 
 -- ---- analysis
 pub record Learned (c : Core) (k : Constraint) : Type 0 where

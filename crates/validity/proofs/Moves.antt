@@ -18,8 +18,8 @@ use Rattle.model.specs.Move.{Move, conflict, newLower, newUpper, decide, finish
 use Rattle.model.specs.Points.{Point, Inside, dot, value, Meets}
 use Rattle.integer.specs.Parts.{_⊑_, _⊏_, add-parts, sub-parts, mul-parts, neg-up, neg-down, le-in, lt-in, nlt-in}
 use Rattle.integer.specs.Rounding.{floor-max, ceil-min}
-use Rattle.soundness.proofs.Boxes.{Ordered, Fixed, FirstOpen}
-use Rattle.soundness.proofs.Constraints.{term-least, terms-least}
+use Rattle.validity.proofs.Boxes.{Ordered, Fixed, FirstOpen}
+use Rattle.validity.proofs.Constraints.{term-least, terms-least}
 
 -- no constraint is falsified
 abbrev pub Clear : List Constraint → Box → Type 0

@@ -1,0 +1,54 @@
+-- Turns repeated with their blocks: a run that keeps the journal.
+use Prim.Native.Nat.{ℕ, zero, suc, _+_, _*_, _/_}
+use mathlib.Core.Bool.{Bool, true, false}
+use mathlib.Core.List.{List, [], _∷_, _++_}
+use lib.ListN.{length, drop}
+use Rattle.model.specs.Bytes.{blockLength}
+use Rattle.model.specs.Problem.{Result, ok, error}
+use Rattle.model.specs.Search.{Search}
+use Rattle.model.specs.Validity.{valid}
+use Rattle.model.specs.Step.{Verdict, goOn, noSolution, outOfBudget, solution, Outcome, blockIn, step}
+
+-- the last turn's verdict and count, the blocks of all of them, and the walk
+pub record Trace : Type 0 where
+  pub verdict : Verdict
+  pub count : ℕ
+  pub blocks : List (List ℕ)
+  pub state : Search
+
+unfoldable pub withBlocks : List (List ℕ) → Trace → Trace
+withBlocks bs t = record { verdict = t .verdict; count = t .count; blocks = bs ++ t .blocks; state = t .state }
+
+unfoldable pub lastTurn : Outcome → Trace
+lastTurn o = record { verdict = o .verdict; count = o .count; blocks = blockIn (o .block); state = o .state }
+
+unfoldable pub advanced : Verdict → Outcome → (Search → Trace) → Trace
+advanced goOn o go = withBlocks (blockIn (o .block)) (go (o .state))
+advanced noSolution o go = lastTurn o
+advanced outOfBudget o go = lastTurn o
+advanced (solution v) o go = lastTurn o
+
+-- at most `limit` turns, to a verdict; with none it answers 'go on', the count and the walk as they are
+unfoldable pub advance : ℕ → Search → Trace
+advance zero s = record { verdict = goOn; count = s .conflicts; blocks = []; state = s }
+advance (suc limit) s = let o = step s in advanced (o .verdict) o (advance limit)
+
+-- ---- into a lent buffer: as many turns as it has room for blocks. They stand at its start; its other bytes stay
+unfoldable pub joined : List (List ℕ) → List ℕ
+joined [] = []
+joined (b ∷ bs) = b ++ joined bs
+
+pub record Traced : Type 0 where
+  pub answer : Result Trace
+  pub buffer : List ℕ
+
+unfoldable pub written : Trace → List ℕ → Traced
+written t buffer = record { answer = ok t; buffer = joined (t .blocks) ++ drop (blockLength * length (t .blocks)) buffer }
+
+-- a foreign walk is refused with 9, and the buffer keeps its bytes
+unfoldable pub tracedBy : Bool → Search → List ℕ → Traced
+tracedBy true s buffer = written (advance (length buffer / blockLength) s) buffer
+tracedBy false s buffer = record { answer = error 9; buffer = buffer }
+
+unfoldable pub traceCall : Search → List ℕ → Traced
+traceCall s buffer = tracedBy (valid s) s buffer

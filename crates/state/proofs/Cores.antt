@@ -1,0 +1,55 @@
+-- The view of a state after its levels changed.
+use Prim.Native.Nat.{ℕ, zero, suc, _+_, _-_, _≤_, _<_}
+use native.Mathlib.Omega.{arith}
+use native.Mathlib.Numerals.{add-one}
+use mathlib.Core.List.{List, [], _∷_, _++_}
+use mathlib.Core.Logic.{_≢_}
+use mathlib.Core.Path.{_≡_, refl, sym, ap, ap₂, _∙_}
+use lib.IntN.{ℤ}
+use lib.ListN.{getD, set, length, drop}
+use lib.Seq.{getD-set-same, getD-set-other}
+use Rattle.model.specs.Lists.{tab}
+use Rattle.model.specs.Constraint.{Constraint}
+use Rattle.model.specs.Search as model
+use Rattle.lists.proofs.Tab.{tab-append}
+use Rattle.layout.specs.Rows.{rowAt}
+use Rattle.state.specs.View.{levelOf, noLevel, levelAt, levelsFrom, keptCuts, coreWith}
+use Rattle.state.specs.declared.Level.{Level}
+use Rattle.state.specs.declared.Search.{Search}
+
+-- the kept constraints are one table of rows
+pub kept-rows : (n m made : ℕ) (rows : List ℤ) (numbers : List ℕ) (l : model.Level) (ls : List model.Level) →
+    model.kept (coreWith n m made rows numbers l ls) ≡ tab (rowAt n rows) 0 (m + keptCuts made)
+unfolding model.kept coreWith
+kept-rows n m made rows numbers l ls = let e : 0 + m ≡ m = omega arith in sym (tab-append (rowAt n rows) 0 m (keptCuts made) ∙ rw e)
+
+-- ---- levels by depth
+pub level-here : (n : ℕ) (levels : List Level) (d : ℕ) (l : Level) → d < length levels → levelAt n (set levels d l) d ≡ levelOf n l
+unfolding levelAt
+level-here n levels d l h = ap (levelOf n) (getD-set-same levels d l noLevel h)
+
+pub level-other : (n : ℕ) (levels : List Level) (d k : ℕ) (l : Level) → d ≢ k → levelAt n (set levels k l) d ≡ levelAt n levels d
+unfolding levelAt
+level-other n levels d k l e = ap (levelOf n) (getD-set-other levels k d l noLevel e)
+
+-- a store at depth k leaves the levels above it
+pub levels-above : (n : ℕ) (levels : List Level) (d k : ℕ) (l : Level) → d ≤ k → levelsFrom n (set levels k l) d ≡ levelsFrom n levels d
+unfolding levelsFrom
+levels-above n levels zero k l h = refl
+levels-above n levels (suc d) k l h =
+    ap₂ (λ (x : model.Level) (xs : List model.Level). x ∷ xs) (level-other n levels d k l (λ e. omega arith)) (levels-above n levels d k l (omega arith))
+
+pub length-levels : (n : ℕ) (levels : List Level) (d : ℕ) → length (levelsFrom n levels d) ≡ d
+unfolding levelsFrom
+length-levels n levels zero = refl
+length-levels n levels (suc d) = ap suc (length-levels n levels d)
+
+-- the levels from the one at depth e out, as dropping the deeper ones leaves them
+pub levels-dropped : (n : ℕ) (levels : List Level) (d e : ℕ) → e ≤ d → drop (d - e) (levelAt n levels d ∷ levelsFrom n levels d) ≡ levelAt n levels e ∷ levelsFrom n levels e
+unfolding levelsFrom
+levels-dropped n levels d e h = go (d - e) d (omega arith)
+  where
+    go : (k d : ℕ) → d ≡ e + k → drop k (levelAt n levels d ∷ levelsFrom n levels d) ≡ levelAt n levels e ∷ levelsFrom n levels e
+    go zero d q = let z : d ≡ e = omega arith in rw z
+    go (suc k) zero q = let z : ⊥ = omega arith in absurd z
+    go (suc k) (suc d) q = go k d (omega arith)

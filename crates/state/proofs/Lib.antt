@@ -1,0 +1,3 @@
+-- Laws of the view of a search state.
+pub mod Levels
+pub mod Cores

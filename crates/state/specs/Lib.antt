@@ -1,0 +1,3 @@
+-- The search state as the model's, and changes of a level.
+pub mod View
+pub mod Change

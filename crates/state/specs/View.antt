@@ -1,0 +1,78 @@
+-- The view of a search state: what the model's definitions say of it. It drops what stands past n, m, the kept cuts and the depth, and keeps the
+-- sizes as they are, so that a made-up m of 1000 is seen as such.
+use Prim.Native.Nat.{ℕ, zero, suc, _+_, _-_, _^_, min}
+use mathlib.Core.Bool.{cond}
+use mathlib.Core.List.{List, [], _∷_}
+use lib.Dec.{eqb}
+use lib.IntN.{ℤ}
+use lib.ListN.{getD}
+use Rattle.model.specs.Lists.{tab}
+use Rattle.model.specs.Ranges.{maxCuts}
+use Rattle.model.specs.Search as model
+use Rattle.layout.specs.Rows.{rowAt, boxOf}
+use Rattle.state.specs.declared.Level.{Level}
+use Rattle.state.specs.declared.Search.{Search}
+use Rattle.state.specs.declared.Status.{Status}
+use Rattle.state.specs.declared.Status.the-variants.{Undecided, Infeasible, Solved}
+
+-- a reason: three numbers have names, and every other is a constraint's
+abbrev pub domainReason : ℕ
+domainReason = 0
+
+abbrev pub decisionReason : ℕ
+decisionReason = 2 ^ 64 - 1
+
+abbrev pub flippedReason : ℕ
+flippedReason = 2 ^ 64 - 2
+
+unfoldable pub reasonOf : ℕ → model.Reason
+reasonOf k =
+    cond (eqb k domainReason) model.domain (cond (eqb k decisionReason) model.decision (cond (eqb k flippedReason) model.flipped (model.constraint k)))
+
+unfoldable pub reasonsIn : List ℕ → List ℕ → ℕ → model.Reasons
+reasonsIn below above i = record { lower = reasonOf (getD below i 0); upper = reasonOf (getD above i 0) }
+
+unfoldable pub levelOf : ℕ → Level → model.Level
+levelOf n l = record { box = boxOf n (l .lower) (l .upper); reasons = tab (reasonsIn (l .below) (l .above)) 0 n; decided = l .decided }
+
+abbrev pub noLevel : Level
+noLevel = record { lower = []; upper = []; below = []; above = []; decided = 0 }
+
+unfoldable pub levelAt : ℕ → List Level → ℕ → model.Level
+levelAt n levels d = levelOf n (getD levels d noLevel)
+
+-- the levels d − 1, .., 0
+unfoldable pub levelsFrom : ℕ → List Level → ℕ → List model.Level
+levelsFrom n levels zero = []
+levelsFrom n levels (suc d) = levelAt n levels d ∷ levelsFrom n levels d
+
+unfoldable pub statusOf : Status → model.Status
+statusOf Undecided = model.undecided
+statusOf Infeasible = model.infeasible
+statusOf Solved = model.solved
+
+-- how many cuts are kept
+unfoldable pub keptCuts : ℕ → ℕ
+keptCuts made = min made maxCuts
+
+unfoldable pub storedNumber : List ℕ → ℕ → ℕ
+storedNumber numbers p = getD numbers p 0
+
+-- a state's core from its parts: sizes, rows, stored numbers, the deepest level and those above it
+unfoldable pub coreWith : ℕ → ℕ → ℕ → List ℤ → List ℕ → model.Level → List model.Level → model.Core
+coreWith n m made rows numbers deepest outer =
+    record {
+      variables = n;
+      inputs = tab (rowAt n rows) 0 m;
+      cuts = tab (rowAt n rows) m (keptCuts made);
+      numbers = tab (storedNumber numbers) 0 (keptCuts made);
+      made = made;
+      deepest = deepest;
+      outer = outer;
+    }
+
+unfoldable pub coreOf : Search → model.Core
+coreOf s = coreWith (s .n) (s .m) (s .made) (s .rows) (s .numbers) (levelAt (s .n) (s .levels) (s .depth)) (levelsFrom (s .n) (s .levels) (s .depth))
+
+unfoldable pub view : Search → model.Search
+view s = record { core = coreOf s; budget = s .budget; conflicts = s .conflicts; status = statusOf (s .status) }

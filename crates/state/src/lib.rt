@@ -1,0 +1,84 @@
+// The search state, document 01's 'walk', and its levels.
+
+ghost use mathlib.Core.Path.{_≡_};
+ghost use Prim.Native.Nat.{_<_};
+ghost use Rattle.state.specs.Change.{raised, lowered, decidedAt, Whole};
+
+// Why a bound is held: one of these, or the number of a constraint.
+pub const DOMAIN: usize = 0;
+
+pub const DECISION: usize = 18446744073709551615;
+
+pub const FLIPPED: usize = 18446744073709551614;
+
+// A decision level ('frame'): the bounds, the reason of each, and the decision variable, which has no meaning at level 0.
+pub struct Level {
+    pub lower: [i64; 32],
+    pub upper: [i64; 32],
+    pub below: [usize; 32],
+    pub above: [usize; 32],
+    pub decided: usize,
+}
+
+pub enum Status {
+    Undecided,
+    Infeasible,
+    Solved,
+}
+
+// The search state. A row of `rows` is 33 numbers, the constant first; rows 0 to m - 1 are the input constraints, and the kept cuts follow, oldest
+// first, with their numbers in `numbers`. What stands past n, m, the kept cuts and the depth is not read.
+pub struct Search {
+    pub n: usize,
+    pub m: usize,
+    pub budget: usize,
+    pub conflicts: usize,
+    pub made: usize,
+    pub depth: usize,
+    pub status: Status,
+    pub rows: [i64; 4224],
+    pub numbers: [usize; 64],
+    pub levels: [Level; 33],
+}
+
+// Variable i's lower bound becomes v, for a reason.
+pub fn raise(l: Level, i: usize, v: i64, reason: usize) -> Level
+    requires { ⌜ i < 32 ⌝ }
+    ensures { λ r. ⌜ (r ≡ raised l i v reason) × Whole l ⌝ }
+{
+    let mut k = l;
+    k.lower[i] = v;
+    k.below[i] = reason;
+    k
+}
+
+// Variable i's upper bound becomes v, for a reason.
+pub fn lower(l: Level, i: usize, v: i64, reason: usize) -> Level
+    requires { ⌜ i < 32 ⌝ }
+    ensures { λ r. ⌜ (r ≡ lowered l i v reason) × Whole l ⌝ }
+{
+    let mut k = l;
+    k.upper[i] = v;
+    k.above[i] = reason;
+    k
+}
+
+// The level of a new decision: a copy with the upper bound of variable i at its lower bound.
+pub fn decide(l: Level, i: usize) -> Level
+    requires { ⌜ i < 32 ⌝ }
+    ensures { λ r. ⌜ (r ≡ decidedAt l i) × Whole l ⌝ }
+{
+    let mut k = l;
+    let v = l.lower[i];
+    k.upper[i] = v;
+    k.above[i] = DECISION;
+    k.decided = i;
+    k
+}
+
+// The level itself: it tells that its arrays are as long as they are declared.
+pub fn whole(l: Level) -> Level
+    ensures { λ r. ⌜ (r ≡ l) × Whole l ⌝ }
+{
+    l
+}
