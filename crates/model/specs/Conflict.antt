@@ -1,6 +1,6 @@
 -- Document 01's dead end: analysis, numbering and keeping the cut, the backjump level, and going back.
 use Prim.Native.Nat.{ℕ, zero, suc, _-_}
-use mathlib.Core.Bool.{Bool, _&&_, cond}
+use mathlib.Core.Bool.{_&&_, cond}
 use mathlib.Core.List.{List, [], _∷_}
 use mathlib.Core.Option.{Option, none, some}
 use lib.IntN.{ℤ, pos, negsuc}
@@ -80,7 +80,7 @@ unfoldable pub leastFalsified : Constraint → List Level → Option ℕ
 leastFalsified cut [] = none
 leastFalsified cut (l ∷ ls) = orElse (leastFalsified cut ls) (cond (falsified cut (l .box)) (some (length ls)) none)
 
--- there is one: the deepest level makes the cut falsified
+-- there is one, for the deepest level makes the cut falsified: the default is never reached
 unfoldable pub backjumpLevel : Constraint → Core → ℕ
 backjumpLevel cut c = withDefault 0 (leastFalsified cut (levels c))
 

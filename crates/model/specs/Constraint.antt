@@ -1,9 +1,9 @@
 -- Document 01, 'Lines and bounds'. A constraint is its 'line': constant + Σ coefficient · variable ≤ 0. Variables are counted from 0.
 use Prim.Native.Nat.{ℕ, zero, suc, _/_}
-use mathlib.Core.Bool.{Bool, true, false, _&&_, cond}
+use mathlib.Core.Bool.{Bool, false, _&&_}
 use mathlib.Core.List.{List, [], _∷_, map}
 use lib.Dec.{eqb}
-use lib.IntN.{ℤ, pos, negsuc, negℤ, natAbs, sucℤ, _+ℤ_, _-ℤ_, _*ℤ_}
+use lib.IntN.{ℤ, pos, negsuc, negℤ, natAbs, sucℤ, _+ℤ_, _*ℤ_}
 use lib.Signed.{ltZ}
 use lib.ListN.{getD, set}
 use Rattle.model.specs.Division.{floorDiv, ceilDiv, exactDiv, gcd}

@@ -1,12 +1,12 @@
 -- Document 01, 'The plan file' and the writer: the format on bytes, its errors, reading and writing.
 use Prim.Native.Nat.{ℕ, zero, suc, _+_, _*_, _/_, _%_}
-use mathlib.Core.Bool.{Bool, true, false, _&&_}
+use mathlib.Core.Bool.{Bool, _&&_}
 use mathlib.Core.List.{List, [], _∷_, _++_}
 use lib.Dec.{leb, eqb}
 use lib.IntN.{ℤ, pos}
 use lib.ListN.{getD, take, drop, length}
 use Rattle.model.specs.Lists.{tab, parts, all, allPairs}
-use Rattle.model.specs.Constraint.{Constraint, Bounds, noBounds, lowerAt, upperAt, coefficientAt}
+use Rattle.model.specs.Constraint.{Constraint, Bounds, lowerAt, upperAt, coefficientAt}
 use Rattle.model.specs.Problem.{Problem, variables, sizesInRange, domainInRange, constraintsInRange, firstError, Result, resultOf}
 use Rattle.model.specs.Bytes.{u16At, u32At, i32At, u16Bytes, u32Bytes, i32Bytes, blockLength, checkOffset, block, checksum, zeroFrom, sealed}
 

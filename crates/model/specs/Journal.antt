@@ -1,11 +1,11 @@
 -- Document 01, 'Journal block': one for each counted dead end.
-use Prim.Native.Nat.{ℕ, zero, suc, _+_, _*_, _-_}
+use Prim.Native.Nat.{ℕ, _+_, _*_, _-_}
 use mathlib.Core.List.{List, [], _∷_, _++_}
 use lib.IntN.{ℤ}
 use lib.ListN.{getD}
 use Rattle.model.specs.Lists.{tab, parts}
 use Rattle.model.specs.Ranges.{maxVariables}
-use Rattle.model.specs.Constraint.{Constraint, coefficientAt}
+use Rattle.model.specs.Constraint.{Constraint}
 use Rattle.model.specs.Bytes.{u16Bytes, u32Bytes, i32Bytes, i32At, sealed}
 use Rattle.model.specs.File.{coefficientBytes}
 

@@ -15,3 +15,9 @@ pub mod Step
 pub mod Trace
 pub mod Points
 pub mod Demand
+pub mod Examples
+pub mod Table
+pub mod SearchCases
+pub mod FileCases
+pub mod ValidityCases
+pub mod Cases

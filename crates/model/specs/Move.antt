@@ -1,13 +1,13 @@
 -- Document 01's turn: its moves 1 to 4 at the deepest level, and how far they go.
 use Prim.Native.Nat.{ℕ, zero, suc, _+_}
-use mathlib.Core.Bool.{Bool, cond}
+use mathlib.Core.Bool.{cond}
 use mathlib.Core.List.{List, [], _∷_}
 use mathlib.Core.Option.{Option, none, some}
 use lib.IntN.{ℤ, pos, negsuc, natAbs, _-ℤ_}
 use lib.Signed.{ltZ}
 use Rattle.model.specs.Lists.{orElse, withDefault}
 use Rattle.model.specs.Constraint.{Constraint, Bounds, Box, term, activity, falsified, impliedUpper, impliedLower}
-use Rattle.model.specs.Search.{constraint, Level, Core, levels, withLevels, withDeepest, kept, numberAt, raiseLower, lowerUpper, decideAt}
+use Rattle.model.specs.Search.{constraint, Core, levels, withLevels, withDeepest, kept, numberAt, raiseLower, lowerUpper, decideAt}
 
 -- Constraints are named by their position among the kept ones, j, and variables by their index, i.
 pub data Move : Type 0 where
@@ -63,7 +63,7 @@ follow (newUpper j i v) c go = go (withDeepest c (lowerUpper i v (constraint (nu
 follow (decide i) c go = go (withLevels c (decideAt i (c .deepest)) (levels c))
 follow finish c go = record { core = c; falsified = none }
 
--- Every bound that is set lowers the slack, Σ (U − L) of the deepest level, so a fuel above it does not run out.
+-- Every bound that is set lowers the slack, Σ (U − L) of the deepest level, so a fuel above it does not run out: the case `zero` is never reached.
 unfoldable pub slack : Box → ℕ
 slack [] = 0
 slack (b ∷ box) = natAbs (b .upper -ℤ b .lower) + slack box

@@ -1,6 +1,6 @@
 -- Problems, document 01's 'plans': what a plan file says, and the ranges that reading and writing test.
 use Prim.Native.Nat.{ℕ, zero, suc}
-use mathlib.Core.Bool.{Bool, _&&_, cond}
+use mathlib.Core.Bool.{Bool, cond}
 use mathlib.Core.List.{List, [], _∷_}
 use lib.Dec.{leb}
 use lib.Signed.{leZ}
@@ -9,7 +9,8 @@ use Rattle.model.specs.Lists.{all, allOf}
 use Rattle.model.specs.Ranges.{maxVariables, maxConstraints, maxBudget, maxBound, within}
 use Rattle.model.specs.Constraint.{Constraint, Bounds, Box, inRange}
 
--- The 'limits', the 'lines' as they stand in the file, and 'B'. The number of variables, 'n', is the length of the domain; 'm' that of the constraints.
+-- The 'limits', the 'lines' as they stand in the file, and 'B'. The number of variables, 'n', is the length of the domain; 'm' that of the constraints,
+-- each of which has n coefficients: what a problem holds past n and m is not part of it.
 pub record Problem : Type 0 where
   pub domain : Box
   pub constraints : List Constraint

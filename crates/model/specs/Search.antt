@@ -1,13 +1,13 @@
 -- Document 01, 'The walk': the search state, and opening one.
 use Prim.Native.Nat.{ℕ, zero, suc, _+_, _-_}
-use mathlib.Core.Bool.{Bool, cond}
+use mathlib.Core.Bool.{cond}
 use mathlib.Core.List.{List, [], _∷_, _++_, map}
-use mathlib.Core.Option.{Option, none, some}
+use mathlib.Core.Option.{Option, none}
 use lib.Dec.{ltb}
 use lib.IntN.{ℤ}
 use lib.ListN.{getD, set, length, drop, replicate, getElem?}
 use Rattle.model.specs.Ranges.{maxCuts}
-use Rattle.model.specs.Constraint.{Constraint, Bounds, Box, setLower, setUpper, nextValue, lowerAt, rounded}
+use Rattle.model.specs.Constraint.{Constraint, Box, setLower, setUpper, nextValue, lowerAt, rounded}
 use Rattle.model.specs.Problem.{Problem, variables, Result, ok, error}
 use Rattle.model.specs.File.{readFile}
 

@@ -1,0 +1,100 @@
+-- Computed cases beside the table: of lines, points and kept cuts here, of turns and runs, of validity, and of bytes. One theorem covers them.
+use Prim.Native.Nat.{ℕ}
+use mathlib.Core.Bool.{Bool, true, false, _&&_, not}
+use mathlib.Core.List.{List, [], _∷_, _++_}
+use mathlib.Core.Option.{Option, none, some}
+use lib.Dec.{T, eqb}
+use lib.IntN.{pos}
+use Rattle.model.specs.Lists.{tab, all, anyOf, allPairs}
+use Rattle.model.specs.Constraint.{Constraint, rounded, resolvent, equal}
+use Rattle.model.specs.Search.{Core, numberAt, keptNumber, nextNumber, keep, coreOf}
+use Rattle.model.specs.Points.{allPoints, points}
+use Rattle.model.specs.Examples.{neg, linear, between, A-second, planA, planB, sameValues, definitions}
+use Rattle.model.specs.SearchCases.{searchCases}
+use Rattle.model.specs.ValidityCases.{validityCases}
+use Rattle.model.specs.FileCases.{checkRule, fileCases}
+
+-- ---- lines and points
+-- 'A line with no coefficient but 0 stays.' And g matters: 2v1 + 3v2 − 7 with −2v1 − 3v2 + 8 is 1 ≤ 0, not 3 ≤ 0.
+abbrev zeroLines : Bool
+zeroLines =
+    equal (rounded (linear (pos 0 ∷ pos 0 ∷ []) (pos 7))) (linear (pos 0 ∷ pos 0 ∷ []) (pos 7)) &&
+    equal (resolvent 1 (linear (pos 2 ∷ pos 3 ∷ []) (neg 7)) (linear (neg 2 ∷ neg 3 ∷ []) (pos 8))) (linear (pos 0 ∷ pos 0 ∷ []) (pos 1))
+
+-- 'Opening .. rounds its lines': plan B's are those of P1 and P2
+abbrev opened : Bool
+opened =
+    allPairs equal (coreOf planB .inputs) (linear (pos 2 ∷ neg 1 ∷ []) (pos 0) ∷ linear (neg 2 ∷ pos 1 ∷ []) (pos 1) ∷ [])
+
+-- the tests of equality do refuse: another constant, another coefficient, another sign, another length
+abbrev unequal : Bool
+unequal =
+    not (anyOf (equal (linear (neg 1 ∷ pos 2 ∷ []) (pos 1)))
+    (linear (neg 1 ∷ pos 2 ∷ []) (pos 2) ∷
+    linear (neg 1 ∷ pos 3 ∷ []) (pos 1) ∷
+    linear (neg 2 ∷ pos 2 ∷ []) (pos 1) ∷
+    linear (neg 1 ∷ neg 2 ∷ []) (pos 1) ∷
+    linear (neg 1 ∷ pos 2 ∷ []) (neg 1) ∷
+    linear (neg 1 ∷ []) (pos 1) ∷
+    linear (neg 1 ∷ pos 2 ∷ pos 0 ∷ []) (pos 1) ∷
+    []))
+
+-- the points of limits −1 to 1 and 5 to 6, in dictionary order
+abbrev pointList : Bool
+pointList =
+    let box = between (neg 1) (pos 1) ∷ between (pos 5) (pos 6) ∷ [] in
+    eqb (points box) 6 &&
+    allPairs sameValues (allPoints box) ((neg 1 ∷ pos 5 ∷ []) ∷ (neg 1 ∷ pos 6 ∷ []) ∷ (pos 0 ∷ pos 5 ∷ []) ∷ (pos 0 ∷ pos 6 ∷ []) ∷ (pos 1 ∷ pos 5 ∷ []) ∷ (pos 1 ∷ pos 6 ∷ []) ∷ [])
+
+-- ---- 'Input lines and the 64 newest cuts are kept': cuts 3 to 66 are kept, and one more is made
+abbrev cutWith : ℕ → Constraint
+cutWith k = linear (neg 1 ∷ pos 0 ∷ []) (pos k)
+
+abbrev full : Core
+full =
+    let c = coreOf (planA 5) in
+    record {
+      variables = 2;
+      inputs = c .inputs;
+      cuts = tab cutWith 3 64;
+      numbers = tab (λ (k : ℕ). k) 3 64;
+      made = 64;
+      deepest = c .deepest;
+      outer = [];
+    }
+
+abbrev found : Option Constraint → Constraint → Bool
+found none k = false
+found (some l) k = equal l k
+
+abbrev missing : Option Constraint → Bool
+missing none = true
+missing (some l) = false
+
+abbrev newestKept : Bool
+newestKept =
+    let c = keep (cutWith 67) full in
+    all (
+    allPairs equal (c .cuts) (tab cutWith 4 64) ∷
+    allPairs eqb (c .numbers) (tab (λ (k : ℕ). k) 4 64) ∷
+    eqb (c .made) 65 ∷
+    eqb (numberAt c 1) 2 ∷
+    eqb (numberAt c 2) 4 ∷
+    eqb (nextNumber c) 68 ∷
+    found (keptNumber c 2) A-second ∷
+    missing (keptNumber c 3) ∷
+    found (keptNumber c 4) (cutWith 4) ∷
+    found (keptNumber c 67) (cutWith 67) ∷
+    missing (keptNumber c 68) ∷
+    [])
+
+-- ---- the theorem: what is quick stands first
+unfoldable pub shortCases : List Bool
+shortCases = checkRule ∷ zeroLines ∷ opened ∷ unequal ∷ pointList ∷ []
+
+pub cases : List Bool
+cases = shortCases ++ (searchCases ++ (newestKept ∷ (validityCases ++ fileCases)))
+
+pub cases-hold : T (all cases)
+unfolding cases shortCases searchCases validityCases fileCases definitions
+cases-hold = tt

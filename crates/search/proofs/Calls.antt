@@ -1,0 +1,67 @@
+-- A turn, and a run, as turns repeated: the three calls share one loop.
+use Prim.Native.Nat.{ℕ, zero, suc, _+_, _-_, _≤_, _<_}
+use native.Mathlib.Omega.{arith}
+use mathlib.Core.List.{List, [], _∷_, _++_, append-nil}
+use mathlib.Core.Option.{Option, none, some}
+use mathlib.Core.Path.{_≡_, refl, sym, ap, subst, _∙_}
+use Rattle.model.specs.Search.{Core, Status, undecided, infeasible, solved, Search}
+use Rattle.model.specs.Move.{descend}
+use Rattle.model.specs.Conflict.{Conflict}
+use Rattle.model.specs.Step.{Verdict, goOn, noSolution, outOfBudget, solution, Outcome, blockIn, withStatus, solvedBy, budgetSpent, counted, atDeadEnd, endedAt, ended, again, stepBy, step, continue, runFor, withoutBlock, run}
+use Rattle.model.specs.Trace.{Trace, withBlocks, lastTurn, advanced, advance}
+use Rattle.validity.proofs.Steps.{Valid, dead-end, run-ends, impossible}
+
+-- ---- the count of a turn's answer is that of its state
+ended-count : (s : Search) (c : Core) (e : Option ℕ) → s .conflicts ≤ s .budget → endedAt s c e .count ≡ endedAt s c e .state .conflicts
+unfolding endedAt
+ended-count s c none h = unfold solvedBy withStatus in refl
+ended-count s c (some j) h = dead-end (λ o. o .count ≡ o .state .conflicts) s c j h (λ e. unfold budgetSpent in refl) (λ l. unfold counted in refl)
+
+step-count : (m : Status) (s : Search) → s .conflicts ≤ s .budget → stepBy m s .count ≡ stepBy m s .state .conflicts
+unfolding stepBy ended again
+step-count undecided s h = ended-count s (descend (s .core) .core) (descend (s .core) .falsified) h
+step-count infeasible s h = refl
+step-count solved s h = refl
+
+-- ---- one turn
+one-turn : (v : Verdict) (o : Outcome) → o .verdict ≡ v → o .count ≡ o .state .conflicts → advanced v o (advance 0) ≡ lastTurn o
+unfolding advanced advance withBlocks lastTurn
+one-turn goOn o e c = rw (append-nil, c, e)
+one-turn noSolution o e c = refl
+one-turn outOfBudget o e c = refl
+one-turn (solution x) o e c = refl
+
+pub advance-one : (s : Search) → s .conflicts ≤ s .budget → advance 1 s ≡ lastTurn (step s)
+unfolding advance step
+advance-one s h = one-turn (stepBy (s .status) s .verdict) (stepBy (s .status) s) refl (step-count (s .status) s h)
+
+-- ---- a run
+pub record Same (t : Trace) (o : Outcome) : Type 0 where
+  pub verdict : t .verdict ≡ o .verdict
+  pub count : t .count ≡ o .count
+  pub state : t .state ≡ o .state
+
+continue-same : (v : Verdict) (o : Outcome) (go : Search → Outcome) (to : Search → Trace) → ¬ (continue v o go .verdict ≡ goOn) → o .verdict ≡ v →
+    (v ≡ goOn → ¬ (go (o .state) .verdict ≡ goOn) → Same (to (o .state)) (go (o .state))) → Same (advanced v o to) (continue v o go)
+unfolding continue advanced withBlocks lastTurn
+continue-same goOn o go to n e next = let r = next refl n in record { verdict = r .verdict; count = r .count; state = r .state }
+continue-same noSolution o go to n e next = record { verdict = refl; count = refl; state = refl }
+continue-same outOfBudget o go to n e next = record { verdict = refl; count = refl; state = refl }
+continue-same (solution x) o go to n e next = record { verdict = refl; count = refl; state = refl }
+
+last-same : (v : Verdict) (o : Outcome) (to : Search → Trace) → o .verdict ≡ v → ¬ (o .verdict ≡ goOn) → Same (advanced v o to) o
+unfolding advanced lastTurn
+last-same goOn o to e n = absurd (n e)
+last-same noSolution o to e n = record { verdict = refl; count = refl; state = refl }
+last-same outOfBudget o to e n = record { verdict = refl; count = refl; state = refl }
+last-same (solution x) o to e n = record { verdict = refl; count = refl; state = refl }
+
+run-for-same : (fuel : ℕ) (s : Search) → ¬ (runFor fuel s .verdict ≡ goOn) → Same (advance (suc fuel) s) (runFor fuel s)
+unfolding runFor advance
+run-for-same zero s n = last-same (step s .verdict) (step s) (advance zero) refl n
+run-for-same (suc fuel) s n =
+    continue-same (step s .verdict) (step s) (runFor fuel) (advance (suc fuel)) n refl (λ e m. run-for-same fuel (step s .state) m)
+
+pub run-same : (s : Search) → Valid s → Same (advance (suc (s .budget - s .conflicts)) s) (run s)
+unfolding run withoutBlock
+run-same s v = let r = run-for-same (s .budget - s .conflicts) s (unfold run withoutBlock in run-ends s v) in record { verdict = r .verdict; count = r .count; state = r .state }
