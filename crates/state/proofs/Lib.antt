@@ -1,3 +1,4 @@
 -- Laws of the view of a search state.
 pub mod Levels
 pub mod Cores
+pub mod Shape

@@ -1,0 +1,61 @@
+-- The backjump level, searched from level 0, and the state after going back there.
+use Prim.Native.Nat.{ℕ, zero, suc, _+_, _-_, _≤_, _<_}
+use native.Mathlib.Omega.{arith}
+use mathlib.Core.Bool.{Bool, true, false, cond}
+use mathlib.Core.List.{List, [], _∷_, _++_}
+use mathlib.Core.Option.{Option, none, some}
+use mathlib.Core.Path.{_≡_, refl, sym, ap, ap₂, subst, _∙_}
+use lib.IntN.{ℤ, pos, sucℤ, _+ℤ_, +ℤ-one}
+use lib.ListN.{getD, set, length, drop}
+use Rattle.model.specs.Lists.{tab, orElse, withDefault}
+use Rattle.model.specs.Constraint.{Constraint, nextValue, falsified}
+use Rattle.model.specs.Search as model
+use Rattle.model.specs.Conflict.{leastFalsified, backjumpLevel, backFrom, backUp}
+use Rattle.layout.specs.Rows.{numberIn}
+use Rattle.state.specs.View.{reasonOf, flippedReason, levelOf, levelAt, levelsFrom, coreWith}
+use Rattle.state.specs.Change.{Whole, raised}
+use Rattle.state.specs.declared.Level.{Level}
+use Rattle.state.proofs.Levels.{level-raised, level-lower}
+use Rattle.state.proofs.Cores.{level-here, levels-above, length-levels, levels-dropped}
+
+-- the levels from 0 up to e do not falsify the cut
+abbrev pub Passed : ℕ → List Level → Constraint → ℕ → Type 0
+Passed n levels cut e = (k : ℕ) → k < e → falsified cut (levelAt n levels k .box) ≡ false
+
+module _ (n : ℕ) (levels : List Level) (cut : Constraint) where
+  least-none : (e : ℕ) → Passed n levels cut e → leastFalsified cut (levelsFrom n levels e) ≡ none
+  unfolding leastFalsified levelsFrom orElse
+  least-none zero p = refl
+  least-none (suc e) p = rw (least-none e (λ k h. p k (omega arith)), p e (omega arith))
+
+  least-at : (d e : ℕ) → e ≤ d → Passed n levels cut e → falsified cut (levelAt n levels e .box) ≡ true →
+      leastFalsified cut (levelAt n levels d ∷ levelsFrom n levels d) ≡ some e
+  unfolding leastFalsified levelsFrom orElse
+  least-at d e h p f = go (d - e) d (omega arith)
+    where
+      go : (k d : ℕ) → d ≡ e + k → leastFalsified cut (levelAt n levels d ∷ levelsFrom n levels d) ≡ some e
+      go zero d q = let z : d ≡ e = omega arith in rw (z, least-none e p, f, length-levels n levels e)
+      go (suc k) zero q = let z : ⊥ = omega arith in absurd z
+      go (suc k) (suc d) q = rw (go k d (omega arith))
+
+-- ---- the core after the level at the deepest depth was stored
+module _ (n m made : ℕ) (rows : List ℤ) (numbers : List ℕ) (levels : List Level) where
+  pub backjump-found : (d e : ℕ) (cut : Constraint) → e ≤ d → Passed n levels cut e → falsified cut (levelAt n levels e .box) ≡ true →
+      backjumpLevel cut (coreWith n m made rows numbers (levelAt n levels d) (levelsFrom n levels d)) ≡ e
+  unfolding backjumpLevel coreWith model.levels withDefault
+  backjump-found d e cut h p f = rw (least-at n levels cut d e h p f)
+
+  -- going back to level e + 1: level e with the decision of level e + 1 flipped
+  pub backed-up : (d e : ℕ) → suc e ≤ d →
+      backUp (suc e) (coreWith n m made rows numbers (levelAt n levels d) (levelsFrom n levels d)) ≡
+      coreWith n m made rows numbers (model.flipAt (levelAt n levels (suc e) .decided) (levelAt n levels e)) (levelsFrom n levels e)
+  unfolding backUp coreWith model.levels model.depth
+  backed-up d e h =
+      rw (length-levels n levels d, levels-dropped n levels d (suc e) h) (unfold levelsFrom backFrom model.withLevels in refl)
+
+-- ---- the flipped level
+pub level-flipped : (n : ℕ) (l : Level) (i : ℕ) → Whole l → n ≤ 32 → i < n → levelOf n (raised l i (numberIn (l .lower) i +ℤ pos 1) flippedReason) ≡ model.flipAt i (levelOf n l)
+unfolding model.flipAt nextValue
+level-flipped n l i w f h =
+    level-raised n l w f i (numberIn (l .lower) i +ℤ pos 1) flippedReason h ∙
+    (unfold reasonOf in rw (level-lower n l w f i h, +ℤ-one))

@@ -1,0 +1,2 @@
+-- What the search's contracts say.
+pub mod Advancing
