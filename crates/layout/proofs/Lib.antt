@@ -1,2 +1,4 @@
 -- Laws of the views.
 pub mod Rows
+pub mod Elements
+pub mod Filled

@@ -1,0 +1,8 @@
+-- Laws of the arithmetic of constraints: `Ranges` and `Sizes` for its callers, the others for its own proofs.
+pub mod Ranges
+pub mod Terms
+pub mod Implied
+pub mod Tests
+pub mod Sizes
+pub mod RoundingLaws
+pub mod ResolvingLaws

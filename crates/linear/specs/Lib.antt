@@ -1,0 +1,5 @@
+-- What the arithmetic of constraints asks of its callers, and what its answers mean.
+pub mod Ranges
+pub mod Improvement
+pub mod Sized
+pub mod Resolvable
