@@ -48,8 +48,11 @@ loop-holds : tie.Need-loop-holds Inv-loop μ-loop
 loop-holds c =
     let a = c .before .before .before .args in
     let f = number-read (a .f .now) (a .at) (c .before .before .mix-arg .given) in
-    let j = number-read (a .rows .now) (a .start) (c .before .mix-arg2 .given) in
-    (omega arith, fill-constant (replicate rowLength (pos 0)) _ refl (toZ-ofZ (sfits-of (c .mix .ok)) ∙ c .mix .ensures ∙ ap₂ (λ (x y : ℤ). pos (a .s) *ℤ x +ℤ pos (a .t) *ℤ y) f j))
+    let j = number-read (a .rows .now) (a .start) (c .before .mix-arg2 .given) in (
+      omega arith,
+      fill-constant (replicate rowLength (pos 0)) _ refl
+          (toZ-ofZ (sfits-of (c .mix .ok)) ∙ c .mix .ensures ∙ ap₂ (λ (x y : ℤ). pos (a .s) *ℤ x +ℤ pos (a .t) *ℤ y) f j),
+    )
 
 add-mix : tie.Need-add-mix Inv-loop μ-loop
 add-mix c = omega arith
@@ -105,8 +108,11 @@ loop-again c =
     let a = l .before .before .before .before .args in
     let i = l .loop .i in
     let f = cell-read (a .f .now) (a .at) i (a .at + 1 + i) refl (c .before .before .mix-arg3 .given) in
-    let j = cell-read (a .rows .now) (a .start) i (a .start + 1 + i) refl (c .before .mix-arg4 .given) in
-    (omega arith, fill-coefficient _ (omega arith) (l .loop .inv .1) (toZ-ofZ (sfits-of (c .mix2 .ok)) ∙ c .mix2 .ensures ∙ ap₂ (λ (x y : ℤ). pos (a .s) *ℤ x +ℤ pos (a .t) *ℤ y) f j))
+    let j = cell-read (a .rows .now) (a .start) i (a .start + 1 + i) refl (c .before .mix-arg4 .given) in (
+      omega arith,
+      fill-coefficient _ (omega arith) (l .loop .inv .1)
+          (toZ-ofZ (sfits-of (c .mix2 .ok)) ∙ c .mix2 .ensures ∙ ap₂ (λ (x y : ℤ). pos (a .s) *ℤ x +ℤ pos (a .t) *ℤ y) f j),
+    )
 
 returns : tie.Need-returns Inv-loop μ-loop
 returns c =

@@ -97,13 +97,15 @@ div-combine-2 : tie.Need-div-combine-2
 div-combine-2 c = divisor-positive c
 
 combine-requires : tie.Need-combine-requires
-combine-requires c κs = (at-start c .pre .combinable, omega (arith, a-in-range c, b-in-range c))
+combine-requires c κs = (at-start c .pre .combinable, let a = a-in-range c in let b = b-in-range c in omega arith)
 
 round-requires : tie.Need-round-requires
 round-requires c κs =
     let g = c .before in
     let k = at-start g .pre .combinable in
-    (k .variables, rw (c .combine .ensures) (combination-sized _ _ _ _ (omega (arith, a-in-range g, b-in-range g)) (omega (arith, a-in-range g, b-in-range g)) (k .first-range) (k .second-range)))
+    let a = a-in-range g in
+    let b = b-in-range g in
+    (k .variables, rw (c .combine .ensures) (combination-sized _ _ _ _ (omega arith) (omega arith) (k .first-range) (k .second-range)))
 
 returns : tie.Need-returns
 returns c =

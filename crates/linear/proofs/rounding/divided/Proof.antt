@@ -31,7 +31,11 @@ array-set-from-r c = search needs
 loop-holds : tie.Need-loop-holds Inv-loop μ-loop
 loop-holds c =
     let a = c .before .before .args in
-    (omega arith, fill-constant (a .t1) _ (search needs) (toZ-ofZ (sfits-of (c .ceil-div .ok)) ∙ c .ceil-div .ensures .0 ∙ ap (λ (z : ℤ). ceilDiv z (a .h)) (number-read (a .t1) 0 (c .before .ceil-div-arg .given))))
+    let read = number-read (a .t1) 0 (c .before .ceil-div-arg .given) in (
+      omega arith,
+      fill-constant (a .t1) _ (search needs)
+          (toZ-ofZ (sfits-of (c .ceil-div .ok)) ∙ c .ceil-div .ensures .0 ∙ ap (λ (z : ℤ). ceilDiv z (a .h)) read),
+    )
 
 add-exact-div : tie.Need-add-exact-div Inv-loop μ-loop
 add-exact-div c = search needs
@@ -65,7 +69,11 @@ loop-again c =
     let l = c .before .before .before in
     let a = l .before .before .before .args in
     let i = l .loop .i in
-    (omega arith, fill-coefficient _ (omega arith) (l .loop .inv .1) (toZ-ofZ (sfits-of (c .exact-div .ok)) ∙ c .exact-div .ensures .0 ∙ ap (exactDiv (a .h)) (cell-read (a .t1) 0 i (i + 1) (omega arith) (c .before .exact-div-arg .given))))
+    let read = cell-read (a .t1) 0 i (i + 1) (omega arith) (c .before .exact-div-arg .given) in (
+      omega arith,
+      fill-coefficient _ (omega arith) (l .loop .inv .1)
+          (toZ-ofZ (sfits-of (c .exact-div .ok)) ∙ c .exact-div .ensures .0 ∙ ap (exactDiv (a .h)) read),
+    )
 
 returns : tie.Need-returns Inv-loop μ-loop
 returns c =

@@ -1,0 +1,125 @@
+-- The kept constraints by number and by position, and a reason as the position of what it names.
+use Prim.Native.Nat.{ℕ, zero, suc, _+_, _-_, _≤_, _<_}
+use native.Mathlib.Omega.{arith}
+use mathlib.Core.Bool.{Bool, true, false, cond}
+use mathlib.Core.List.{List}
+use mathlib.Core.Option.{none, some}
+use mathlib.Core.Path.{_≡_, refl, sym, ap, _∙_}
+use borrow.Author.Tests.{lt-ltb, le-ltb, eqb-true}
+use lib.Dec.{eqb}
+use lib.IntN.{ℤ}
+use lib.ListN.{getElem?}
+use Rattle.model.specs.Lists.{tab}
+use Rattle.model.specs.Ranges.{maxConstraints, maxCuts, maxBudget}
+use Rattle.model.specs.Constraint.{Constraint}
+use Rattle.model.specs.Search.{domain, decision, flipped, constraint, Level, Core, dropped, numberAt, keptNumber}
+use Rattle.model.specs.Conflict.{resolveBy, resolveKept}
+use Rattle.lists.proofs.Tab.{length-tab}
+use Rattle.layout.specs.Rows.{rowAt}
+use Rattle.state.specs.View.{domainReason, decisionReason, flippedReason, reasonOf, keptCuts, coreWith}
+use Rattle.analyze.specs.Position.{absent, constraintIn, PositionOf}
+
+-- ---- an element that may be missing
+elem-tab : {A : Type 0} (f : ℕ → A) (i c k : ℕ) → k < c → getElem? (tab f i c) k ≡ some (f (i + k))
+unfolding tab
+elem-tab f i zero k h = absurd (omega arith)
+elem-tab f i (suc c) zero h = ap (λ (x : ℕ). some (f x)) (omega arith)
+elem-tab f i (suc c) (suc k) h = elem-tab f (suc i) c k (omega arith) ∙ ap (λ (x : ℕ). some (f x)) (omega arith)
+
+elem-past : {A : Type 0} (f : ℕ → A) (i c k : ℕ) → c ≤ k → getElem? (tab f i c) k ≡ none
+unfolding tab
+elem-past f i zero k h = refl
+elem-past f i (suc c) zero h = absurd (omega arith)
+elem-past f i (suc c) (suc k) h = elem-past f (suc i) c k (omega arith)
+
+pub at-present : (n : ℕ) (rows : List ℤ) (j : ℕ) → j < absent → constraintIn n rows j ≡ some (rowAt n rows j)
+unfolding constraintIn
+at-present n rows j h = rw (lt-ltb j absent h)
+
+pub at-absent : (n : ℕ) (rows : List ℤ) → constraintIn n rows absent ≡ none
+unfolding constraintIn
+at-absent n rows = refl
+
+-- ---- the numbers, from 0 up
+module _ (m made : ℕ) where
+  pub position-zero : PositionOf m made 0 absent
+  unfolding keptNumber
+  position-zero = record { most = omega arith; inside = λ h. absurd (omega arith); found = λ n rows numbers l ls. sym (at-absent n rows) }
+
+  pub position-input : (number : ℕ) → m ≤ maxConstraints → 0 < number → number ≤ m → PositionOf m made number (number - 1)
+  unfolding keptNumber coreWith
+  position-input zero few p h = absurd (omega arith)
+  position-input (suc k) few p h =
+      let e : suc k - 1 ≡ k = omega arith in
+      record {
+        most = omega arith;
+        inside = λ l. omega arith;
+        found = λ n rows numbers l ls.
+            rw (length-tab (rowAt n rows) 0 m, lt-ltb k m (omega arith), e) (elem-tab (rowAt n rows) 0 m k (omega arith) ∙ ap (λ (j : ℕ). some (rowAt n rows j)) (omega arith) ∙ sym (at-present n rows k (omega arith)));
+      }
+
+  pub position-dropped : (number : ℕ) → m < number → number ≤ m + (made - maxCuts) → PositionOf m made number absent
+  unfolding keptNumber coreWith dropped
+  position-dropped zero p h = absurd (omega arith)
+  position-dropped (suc k) p h =
+      record {
+        most = omega arith;
+        inside = λ l. absurd (omega arith);
+        found = λ n rows numbers l ls. rw (length-tab (rowAt n rows) 0 m, le-ltb k m (omega arith), lt-ltb k (m + (made - maxCuts)) (omega arith)) (sym (at-absent n rows));
+      }
+
+  pub position-cut : (number : ℕ) → m ≤ maxConstraints → m + (made - maxCuts) < number → number ≤ m + made → PositionOf m made number (number - (made - maxCuts) - 1)
+  unfolding keptNumber coreWith dropped keptCuts
+  position-cut zero few p h = absurd (omega arith)
+  position-cut (suc k) few p h =
+      let e : suc k - (made - maxCuts) - 1 ≡ m + (k - (m + (made - maxCuts))) = omega arith in
+      record {
+        most = omega arith;
+        inside = λ l. omega arith;
+        found = λ n rows numbers l ls.
+            rw (length-tab (rowAt n rows) 0 m, le-ltb k m (omega arith), le-ltb k (m + (made - maxCuts)) (omega arith), e)
+            (elem-tab (rowAt n rows) m (keptCuts made) (k - (m + (made - maxCuts))) (omega arith) ∙ sym (at-present n rows (m + (k - (m + (made - maxCuts)))) (omega arith)));
+      }
+
+  pub position-beyond : (number : ℕ) → m + made < number → PositionOf m made number absent
+  unfolding keptNumber coreWith dropped keptCuts
+  position-beyond zero p = absurd (omega arith)
+  position-beyond (suc k) p =
+      record {
+        most = omega arith;
+        inside = λ l. absurd (omega arith);
+        found = λ n rows numbers l ls.
+            rw (length-tab (rowAt n rows) 0 m, le-ltb k m (omega arith), le-ltb k (m + (made - maxCuts)) (omega arith))
+            (elem-past (rowAt n rows) m (keptCuts made) (k - (m + (made - maxCuts))) (omega arith) ∙ sym (at-absent n rows));
+      }
+
+-- ---- the numbers of the positions
+module _ (n m made : ℕ) (rows : List ℤ) (numbers : List ℕ) (l : Level) (ls : List Level) (j : ℕ) where
+  pub number-input : j < m → numberAt (coreWith n m made rows numbers l ls) j ≡ j + 1
+  unfolding numberAt coreWith
+  number-input h = rw (length-tab (rowAt n rows) 0 m, lt-ltb j m h) (omega arith)
+
+  pub number-cut : m ≤ j → numberAt (coreWith n m made rows numbers l ls) j ≡ j + (made - maxCuts) + 1
+  unfolding numberAt coreWith dropped
+  number-cut h = rw (length-tab (rowAt n rows) 0 m, le-ltb j m h) (omega arith)
+
+-- ---- a reason: the three that are named are no constraint's number
+module _ (c : Core) (i : ℕ) (f : Constraint) (k : ℕ) where
+  resolve-cases : (a b d : Bool) → (a ≡ true → keptNumber c k ≡ none) → (b ≡ true → keptNumber c k ≡ none) → (d ≡ true → keptNumber c k ≡ none) →
+      resolveBy c i f (cond a domain (cond b decision (cond d flipped (constraint k)))) ≡ resolveKept (c .deepest .box) i f k (keptNumber c k)
+  unfolding resolveBy resolveKept
+  resolve-cases true b d p q r = rw (p refl)
+  resolve-cases false true d p q r = rw (q refl)
+  resolve-cases false false true p q r = rw (r refl)
+  resolve-cases false false false p q r = refl
+
+pub reason-resolves : (n m made : ℕ) (rows : List ℤ) (numbers : List ℕ) (l : Level) (ls : List Level) (i : ℕ) (f : Constraint) (reason j : ℕ) → m ≤ maxConstraints → made ≤ maxBudget → PositionOf m made reason j →
+    resolveBy (coreWith n m made rows numbers l ls) i f (reasonOf reason) ≡ resolveKept (l .box) i f reason (constraintIn n rows j)
+unfolding reasonOf coreWith
+reason-resolves n m made rows numbers l ls i f reason j few budget p =
+    let c = coreWith n m made rows numbers l ls in
+    let beyond : m + made < reason → keptNumber c reason ≡ none = λ h. position-beyond m made reason h .found n rows numbers l ls ∙ at-absent n rows in
+    resolve-cases c i f reason (eqb reason domainReason) (eqb reason decisionReason) (eqb reason flippedReason)
+    (λ e. let z : reason ≡ 0 = eqb-true reason domainReason e in rw z (position-zero m made .found n rows numbers l ls ∙ at-absent n rows))
+    (λ e. beyond (omega (arith, eqb-true reason decisionReason e))) (λ e. beyond (omega (arith, eqb-true reason flippedReason e))) ∙
+    ap (resolveKept (l .box) i f reason) (p .found n rows numbers l ls)

@@ -1,0 +1,212 @@
+-- Analysis on the code's arrays: a row copied, F combined with a constraint, with a reason, and the loop over the variables.
+use Prim.Native.Nat.{ℕ, zero, suc, _+_, _-_, _≤_, _<_}
+use native.Mathlib.Omega.{arith}
+use native.Mathlib.Nat.{eq-or-lt-of-le}
+use mathlib.Core.Bool.{true, false}
+use mathlib.Core.List.{List, _∷_}
+use mathlib.Core.Logic.{⊎-elim}
+use mathlib.Core.Path.{_≡_, refl, sym, ap, _∙_, subst}
+use borrow.Author.Tests.{ltb-true}
+use lib.IntN.{ℤ, pos, negsuc}
+use lib.ListN.{getD, length, set, length-set, replicate}
+use lib.Signed.{ltZ}
+use lib.Seq.{getD-set-same, getD-set-other}
+use Rattle.model.specs.Lists.{tab}
+use Rattle.model.specs.Ranges.{maxVariables}
+use Rattle.model.specs.Constraint.{Constraint, Box, coefficientAt, falsified, resolvent, opposite, inRange}
+use Rattle.model.specs.File.{noConstraint}
+use Rattle.model.specs.Search.{noReasons, Level, Core, reasonsAt}
+use Rattle.model.specs.Conflict.{Resolved, unchanged, takeIf, resolveWith, resolveKept, usedReason, resolveAt, analyzeFrom, analyze}
+use Rattle.lists.proofs.Bools.{true-of, clash}
+use Rattle.lists.proofs.AllOf.{allOf-getD}
+use Rattle.lists.proofs.Tab.{length-tab, getD-tab, tab-ext, tab-end, tab-down}
+use Rattle.layout.specs.Rows.{rowLength, numberIn, constraintAt, rowAt, boxOf}
+use Rattle.state.specs.View.{reasonOf, reasonsIn, keptCuts, coreWith}
+use Rattle.analyze.specs.Position.{absent, constraintIn, PositionOf}
+use Rattle.analyze.specs.Analyzed.{Copied, Analyzable, Resolving, coreAt, analysisOf, Analyzed}
+use Rattle.analyze.proofs.Storing.{row-same}
+use Rattle.analyze.proofs.Positions.{reason-resolves, at-present, at-absent}
+
+-- ---- a row copied: the first i numbers
+pub record Copying (rows : List ℤ) (start i : ℕ) (row : List ℤ) : Type 0 where
+  pub size : length row ≡ rowLength
+  pub same : (k : ℕ) → k < i → getD row k (pos 0) ≡ getD rows (start + k) (pos 0)
+  pub rest : (k : ℕ) → i ≤ k → getD row k (pos 0) ≡ pos 0
+
+zeros : (n k : ℕ) → getD (replicate n (pos 0)) k (pos 0) ≡ pos 0
+zeros zero k = refl
+zeros (suc n) zero = refl
+zeros (suc n) (suc k) = zeros n k
+
+pub copy-none : (rows : List ℤ) (start : ℕ) → Copying rows start 0 (replicate rowLength (pos 0))
+copy-none rows start = record { size = refl; same = λ k h. absurd (omega arith); rest = λ k h. zeros rowLength k }
+
+pub copy-more : (rows : List ℤ) (start i : ℕ) (row : List ℤ) (v : ℤ) → i < rowLength → v ≡ getD rows (start + i) (pos 0) → Copying rows start i row → Copying rows start (i + 1) (set row i v)
+copy-more rows start i row v h e c =
+    record {
+      size = length-set row i v ∙ c .size;
+      same = λ k l.
+          ⊎-elim (λ (z : k ≡ i). rw z (getD-set-same row i v (pos 0) (omega (arith, c .size)) ∙ e))
+          (λ (t : k < i). getD-set-other row i k v (pos 0) (λ z. omega arith) ∙ c .same k t) (eq-or-lt-of-le {n = k} {m = i} (omega arith));
+      rest = λ k l. getD-set-other row i k v (pos 0) (λ z. omega arith) ∙ c .rest k (omega arith);
+    }
+
+pub copied : (n : ℕ) (rows : List ℤ) (start : ℕ) (row : List ℤ) → Copying rows start (n + 1) row → Copied n rows start row
+unfolding numberIn
+copied n rows start row c =
+    record {
+      size = c .size;
+      same = row-same n row rows 0 start (λ k h. ap (λ (i : ℕ). getD row i (pos 0)) (omega arith) ∙ c .same k (omega arith));
+      rest = λ i h. c .rest i (omega arith);
+    }
+
+-- ---- F combined with J, constraint number k: signs alike, the outcome out of range, the outcome not falsified, the outcome taken
+module _ (box : Box) (i : ℕ) (f : Constraint) (k : ℕ) (j : Constraint) where
+  pub with-alike : opposite (coefficientAt f i) (coefficientAt j i) ≡ false → resolveWith box i f k j ≡ record { cut = f; used = 0 }
+  unfolding resolveWith unchanged
+  with-alike o = rw o
+
+  module _ (g : Constraint) (o : opposite (coefficientAt f i) (coefficientAt j i) ≡ true) (e : g ≡ resolvent i f j) where
+    with-outcome : resolveWith box i f k j ≡ takeIf box f k g
+    unfolding resolveWith
+    with-outcome = rw (o, e)
+
+    pub with-large : inRange g ≡ false → resolveWith box i f k j ≡ record { cut = f; used = 0 }
+    unfolding takeIf unchanged
+    with-large r = with-outcome ∙ rw r
+
+    pub with-holding : inRange g ≡ true → falsified g box ≡ false → resolveWith box i f k j ≡ record { cut = f; used = 0 }
+    unfolding takeIf unchanged
+    with-holding r t = with-outcome ∙ rw (r, t)
+
+    pub with-taken : inRange g ≡ true → falsified g box ≡ true → resolveWith box i f k j ≡ record { cut = g; used = k }
+    unfolding takeIf unchanged
+    with-taken r t = with-outcome ∙ rw (r, t)
+
+-- ---- F combined with the reason at variable i
+pub position-most : {n m made : ℕ} {rows lower upper : List ℤ} {j : ℕ} → Analyzable n m made rows lower upper → j < m + keptCuts made → j < absent
+unfolding keptCuts
+position-most a h = omega (arith, a .inputs)
+
+pub kept-range : (n m made : ℕ) (rows lower upper : List ℤ) (j : ℕ) → Analyzable n m made rows lower upper → j < m + keptCuts made → inRange (rowAt n rows j) ≡ true
+kept-range n m made rows lower upper j a h =
+    let count = m + keptCuts made in
+    rw (getD-tab (rowAt n rows) count j noConstraint h) at
+    (allOf-getD inRange (tab (rowAt n rows) 0 count) j noConstraint (true-of _ (a .rows-range)) (rw (length-tab (rowAt n rows) 0 count) h))
+
+pub resolving : (n m made : ℕ) (rows lower upper f : List ℤ) (j : ℕ) → Analyzable n m made rows lower upper → inRange (constraintAt n f 0) ≡ true → j < absent → j < m + keptCuts made → Resolving n rows lower upper f j
+resolving n m made rows lower upper f j a r p h =
+    record {
+      variables = a .variables;
+      rows-size = a .rows-size;
+      lower-size = a .lower-size;
+      upper-size = a .upper-size;
+      position = p;
+      first-range = r;
+      second-range = kept-range n m made rows lower upper j a h;
+      box-range = a .box-range;
+    }
+
+module _ (n m made : ℕ) (rows lower upper : List ℤ) (below above numbers : List ℕ) (decided : ℕ) (outer : List Level) where
+  abbrev here : Core
+  here = coreAt n m made rows lower upper below above numbers decided outer
+
+  module _ (a : Analyzable n m made rows lower upper) (i : ℕ) (l : i < n) (f : Constraint) (reason j : ℕ)
+      (e : reasonOf reason ≡ usedReason (coefficientAt f i) (reasonsIn below above i)) (p : PositionOf m made reason j) where
+    at-reason : resolveAt here i f ≡ resolveKept (boxOf n lower upper) i f reason (constraintIn n rows j)
+    unfolding resolveAt reasonsAt coreWith
+    at-reason =
+        rw (getD-tab (reasonsIn below above) n i noReasons l, ← e)
+        (reason-resolves n m made rows numbers (record { box = boxOf n lower upper; reasons = tab (reasonsIn below above) 0 n; decided = decided }) outer i f reason j (a .inputs) (a .cuts) p)
+
+    pub resolve-none : j ≡ absent → resolveAt here i f ≡ record { cut = f; used = 0 }
+    unfolding resolveKept unchanged
+    resolve-none z = at-reason ∙ rw (z, at-absent n rows)
+
+    pub resolve-some : j < absent → resolveAt here i f ≡ resolveWith (boxOf n lower upper) i f reason (rowAt n rows j)
+    unfolding resolveKept
+    resolve-some h = at-reason ∙ rw (at-present n rows j h)
+
+-- ---- the loop, from variable n − 1 down: F and what was used from variable i on
+pub record Analyzing (n m made : ℕ) (rows lower upper : List ℤ) (below above : List ℕ) (first : Constraint) (i : ℕ) (f : List ℤ) (used : List ℕ) : Type 0 where
+  pub most : i ≤ n
+  pub ahead : (numbers : List ℕ) (decided : ℕ) (outer : List Level) →
+      analyze (coreAt n m made rows lower upper below above numbers decided outer) first ≡
+      analyzeFrom (coreAt n m made rows lower upper below above numbers decided outer) i (constraintAt n f 0) (tab (λ k. getD used k 0) i (n - i))
+  pub range : inRange (constraintAt n f 0) ≡ true
+  pub row : length f ≡ rowLength
+  pub size : length used ≡ maxVariables
+  pub rest : (k : ℕ) → n ≤ k → getD used k 0 ≡ 0
+
+no-numbers : (n k : ℕ) → _≡_ {A = ℕ} (getD (replicate n 0) k 0) 0
+no-numbers zero k = refl
+no-numbers (suc n) zero = refl
+no-numbers (suc n) (suc k) = no-numbers n k
+
+module _ (n m made : ℕ) (rows lower upper : List ℤ) (below above : List ℕ) (first : Constraint) where
+  pub analysis-start : (f : List ℤ) → constraintAt n f 0 ≡ first → inRange first ≡ true → length f ≡ rowLength → Analyzing n m made rows lower upper below above first n f (replicate maxVariables 0)
+  unfolding analyze coreWith
+  analysis-start f e r h =
+      record {
+        most = omega arith;
+        ahead = λ numbers decided outer. rw (e, tab-end {A = ℕ} (λ k. getD (replicate maxVariables 0) k 0) n n (omega arith));
+        range = rw e r;
+        row = h;
+        size = refl;
+        rest = λ k l. no-numbers maxVariables k;
+      }
+
+  pub analysis-step : (i : ℕ) (f g : List ℤ) (used : List ℕ) (number : ℕ) → n ≤ maxVariables → 0 < i →
+      ((numbers : List ℕ) (decided : ℕ) (outer : List Level) → resolveAt (coreAt n m made rows lower upper below above numbers decided outer) (i - 1) (constraintAt n f 0) ≡ record { cut = constraintAt n g 0; used = number }) →
+      inRange (constraintAt n g 0) ≡ true → length g ≡ rowLength → Analyzing n m made rows lower upper below above first i f used →
+      Analyzing n m made rows lower upper below above first (i - 1) g (set used (i - 1) number)
+  analysis-step i f g used number few p e r w a =
+      let b = a .most in
+      record {
+        most = omega arith;
+        ahead = λ numbers decided outer.
+            a .ahead numbers decided outer ∙
+            ap (analyzeFrom (coreAt n m made rows lower upper below above numbers decided outer) i (constraintAt n f 0))
+            (tab-ext (λ k. getD used k 0) (λ k. getD (set used (i - 1) number) k 0) i (n - i) (λ k l h. sym (getD-set-other used (i - 1) k number 0 (λ z. omega arith)))) ∙
+            down (coreAt n m made rows lower upper below above numbers decided outer) n i (constraintAt n f 0) (constraintAt n g 0) number (λ k. getD (set used (i - 1) number) k 0) p b (e numbers decided outer)
+            (getD-set-same used (i - 1) number 0 (omega (arith, a .size)));
+        range = r;
+        row = w;
+        size = length-set used (i - 1) number ∙ a .size;
+        rest = λ k h. getD-set-other used (i - 1) k number 0 (λ z. omega arith) ∙ a .rest k h;
+      }
+    where
+      next : (c : Core) (i : ℕ) (f g : Constraint) (number : ℕ) (used : List ℕ) → resolveAt c i f ≡ record { cut = g; used = number } → analyzeFrom c (suc i) f used ≡ analyzeFrom c i g (number ∷ used)
+      next c i f g number used e = unfold analyzeFrom in ap (λ (r : Resolved). analyzeFrom c i (r .cut) (r .used ∷ used)) e
+
+      down : (c : Core) (n i : ℕ) (f g : Constraint) (number : ℕ) (u : ℕ → ℕ) → 0 < i → i ≤ n → resolveAt c (i - 1) f ≡ record { cut = g; used = number } → u (i - 1) ≡ number →
+          analyzeFrom c i f (tab u i (n - i)) ≡ analyzeFrom c (i - 1) g (tab u (i - 1) (n - (i - 1)))
+      down c n i f g number u p b e q =
+          let d : suc (i - 1) ≡ i = omega arith in
+          subst (λ (x : ℕ). analyzeFrom c x f (tab u i (n - i)) ≡ analyzeFrom c (i - 1) g (tab u (i - 1) (n - (i - 1)))) d
+          (next c (i - 1) f g number (tab u i (n - i)) e ∙ rw (tab-down u n i p b, q))
+
+  pub analysis-end : (j : ℕ) (f cut : List ℤ) (used : List ℕ) → first ≡ rowAt n rows j → Analyzing n m made rows lower upper below above first 0 f used → Copied n f 0 cut →
+      Analyzed n m made rows lower upper below above j (record { cut = cut; used = used })
+  unfolding analyzeFrom analysisOf
+  analysis-end j f cut used z a c =
+      let s : n - 0 ≡ n = omega arith in
+      record {
+        analysis = λ numbers decided outer. rw (z, s, ← c .same) at (a .ahead numbers decided outer);
+        range = rw (c .same) (a .range);
+        cut-size = c .size;
+        cut-rest = c .rest;
+        used-size = a .size;
+        used-rest = a .rest;
+      }
+
+-- ---- the reason that the code reads
+pub reason-negative : (a : ℤ) (below above : ℕ) → ltZ a (pos 0) ≡ true → reasonOf above ≡ usedReason a (record { lower = reasonOf below; upper = reasonOf above })
+unfolding usedReason
+reason-negative (pos a) below above e = absurd (omega (arith, ltb-true a 0 e))
+reason-negative (negsuc a) below above e = refl
+
+pub reason-positive : (a : ℤ) (below above : ℕ) → ltZ a (pos 0) ≡ false → reasonOf below ≡ usedReason a (record { lower = reasonOf below; upper = reasonOf above })
+unfolding usedReason
+reason-positive (pos a) below above e = refl
+reason-positive (negsuc a) below above e = clash refl e

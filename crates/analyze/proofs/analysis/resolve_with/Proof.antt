@@ -1,0 +1,160 @@
+-- `analyze::analysis::resolve_with` meets its contract: signs alike, an outcome out of range, one that is not falsified, and one that is taken. Assumes nothing.
+use Prim.Native.Nat.{_+_, _*_}
+use native.Mathlib.Omega.{arith}
+use mathlib.Core.Path.{_≡_, refl, ap₂, sym, _∙_}
+use mathlib.Core.Bool.{true}
+use borrow.Author.Tests.{not-true, not-false}
+use borrow.Author.Needs.{needs}
+use denote.Ref.{now}
+use Rattle.model.specs.Constraint.{Constraint, coefficientAt, opposite, inRange}
+use Rattle.lists.proofs.Bools.{true-of}
+use Rattle.layout.specs.Rows.{rowLength, constraintAt, rowAt}
+use Rattle.layout.proofs.Rows.{coefficient-at}
+use Rattle.layout.proofs.Elements.{cell-read}
+use Rattle.linear.proofs.Ranges.{row-fits, box-fits}
+use Rattle.analyze.proofs.Resolvents.{with-alike, with-large, with-holding, with-taken}
+use Rattle.analyze.proofs.analysis.resolve_with.Statement.{statement}
+use Rattle.analyze.proofs.analysis.resolve_with.Tie as tie
+
+mul-start : tie.Need-mul-start
+mul-start c = search needs
+
+add-is-opposite : tie.Need-add-is-opposite
+add-is-opposite c = search needs
+
+mul-is-opposite : tie.Need-mul-is-opposite
+mul-is-opposite c = search needs
+
+array-copy-out-is-opposite : tie.Need-array-copy-out-is-opposite
+array-copy-out-is-opposite c = search needs
+
+add-is-opposite-2 : tie.Need-add-is-opposite-2
+add-is-opposite-2 c = search needs
+
+add-is-opposite-3 : tie.Need-add-is-opposite-3
+add-is-opposite-3 c = search needs
+
+mul-is-opposite-2 : tie.Need-mul-is-opposite-2
+mul-is-opposite-2 c = search needs
+
+element-copy-out-is-opposite : tie.Need-element-copy-out-is-opposite
+element-copy-out-is-opposite c = search needs
+
+is-opposite-requires : tie.Need-is-opposite-requires
+is-opposite-requires c κs = search needs
+
+-- ---- the signs of F's and J's coefficients
+module _ (c : tie.After-is-opposite) where
+  abbrev at-start : tie.Start
+  at-start = c .before .before .before
+
+  abbrev F : Constraint
+  F = constraintAt (at-start .args .n) (at-start .args .t1) 0
+
+  abbrev J : Constraint
+  J = rowAt (at-start .args .n) (at-start .args .rows .now) (at-start .args .j)
+
+  signs : opposite (coefficientAt F (at-start .args .i)) (coefficientAt J (at-start .args .i)) ≡ c .is-opposite .result
+  unfolding rowAt
+  signs =
+      let s = at-start .args in
+      let start = rowLength * s .j in
+      let f = cell-read (s .t1) 0 (s .i) (s .i + 1) (omega arith) (c .before .before .is-opposite-arg .given) ∙ sym (coefficient-at (s .n) (s .t1) 0 (s .i) (at-start .pre .0)) in
+      let j = cell-read (s .rows .now) start (s .i) (start + 1 + s .i) refl (c .before .is-opposite-arg2 .given) ∙ sym (coefficient-at (s .n) (s .rows .now) start (s .i) (at-start .pre .0)) in
+      sym (c .is-opposite .ensures ∙ ap₂ opposite f j)
+
+-- ---- the outcome
+module _ (c : tie.After-is-in-range) where
+  abbrev signed : tie.After-is-opposite
+  signed = c .before .before .before .before .before .before
+
+  abbrev outcome : Constraint
+  outcome = constraintAt (at-start signed .args .n) (c .before .before .resolve .result) 0
+
+  opposite-signs : opposite (coefficientAt (F signed) (at-start signed .args .i)) (coefficientAt (J signed) (at-start signed .args .i)) ≡ true
+  opposite-signs = signs signed ∙ not-false _ (c .before .before .before .before .before .if1 .left)
+
+outcome-range : (c : tie.Else2) → inRange (outcome (c .before)) ≡ true
+outcome-range c = sym (c .before .is-in-range .ensures) ∙ not-false _ (c .if2 .left)
+
+returns : tie.Need-returns
+returns c = record { same = with-alike _ _ _ _ _ (signs (c .before) ∙ not-true _ (c .if1 .taken)); range = c .before .before .before .before .pre .1 .first-range }
+
+slice-aggregate-resolve : tie.Need-slice-aggregate-resolve
+slice-aggregate-resolve c = search needs
+
+resolve-requires : tie.Need-resolve-requires
+unfolding rowAt
+resolve-requires c κs =
+    let s = c .before .before .before .before .before .before in
+    let q = s .pre .1 in
+    record {
+      variable = s .pre .0;
+      combinable = record { variables = q .variables; first-row = search needs; second-row = omega (arith, q .position, q .rows-size); first-range = q .first-range; second-range = q .second-range };
+      signs = signs (c .before .before .before) ∙ not-false _ (c .before .before .if1 .left);
+    }
+
+slice-aggregate-is-in-range : tie.Need-slice-aggregate-is-in-range
+slice-aggregate-is-in-range c = search needs
+
+is-in-range-requires : tie.Need-is-in-range-requires
+is-in-range-requires c κs = search needs
+
+returns-2 : tie.Need-returns-2
+unfolding rowAt
+returns-2 c =
+    let s = c .before .before .before .before .before .before .before .before .before .before in
+    record {
+      same = with-large _ _ _ _ _ (outcome (c .before)) (opposite-signs (c .before)) (c .before .before .before .resolve .ensures) (sym (c .before .is-in-range .ensures) ∙ not-true _ (c .if2 .taken));
+      range = s .pre .1 .first-range;
+    }
+
+slice-aggregate-is-falsified : tie.Need-slice-aggregate-is-falsified
+slice-aggregate-is-falsified c = search needs
+
+is-falsified-requires : tie.Need-is-falsified-requires
+is-falsified-requires c κs =
+    let q = c .before .before .before .before .before .before .before .before .before .before .before .before .before .pre .1 in
+    (row-fits _ _ 0 (q .variables) (search needs) (search (q .first-range, outcome-range (c .before .before .before))), box-fits _ _ _ (true-of _ (q .box-range)) (omega (arith, q .variables, q .lower-size)) (omega (arith, q .variables, q .upper-size)))
+
+returns-3 : tie.Need-returns-3
+unfolding rowAt
+returns-3 c =
+    let r = c .before .before .before .before .before .before in
+    record {
+      same = with-holding _ _ _ _ _ (outcome r) (opposite-signs r) (r .before .before .resolve .ensures) (outcome-range (c .before .before .before .before .before)) (sym (c .before .is-falsified .ensures) ∙ not-true _ (c .if3 .taken));
+      range = c .before .before .before .before .before .before .before .before .before .before .before .before .before .before .before .pre .1 .first-range;
+    }
+
+returns-4 : tie.Need-returns-4
+unfolding rowAt
+returns-4 c =
+    let r = c .before .before .before .before .before .before in
+    record {
+      same = with-taken _ _ _ _ _ (outcome r) (opposite-signs r) (r .before .before .resolve .ensures) (outcome-range (c .before .before .before .before .before)) (sym (c .before .is-falsified .ensures) ∙ not-false _ (c .if3 .left));
+      range = outcome-range (c .before .before .before .before .before);
+    }
+
+pub resolve-with-spec : {M : Type 1} → statement M
+resolve-with-spec =
+    tie.close
+    (tie.spec
+    mul-start
+    add-is-opposite
+    mul-is-opposite
+    array-copy-out-is-opposite
+    add-is-opposite-2
+    add-is-opposite-3
+    mul-is-opposite-2
+    element-copy-out-is-opposite
+    is-opposite-requires
+    returns
+    slice-aggregate-resolve
+    resolve-requires
+    slice-aggregate-is-in-range
+    is-in-range-requires
+    returns-2
+    slice-aggregate-is-falsified
+    is-falsified-requires
+    returns-3
+    returns-4)

@@ -1,0 +1,143 @@
+// Analysis of a 'dead end': F starts as a false kept constraint and is combined, variable by variable, with the constraints that set the bounds
+// which its lowest value uses. The last F is the cut.
+use crate::ROW;
+use crate::lookup::ABSENT;
+use crate::lookup::position_of;
+use linear::activity::is_falsified;
+use linear::compare::is_in_range;
+use linear::resolving::is_opposite;
+use linear::resolving::resolve;
+ghost use mathlib.Core.Bool.{true};
+ghost use mathlib.Core.List.{List};
+ghost use mathlib.Core.Path.{_≡_};
+ghost use Prim.Native.Nat.{ℕ, _+_, _*_, _≤_, _<_};
+ghost use lib.ListN.{length};
+ghost use Rattle.model.specs.Ranges.{maxVariables};
+ghost use Rattle.model.specs.Constraint.{inRange};
+ghost use Rattle.model.specs.Search.{Level};
+ghost use Rattle.model.specs.Conflict.{usedReason, resolveWith, resolveAt};
+ghost use Rattle.layout.specs.Rows.{constraintAt, rowAt, boxOf};
+ghost use Rattle.state.specs.View.{reasonOf, keptCuts};
+ghost use Rattle.analyze.specs.Analyzed.{Copied, Analyzable, Resolving, coreAt, ResolvedAs, Analyzed};
+
+// F after a variable, and the number of the constraint taken in there, 0 for none.
+pub struct Resolved {
+    pub cut: [i64; 33],
+    pub used: usize,
+}
+
+// The cut, and for each variable the number of the constraint taken in, 0 for none.
+pub struct Analysis {
+    pub cut: [i64; 33],
+    pub used: [usize; 32],
+}
+
+// The row of n variables at `start`, with 0 past them.
+fn copy_row(rows: &[i64], start: usize, n: usize) -> [i64; 33]
+    requires { ⌜ (n ≤ maxVariables) × (start + n < length (now rows)) ⌝ }
+    ensures { λ r. ⌜ Copied n (now (rows .entry)) start r ⌝ }
+{
+    let mut row = [0i64; 33];
+    let mut i: usize = 0;
+    while i <= n {
+        row[i] = rows[start + i];
+        i += 1;
+    }
+    row
+}
+
+// The reason of the bound that the lowest value uses at coefficient a.
+fn used_reason(a: i64, below: usize, above: usize) -> usize
+    ensures { λ r. ⌜ reasonOf r ≡ usedReason a (record { lower = reasonOf below; upper = reasonOf above }) ⌝ }
+{
+    if a < 0 {
+        return above;
+    }
+    below
+}
+
+// F combined at variable i with the kept constraint in row j, which has this number, if the signs are opposite and the outcome may be taken. The
+// outcome's range is tested first: only in range does its lowest value fit.
+fn resolve_with<'a>(
+    f: [i64; 33],
+    rows: &'a [i64; 4224],
+    lower: &'a [i64; 32],
+    upper: &'a [i64; 32],
+    n: usize,
+    i: usize,
+    j: usize,
+    number: usize,
+) -> Resolved
+    requires { ⌜ (i < n) × Resolving n (now rows) (now lower) (now upper) f j ⌝ }
+    ensures { λ r. ⌜ ResolvedAs n (resolveWith (boxOf n (now (lower .entry)) (now (upper .entry))) i (constraintAt n f 0) number (rowAt n (now (rows .entry)) j)) r ⌝ }
+{
+    let start = ROW * j;
+    if !is_opposite(f[i + 1], rows[start + 1 + i]) {
+        return Resolved { cut: f, used: 0 };
+    }
+    let g = resolve(&f, 0, rows, start, i, n);
+    if !is_in_range(&g, 0, n) {
+        return Resolved { cut: f, used: 0 };
+    }
+    if !is_falsified(&g, 0, lower, upper, n) {
+        return Resolved { cut: f, used: 0 };
+    }
+    Resolved {
+        cut: g,
+        used: number,
+    }
+}
+
+// F combined at variable i with the reason of the bound that it uses there, if that is a kept constraint.
+fn resolve_at<'a>(
+    f: [i64; 33],
+    rows: &'a [i64; 4224],
+    lower: &'a [i64; 32],
+    upper: &'a [i64; 32],
+    below: &'a [usize; 32],
+    above: &'a [usize; 32],
+    n: usize,
+    m: usize,
+    made: usize,
+    i: usize,
+) -> Resolved
+    requires { ⌜ (i < n) × ((Analyzable n m made (now rows) (now lower) (now upper)) × (inRange (constraintAt n f 0) ≡ true)) ⌝ }
+    ensures { λ r. ⌜ ((numbers : List ℕ) (decided : ℕ) (outer : List Level) → ResolvedAs n (resolveAt (coreAt n m made (now (rows .entry)) (now (lower .entry)) (now (upper .entry)) (now (below .entry)) (now (above .entry)) numbers decided outer) i (constraintAt n f 0)) r) ⌝ }
+{
+    let reason = used_reason(f[i + 1], below[i], above[i]);
+    let j = position_of(m, made, reason);
+    if j == ABSENT {
+        return Resolved { cut: f, used: 0 };
+    }
+    resolve_with(f, rows, lower, upper, n, i, j, reason)
+}
+
+// The 'cut' of the dead end at the kept constraint in row j, and what was taken in.
+pub fn analyze<'a>(
+    rows: &'a [i64; 4224],
+    lower: &'a [i64; 32],
+    upper: &'a [i64; 32],
+    below: &'a [usize; 32],
+    above: &'a [usize; 32],
+    n: usize,
+    m: usize,
+    made: usize,
+    j: usize,
+) -> Analysis
+    requires { ⌜ (Analyzable n m made (now rows) (now lower) (now upper)) × (j < m + keptCuts made) ⌝ }
+    ensures { λ r. ⌜ Analyzed n m made (now (rows .entry)) (now (lower .entry)) (now (upper .entry)) (now (below .entry)) (now (above .entry)) j r ⌝ }
+{
+    let mut f = copy_row(rows, ROW * j, n);
+    let mut used = [0usize; 32];
+    let mut i = n;
+    while 0 < i {
+        i -= 1;
+        let r = resolve_at(f, rows, lower, upper, below, above, n, m, made, i);
+        let g = r.cut;
+        f = g;
+        let k = r.used;
+        used[i] = k;
+    }
+    let cut = copy_row(&f, 0, n);
+    Analysis { cut, used }
+}

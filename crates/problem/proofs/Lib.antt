@@ -1,0 +1,10 @@
+-- Laws of the groups of functions, and the two round trips.
+pub mod Ranges
+pub mod FileTests
+pub mod Arrays
+pub mod Views
+pub mod Cascade
+pub mod Writing
+pub mod WriteCascade
+pub mod Numbers
+pub mod RoundTrips

@@ -1,0 +1,93 @@
+-- The two round trips, in the words of the contracts of `read` and `write`. What `read` says of a file is `readingOf (readFile f)`; what `write` says is
+-- `written a s ≡ writeFile (problemOf p) b`, with the answer a, and the buffer's bytes b before and s after the call.
+use Prim.Native.Nat.{ℕ, zero, suc, _*_, _≤_}
+use mathlib.Core.Path.{_≡_, refl, sym, ap, _∙_}
+use mathlib.Core.List.{List, _++_}
+use lib.Dec.{T}
+use lib.ListN.{take, drop, length}
+use lib.Seq.{take-at}
+use borrow.Author.Tests.{eq-eqb}
+use Rattle.model.specs.Bytes.{Bytes}
+use Rattle.model.specs.File.{Written, problemIn, readError, readFile, fileOf, fileLength, writeError, writtenBy, writeFile}
+use Rattle.model.specs.Lists.{allOf}
+use Rattle.model.specs.Problem.{variables}
+use Rattle.model.specs.Validity.{constraintShaped}
+use Rattle.lists.proofs.All.{all-of}
+use Rattle.lists.proofs.AllOf.{allOf-tab}
+use Rattle.lists.proofs.Bools.{true-of, T-of}
+use Rattle.format.proofs.AcceptedShape.{sizes}
+use Rattle.format.proofs.BufferKept.{length-written}
+use Rattle.format.proofs.Errors.{result-ok}
+use Rattle.format.proofs.FileIsWritten.{read-then-written}
+use Rattle.format.proofs.WrittenIsRead.{writable, written-is-read}
+use Rattle.layout.proofs.Rows.{length-box, length-coefficients}
+use Rattle.layout.specs.Rows.{rowLength, rowAt}
+use Rattle.problem.specs.declared.Answer.{Answer}
+use Rattle.problem.specs.declared.Answer.the-variants.{Done}
+use Rattle.problem.specs.declared.Problem.{Problem}
+use Rattle.problem.specs.declared.Reading.{Reading}
+use Rattle.problem.specs.Answer.{number, answerOf, answers, written}
+use Rattle.problem.specs.View.{problemOf, packed, readingOf}
+use Rattle.problem.proofs.Numbers.{answer-of, reading-number}
+use Rattle.problem.proofs.Views.{view-of-packed, view-of-accepted}
+
+-- ---- a file that `read` accepts, written into a buffer with room for it, stands there as it was, and the bytes after it are kept
+module _ (f : List ℕ) (r : Reading) (reads : r ≡ readingOf (readFile f)) (accepted : r .answer ≡ Done) where
+  no-error : readError f ≡ 0
+  unfolding number
+  no-error = sym (reading-number f) ∙ ap (λ (q : Reading). number (q .answer)) (sym reads) ∙ ap number accepted
+
+  problem-read : problemOf (r .problem) ≡ problemIn f
+  unfolding readFile readingOf
+  problem-read =
+      let e : r ≡ record { answer = Done; problem = packed (problemIn f) } = reads ∙ ap readingOf (result-ok (problemIn f) no-error) in
+      ap (λ (q : Reading). problemOf (q .problem)) e ∙ view-of-accepted f no-error
+
+  pub file-read-then-written : Bytes f → (b : List ℕ) → length f ≤ length b → (a : Answer) (s : List ℕ) → written a s ≡ writeFile (problemOf (r .problem)) b →
+      (a ≡ Done) × (s ≡ f ++ drop (length f) b)
+  unfolding written answerOf answers
+  file-read-then-written y b l a s w =
+      let e : written a s ≡ record { number = 0; buffer = f ++ drop (length f) b } = w ∙ rw problem-read (read-then-written f y no-error b l) in
+      (sym (answer-of a) ∙ ap (λ (q : Written). answerOf (q .number)) e, ap (λ (q : Written). q .buffer) e)
+
+-- ---- a problem that `write` accepts, read from the bytes that were written, is the problem with zeros past its last variable and its last constraint
+rows-shaped : (p : Problem) → T (allOf (constraintShaped (variables (problemOf p))) (problemOf p .constraints))
+unfolding problemOf variables constraintShaped rowAt
+rows-shaped p =
+    rw (length-box (p .n) (p .lower) (p .upper))
+    (T-of (allOf-tab (constraintShaped (p .n)) (rowAt (p .n) (p .constraints)) 0 (p .m) ∙
+    all-of (λ j. constraintShaped (p .n) (rowAt (p .n) (p .constraints) j)) (p .m)
+    (λ j l. eq-eqb _ _ (length-coefficients (p .n) (p .constraints) (rowLength * j)))))
+
+module _ (p : Problem) (b : List ℕ) (a : Answer) (s : List ℕ) (writes : written a s ≡ writeFile (problemOf p) b) (accepted : a ≡ Done) where
+  number-is : writtenBy (writeError (problemOf p) (length b)) (problemOf p) b .number ≡ 0
+  unfolding writeFile written number
+  number-is = ap (λ (q : Written). q .number) (sym writes) ∙ ap number accepted
+
+  no-error-by : (e : ℕ) → writtenBy e (problemOf p) b .number ≡ 0 → e ≡ 0
+  unfolding writtenBy
+  no-error-by zero h = refl
+  no-error-by (suc e) h = h
+
+  writes-no-error : writeError (problemOf p) (length b) ≡ 0
+  writes-no-error = no-error-by (writeError (problemOf p) (length b)) number-is
+
+  bytes-are : s ≡ fileOf (problemOf p) ++ drop (fileLength (problemOf p)) b
+  unfolding written writeFile writtenBy
+  bytes-are = ap (λ (q : Written). q .buffer) writes ∙ rw writes-no-error
+
+  file-is : take (fileLength (problemOf p)) s ≡ fileOf (problemOf p)
+  file-is =
+      ap (take (fileLength (problemOf p))) bytes-are ∙
+      take-at (fileOf (problemOf p)) (drop (fileLength (problemOf p)) b) (fileLength (problemOf p)) (length-written (problemOf p) (length b) writes-no-error)
+
+  pub problem-written-then-read : (r : Reading) → r ≡ readingOf (readFile (take (fileLength (problemOf p)) s)) → r ≡ record { answer = Done; problem = packed (problemOf p) }
+  unfolding readingOf
+  problem-written-then-read r e = e ∙ rw file-is (ap readingOf (written-is-read (problemOf p) (length b) (rows-shaped p) writes-no-error))
+
+  -- and those arrays say what the problem's said
+  pub view-of-written : problemOf (packed (problemOf p)) ≡ problemOf p
+  view-of-written =
+      let z = sizes (problemOf p) (writable (problemOf p) (length b) writes-no-error .sized) in
+      view-of-packed (problemOf p) (z .few-variables) (z .few-constraints)
+      (true-of (allOf (constraintShaped (variables (problemOf p))) (problemOf p .constraints)) (rows-shaped p))

@@ -1,0 +1,77 @@
+-- The arrays of a problem say the problem, where they have room for it.
+use Prim.Native.Nat.{ℕ, suc, _+_, _*_, _/_, _%_, _<_, _≤_}
+use native.Mathlib.Omega.{arith}
+use mathlib.Core.Bool.{true}
+use mathlib.Core.Path.{_≡_, refl, sym, ap, ap₂, _∙_}
+use mathlib.Core.List.{List}
+use lib.IntN.{ℤ, pos}
+use lib.ListN.{getD, length}
+use borrow.Author.Tests.{eqb-true}
+use Rattle.model.specs.Constraint.{Constraint, Box, noBounds, coefficientAt, lowerAt, upperAt}
+use Rattle.model.specs.File.{noConstraint, problemIn, readError}
+use Rattle.model.specs.Lists.{tab, allOf}
+use Rattle.model.specs.Problem as model
+use Rattle.model.specs.Problem.{variables}
+use Rattle.model.specs.Ranges.{maxVariables, maxConstraints}
+use Rattle.model.specs.Validity.{constraintShaped}
+use Rattle.lists.proofs.AllOf.{allOf-getD}
+use Rattle.lists.proofs.Bools.{true-of}
+use Rattle.lists.proofs.Tab.{getD-tab, tab-is}
+use Rattle.format.proofs.AcceptedShape.{Sizes, sizes, tests, problem-shaped}
+use Rattle.layout.specs.Rows.{rowLength, numberIn, cell, constraintAt, rowAt, boundsAt, boxOf}
+use Rattle.problem.specs.View.{room, cells, problemOf, inRow, inRows, packed}
+
+-- ---- the domain
+module _ (box : Box) (few : length box ≤ room) where
+  bounds-are : (i : ℕ) → i < length box → getD box i noBounds ≡ boundsAt (tab (lowerAt box) 0 room) (tab (upperAt box) 0 room) i
+  unfolding boundsAt numberIn lowerAt upperAt
+  bounds-are i l =
+      sym (ap₂ (λ (a b : ℤ). record { lower = a; upper = b })
+      (getD-tab (lowerAt box) room i (pos 0) (omega arith)) (getD-tab (upperAt box) room i (pos 0) (omega arith)))
+
+  box-is : boxOf (length box) (tab (lowerAt box) 0 room) (tab (upperAt box) 0 room) ≡ box
+  unfolding boxOf
+  box-is = tab-is box (length box) (boundsAt (tab (lowerAt box) 0 room) (tab (upperAt box) 0 room)) noBounds refl bounds-are
+
+-- ---- the constraints
+module _ (ks : List Constraint) (j : ℕ) (h : j < maxConstraints) where
+  cell-at : (i : ℕ) → i < rowLength → numberIn (tab (inRows ks) 0 cells) (rowLength * j + i) ≡ inRow (getD ks j noConstraint) i
+  unfolding numberIn inRows
+  cell-at i l =
+      let d : (rowLength * j + i) / rowLength ≡ j = omega arith in
+      let r : (rowLength * j + i) % rowLength ≡ i = omega arith in
+      getD-tab (inRows ks) cells (rowLength * j + i) (pos 0) (omega arith) ∙ rw (d, r)
+
+  row-is : (n : ℕ) → n ≤ maxVariables → length (getD ks j noConstraint .coefficients) ≡ n → rowAt n (tab (inRows ks) 0 cells) j ≡ getD ks j noConstraint
+  unfolding rowAt constraintAt cell inRow coefficientAt
+  row-is n few e =
+      let k = getD ks j noConstraint in
+      let rows = tab (inRows ks) 0 cells in
+      let first : numberIn (tab (inRows ks) 0 cells) (rowLength * j) ≡ getD ks j noConstraint .constant = ap (numberIn rows) (omega arith) ∙ cell-at 0 (omega arith) in
+      let rest : tab (cell (tab (inRows ks) 0 cells) (rowLength * j)) 0 n ≡ getD ks j noConstraint .coefficients =
+      tab-is (k .coefficients) n (cell rows (rowLength * j)) (pos 0) e
+      (λ i l. sym (ap (numberIn rows) (omega arith) ∙ cell-at (suc i) (omega arith))) in
+      ap₂ (λ (c : ℤ) (cs : List ℤ). record { constant = c; coefficients = cs }) first rest
+
+-- ---- the problem
+module _ (p : model.Problem) (few : variables p ≤ maxVariables) (short : length (p .constraints) ≤ maxConstraints)
+    (shape : allOf (constraintShaped (variables p)) (p .constraints) ≡ true) where
+  constraints-are : tab (rowAt (variables p) (tab (inRows (p .constraints)) 0 cells)) 0 (length (p .constraints)) ≡ p .constraints
+  unfolding constraintShaped
+  constraints-are =
+      let ks = p .constraints in
+      tab-is ks (length ks) (rowAt (variables p) (tab (inRows ks) 0 cells)) noConstraint refl
+      (λ j l. sym (row-is ks j (omega arith) (variables p) few (eqb-true _ _ (allOf-getD (constraintShaped (variables p)) ks j noConstraint shape l))))
+
+  pub view-of-packed : problemOf (packed p) ≡ p
+  unfolding problemOf packed variables
+  view-of-packed = λ i. record { domain = box-is (p .domain) few i; constraints = constraints-are i; budget = p .budget }
+
+-- the problem of a file whose sizes are in range, and so of every accepted one
+pub view-of-file : (f : List ℕ) → Sizes (problemIn f) → problemOf (packed (problemIn f)) ≡ problemIn f
+view-of-file f s =
+    view-of-packed (problemIn f) (s .few-variables) (s .few-constraints)
+    (true-of (allOf (constraintShaped (variables (problemIn f))) (problemIn f .constraints)) (problem-shaped f))
+
+pub view-of-accepted : (f : List ℕ) → readError f ≡ 0 → problemOf (packed (problemIn f)) ≡ problemIn f
+view-of-accepted f e = view-of-file f (sizes (problemIn f) (tests f e .sized))

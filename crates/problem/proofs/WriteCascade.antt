@@ -1,0 +1,82 @@
+-- Writing, test by test: where one fails the answer is its error, and where all pass the file stands at the buffer's start.
+use Prim.Native.Nat.{ℕ, suc, _*_, _/_, _<_, _≤_}
+use native.Mathlib.Omega.{arith}
+use mathlib.Core.Bool.{Bool, true, false, not}
+use mathlib.Core.Path.{_≡_, refl}
+use mathlib.Core.List.{List, _++_}
+use lib.ListN.{drop, length}
+use borrow.Author.Tests.{lt-leb, le-leb}
+use Rattle.model.specs.Bytes.{blockLength}
+use Rattle.model.specs.File.{fileOf, fileLength, writeError, writtenBy, writeFile}
+use Rattle.model.specs.Problem.{variables, sizesInRange, domainInRange, constraintsInRange, firstError}
+use Rattle.model.specs.Ranges.{maxVariables, maxConstraints}
+use Rattle.lists.proofs.Tab.{length-tab}
+use Rattle.format.proofs.AcceptedShape.{Sizes, sizes}
+use Rattle.layout.proofs.Rows.{length-box}
+use Rattle.layout.specs.Rows.{rowAt}
+use Rattle.problem.specs.declared.Answer.the-variants.{Done, SizeRange, DomainRange, CoefficientRange, ShortBuffer}
+use Rattle.problem.specs.declared.Problem.{Problem}
+use Rattle.problem.specs.Answer.{number, written}
+use Rattle.problem.specs.Fields.{Writable}
+use Rattle.problem.specs.Sizes.{SizesTest}
+use Rattle.problem.specs.View.{problemOf}
+use Rattle.problem.proofs.Cascade.{pass, fail}
+
+module _ (p : Problem) where
+  variable-count : variables (problemOf p) ≡ p .n
+  unfolding variables problemOf
+  variable-count = length-box (p .n) (p .lower) (p .upper)
+
+  constraint-count : length (problemOf p .constraints) ≡ p .m
+  unfolding problemOf
+  constraint-count = length-tab (rowAt (p .n) (p .constraints)) 0 (p .m)
+
+  length-is : fileLength (problemOf p) ≡ blockLength * suc (p .m)
+  unfolding fileLength
+  length-is = rw constraint-count
+
+  -- the code's test of the three numbers
+  sizes-are : (r : Bool) → SizesTest (p .n) (p .m) (p .budget) r → r ≡ sizesInRange (problemOf p)
+  unfolding problemOf
+  sizes-are r t = t (problemOf p) variable-count constraint-count refl
+
+  pub sized : (r : Bool) → SizesTest (p .n) (p .m) (p .budget) r → not r ≡ false → sizesInRange (problemOf p) ≡ true
+  sized r t h = pass r (sizesInRange (problemOf p)) (sizes-are r t) h
+
+  module _ (t₄ : sizesInRange (problemOf p) ≡ true) where
+    in-range : Sizes (problemOf p)
+    in-range = sizes (problemOf p) t₄
+
+    pub variables-few : p .n ≤ maxVariables
+    variables-few = omega (arith, in-range .few-variables, variable-count)
+
+    pub constraints-few : p .m ≤ maxConstraints
+    constraints-few = omega (arith, in-range .few-constraints, constraint-count)
+
+    pub writable : (space : ℕ) → domainInRange (problemOf p) ≡ true → constraintsInRange (problemOf p) ≡ true → p .m < space / blockLength → Writable p space
+    writable space t₅ t₆ l =
+        record { few-variables = variables-few; few-constraints = constraints-few; bounded = t₅; light = t₆; long = omega arith }
+
+module _ (p : Problem) (b : List ℕ) where
+  pub size-range : (r : Bool) → SizesTest (p .n) (p .m) (p .budget) r → not r ≡ true → written SizeRange b ≡ writeFile (problemOf p) b
+  unfolding written number writeFile writeError writtenBy firstError
+  size-range r t h = rw (fail r (sizesInRange (problemOf p)) (sizes-are p r t) h)
+
+  module _ (t₄ : sizesInRange (problemOf p) ≡ true) where
+    pub domain-range : (r : Bool) → r ≡ domainInRange (problemOf p) → not r ≡ true → written DomainRange b ≡ writeFile (problemOf p) b
+    unfolding written number writeFile writeError writtenBy firstError
+    domain-range r e h = rw (t₄, fail r (domainInRange (problemOf p)) e h)
+
+    module _ (t₅ : domainInRange (problemOf p) ≡ true) where
+      pub coefficient-range : (r : Bool) → r ≡ constraintsInRange (problemOf p) → not r ≡ true → written CoefficientRange b ≡ writeFile (problemOf p) b
+      unfolding written number writeFile writeError writtenBy firstError
+      coefficient-range r e h = rw (t₄, t₅, fail r (constraintsInRange (problemOf p)) e h)
+
+      module _ (t₆ : constraintsInRange (problemOf p) ≡ true) where
+        pub short-buffer : length b / blockLength ≤ p .m → written ShortBuffer b ≡ writeFile (problemOf p) b
+        unfolding written number writeFile writeError writtenBy firstError
+        short-buffer h = rw (t₄, t₅, t₆, length-is p, lt-leb (blockLength * suc (p .m)) (length b) (omega arith))
+
+        pub done : (s : List ℕ) → p .m < length b / blockLength → s ≡ fileOf (problemOf p) ++ drop (fileLength (problemOf p)) b → written Done s ≡ writeFile (problemOf p) b
+        unfolding written number writeFile writeError writtenBy firstError
+        done s l e = rw (t₄, t₅, t₆, e, le-leb (fileLength (problemOf p)) (length b) (omega (arith, length-is p)))

@@ -1,0 +1,186 @@
+-- The fields that the code puts one after the other are a block's content, and the blocks are the file.
+use Prim.Native.Nat.{ℕ, suc, _+_, _*_, _^_, _-_, _<_, _≤_}
+use native.Mathlib.Omega.{arith}
+use native.Mathlib.Numerals.{add-one}
+use mathlib.Core.Bool.{true}
+use mathlib.Core.Path.{_≡_, refl, sym, ap, _∙_}
+use mathlib.Core.List.{List, _++_, append-assoc, append-nil}
+use lib.IntN.{ℤ, pos}
+use lib.ListN.{getD, take, drop, length, length-append, length-drop}
+use lib.Seq.{length-take-le}
+use mir.Syntax.{w64}
+use mir.Val.{SFits, toZ, ofZ}
+use mir.Facts.{toZ-ofZ}
+use borrow.Rule.Slice.PartMut.{putMid}
+use Rattle.model.specs.Bytes.{u16Bytes, u32Bytes, i32Bytes, blockLength, checkOffset, sealed}
+use Rattle.model.specs.Constraint.{inRange}
+use Rattle.model.specs.File.{magic, boundsOffset, boundsBytes, headBytes, coefficientBytes, constraintBytes, noConstraint, blockOf, fileOf, fileLength}
+use Rattle.model.specs.Lists.{tab, parts, all}
+use Rattle.model.specs.Problem.{variables, boundsInRange, domainInRange, constraintsInRange}
+use Rattle.model.specs.Ranges.{within, maxVariables, maxBound, maxCoefficient}
+use Rattle.integer.specs.Size.{Within}
+use Rattle.lists.proofs.All.{all-at}
+use Rattle.lists.proofs.Bools.{and-true}
+use Rattle.lists.proofs.Parts.{parts-append}
+use Rattle.lists.proofs.Tab.{length-tab, getD-tab}
+use Rattle.format.proofs.Within.{within-natAbs}
+use Rattle.layout.proofs.Rows.{length-box, lower-at, upper-at, coefficient-at}
+use Rattle.layout.specs.Rows.{rowLength, numberIn, cell, constraintAt, rowAt, boundsAt}
+use Rattle.block.proofs.Placing.{then, none-placed, more-placed, part-placed}
+use Rattle.block.proofs.Sealing.{sealed-content}
+use Rattle.block.specs.Placed.{Placed, cleared}
+use Rattle.problem.specs.declared.Problem.{Problem}
+use Rattle.problem.specs.View.{problemOf}
+use Rattle.problem.proofs.FileTests.{magicNumber, magic-bytes}
+use Rattle.problem.proofs.Ranges.{boundsTest, domain-is, cellTest, constraint-is, rowTest, constraints-are}
+
+-- a number that passed its test has room in 32 bits, as the machine reads it back
+within-back : (b : ℕ) (z : ℤ) → b ≤ 2 ^ 30 → SFits w64 z → within b z ≡ true → Within (2 ^ 31) (toZ w64 (ofZ w64 z))
+within-back b z l f e = rw (toZ-ofZ f) (record { within = omega (arith, within-natAbs b z e) })
+
+-- a field's place, said otherwise
+moved : {s b t : List ℕ} {i j : ℕ} (i′ j′ : ℕ) → i ≡ i′ → j ≡ j′ → Placed s i j b t → Placed s i′ j′ b t
+moved i′ j′ e h p = record { width = omega (arith, p .width); whole = p .whole ∙ rw (e, h) }
+
+-- ---- the head: the letters and the sizes
+pub sizes-placed : {s t u v w : List ℕ} (n m b : ℕ) → Placed s 0 4 (u32Bytes magicNumber) t → Placed t 4 6 (u16Bytes n) u → Placed u 6 8 (u16Bytes m) v → Placed v 8 12 (u32Bytes b) w →
+    Placed s 0 12 (magic ++ (u16Bytes n ++ (u16Bytes m ++ u32Bytes b))) w
+sizes-placed n m b p q r o = rw (← magic-bytes) (then p (then q (then r o)))
+
+-- the bounds
+module _ (p : Problem) (i : ℕ) (l : i < p .n) where
+  bounds-pass : domainInRange (problemOf p) ≡ true → (within maxBound (getD (p .lower) i (pos 0)) ≡ true) × (within maxBound (getD (p .upper) i (pos 0)) ≡ true)
+  unfolding boundsInRange all boundsAt numberIn
+  bounds-pass d =
+      let t = and-true _ _ (all-at (boundsTest p) (p .n) i (sym (domain-is p) ∙ d) l) in
+      (t .0, and-true _ _ (t .1) .0)
+
+  pub lower-room : domainInRange (problemOf p) ≡ true → SFits w64 (getD (p .lower) i (pos 0)) → Within (2 ^ 31) (toZ w64 (ofZ w64 (getD (p .lower) i (pos 0))))
+  lower-room d f = within-back maxBound _ (omega arith) f (bounds-pass d .0)
+
+  pub upper-room : domainInRange (problemOf p) ≡ true → SFits w64 (getD (p .upper) i (pos 0)) → Within (2 ^ 31) (toZ w64 (ofZ w64 (getD (p .upper) i (pos 0))))
+  upper-room d f = within-back maxBound _ (omega arith) f (bounds-pass d .1)
+
+  bounds-bytes : boundsBytes (problemOf p) i ≡ i32Bytes (getD (p .lower) i (pos 0)) ++ i32Bytes (getD (p .upper) i (pos 0))
+  unfolding boundsBytes problemOf numberIn
+  bounds-bytes = rw (lower-at (p .n) (p .lower) (p .upper) i l, upper-at (p .n) (p .lower) (p .upper) i l)
+
+  pub bounds-more : {s t u v : List ℕ} (a : ℕ) → a ≡ boundsOffset i → SFits w64 (getD (p .lower) i (pos 0)) → SFits w64 (getD (p .upper) i (pos 0)) →
+      Placed s 12 (12 + 8 * i) (parts (boundsBytes (problemOf p)) 0 i) t →
+      Placed t (a + 0) (a + 0 + 4) (i32Bytes (toZ w64 (ofZ w64 (getD (p .lower) i (pos 0))))) u →
+      Placed u (a + 4) (a + 4 + 4) (i32Bytes (toZ w64 (ofZ w64 (getD (p .upper) i (pos 0))))) v →
+      Placed s 12 (12 + 8 * (i + 1)) (parts (boundsBytes (problemOf p)) 0 (i + 1)) v
+  unfolding boundsOffset
+  bounds-more {s} {t} {u} {v} a e f g x y z =
+      let low : Placed t (12 + 8 * i) (a + 4) (i32Bytes (getD (p .lower) i (pos 0))) u = rw (toZ-ofZ f) at (moved (12 + 8 * i) (a + 4) (omega arith) (omega arith) y) in
+      let high : Placed u (a + 4) (12 + 8 * (i + 1)) (i32Bytes (getD (p .upper) i (pos 0))) v = rw (toZ-ofZ g) at (moved (a + 4) (12 + 8 * (i + 1)) (omega arith) (omega arith) z) in
+      more-placed (boundsBytes (problemOf p)) i x (rw bounds-bytes (then low high))
+
+pub bounds-end : (p : Problem) (i : ℕ) {s t : List ℕ} → p .n ≤ i → i ≤ p .n → Placed s 12 (12 + 8 * i) (parts (boundsBytes (problemOf p)) 0 i) t →
+    Placed s 12 (12 + 8 * p .n) (parts (boundsBytes (problemOf p)) 0 (p .n)) t
+bounds-end p i l h x = let e : i ≡ p .n = omega arith in rw e at x
+
+-- and its block
+pub head-sealed : (p : Problem) {y z s t : List ℕ} → p .n ≤ maxVariables → y ≡ cleared →
+    Placed y 0 12 (magic ++ (u16Bytes (p .n) ++ (u16Bytes (p .m) ++ u32Bytes (p .budget)))) z →
+    Placed z 12 (12 + 8 * p .n) (parts (boundsBytes (problemOf p)) 0 (p .n)) s →
+    t ≡ sealed 0 (take checkOffset s) → t ≡ sealed 0 (headBytes (problemOf p))
+unfolding headBytes problemOf variables
+head-sealed p l e x y f =
+    rw (length-box (p .n) (p .lower) (p .upper), length-tab (rowAt (p .n) (p .constraints)) 0 (p .m))
+    (sealed-content 0 f (simp append-assoc at (then x y)) (omega arith) e)
+
+-- ---- a constraint
+module _ (n : ℕ) (rows : List ℤ) (start : ℕ) where
+  pub constant-room : inRange (constraintAt n rows start) ≡ true → SFits w64 (getD rows start (pos 0)) → Within (2 ^ 31) (toZ w64 (ofZ w64 (getD rows start (pos 0))))
+  constant-room r f =
+      within-back maxCoefficient _ (omega arith) f (and-true _ (all (tab (cellTest rows start) 0 n)) (sym (constraint-is n rows start) ∙ r) .0)
+
+  module _ (i : ℕ) (l : i < n) where
+    pub coefficient-room : inRange (constraintAt n rows start) ≡ true → SFits w64 (getD rows (start + 1 + i) (pos 0)) → Within (2 ^ 31) (toZ w64 (ofZ w64 (getD rows (start + 1 + i) (pos 0))))
+    unfolding cell numberIn
+    coefficient-room r f =
+        let c = within maxCoefficient (getD rows start (pos 0)) in
+        within-back maxCoefficient _ (omega arith) f (all-at (cellTest rows start) n i (and-true c _ (sym (constraint-is n rows start) ∙ r) .1) l)
+
+    coefficient-bytes : coefficientBytes (constraintAt n rows start) i ≡ i32Bytes (getD rows (start + 1 + i) (pos 0))
+    unfolding coefficientBytes cell numberIn
+    coefficient-bytes = ap i32Bytes (coefficient-at n rows start i l)
+
+    pub coefficients-more : {s t u : List ℕ} (a : ℕ) → a ≡ 4 * (i + 1) → SFits w64 (getD rows (start + 1 + i) (pos 0)) →
+        Placed s 4 (4 + 4 * i) (parts (coefficientBytes (constraintAt n rows start)) 0 i) t →
+        Placed t a (a + 4) (i32Bytes (toZ w64 (ofZ w64 (getD rows (start + 1 + i) (pos 0))))) u →
+        Placed s 4 (4 + 4 * (i + 1)) (parts (coefficientBytes (constraintAt n rows start)) 0 (i + 1)) u
+    coefficients-more {s} {t} {u} a e f x y =
+        let next : Placed t (4 + 4 * i) (4 + 4 * (i + 1)) (i32Bytes (getD rows (start + 1 + i) (pos 0))) u =
+        rw (toZ-ofZ f) at (moved (4 + 4 * i) (4 + 4 * (i + 1)) (omega arith) (omega arith) y) in
+        more-placed (coefficientBytes (constraintAt n rows start)) i x (rw coefficient-bytes next)
+
+  pub numbers-end : {s t u : List ℕ} (i a : ℕ) → n ≤ i → i ≤ n → a ≡ 4 * 0 → SFits w64 (getD rows start (pos 0)) →
+      Placed s a (a + 4) (i32Bytes (toZ w64 (ofZ w64 (getD rows start (pos 0))))) t →
+      Placed t 4 (4 + 4 * i) (parts (coefficientBytes (constraintAt n rows start)) 0 i) u →
+      Placed s 0 (4 + 4 * n) (constraintBytes n (constraintAt n rows start)) u
+  unfolding constraintBytes constraintAt numberIn
+  numbers-end {s} {t} {u} i a l h e f x y =
+      let z : i ≡ n = omega arith in
+      let first : Placed s 0 4 (i32Bytes (getD rows start (pos 0))) t = rw (toZ-ofZ f) at (moved 0 4 (omega arith) (omega arith) x) in
+      then first (rw z at y)
+
+  pub constraint-sealed : {y s t : List ℕ} (k : ℕ) → n ≤ maxVariables → y ≡ cleared → Placed y 0 (4 + 4 * n) (constraintBytes n (constraintAt n rows start)) s →
+      t ≡ sealed k (take checkOffset s) → t ≡ sealed k (constraintBytes n (constraintAt n rows start))
+  constraint-sealed k l e x f = sealed-content k f x (omega arith) e
+
+-- ---- the file
+placed-length : {s b t : List ℕ} {i j : ℕ} → j ≤ length s → Placed s i j b t → length t ≡ length s
+placed-length {s} {b} {t} {i} {j} l p =
+    ap length (p .whole) ∙ length-append (take i s) (b ++ drop j s) ∙
+    omega (arith, length-append b (drop j s), length-take-le i s (omega (arith, p .width)), length-drop j s, p .width)
+
+module _ (p : Problem) where
+  constraint-count : length (problemOf p .constraints) ≡ p .m
+  unfolding problemOf
+  constraint-count = length-tab (rowAt (p .n) (p .constraints)) 0 (p .m)
+
+  -- the head's part, as it comes back
+  pub head-placed : {s part : List ℕ} → blockLength ≤ length s → length part ≡ length (take blockLength s) → part ≡ sealed 0 (headBytes (problemOf p)) →
+      (length (putMid 0 blockLength s part) ≡ length s) × Placed s 0 blockLength (blockOf (problemOf p) 0) (putMid 0 blockLength s part)
+  unfolding blockOf
+  head-placed {s} {part} l k e = let x = part-placed s 0 blockLength (omega arith) l k e in (placed-length l x, x)
+
+  pub no-blocks : (s : List ℕ) → Placed s blockLength blockLength (parts (blockOf (problemOf p)) 1 0) s
+  unfolding parts
+  no-blocks s = none-placed (blockOf (problemOf p)) s blockLength
+
+  module _ (j : ℕ) (l : j < p .m) where
+    pub row-passes : constraintsInRange (problemOf p) ≡ true → inRange (constraintAt (p .n) (p .constraints) (rowLength * j)) ≡ true
+    unfolding rowAt
+    row-passes e = all-at (rowTest p) (p .m) j (sym (constraints-are p) ∙ e) l
+
+    row-sealed : blockOf (problemOf p) (suc j) ≡ sealed (suc j) (constraintBytes (p .n) (constraintAt (p .n) (p .constraints) (rowLength * j)))
+    unfolding blockOf problemOf variables rowAt
+    row-sealed = rw (length-box (p .n) (p .lower) (p .upper), getD-tab (rowAt (p .n) (p .constraints)) (p .m) j noConstraint l)
+
+    blocks-next : parts (blockOf (problemOf p)) 1 (j + 1) ≡ parts (blockOf (problemOf p)) 1 j ++ blockOf (problemOf p) (suc j)
+    unfolding parts
+    blocks-next = let e : 1 + j ≡ suc j = omega arith in parts-append (blockOf (problemOf p)) 1 j 1 ∙ rw (append-nil, e)
+
+    -- and a constraint's
+    pub blocks-more : {s t part : List ℕ} → blockLength * (p .m + 1) ≤ length t →
+        length part ≡ length (take (blockLength * (j + 1) + blockLength - blockLength * (j + 1)) (drop (blockLength * (j + 1)) t)) →
+        part ≡ sealed (j + 1) (constraintBytes (p .n) (constraintAt (p .n) (p .constraints) (rowLength * j))) →
+        Placed s blockLength (blockLength * (j + 1)) (parts (blockOf (problemOf p)) 1 j) t →
+        (length (putMid (blockLength * (j + 1)) (blockLength * (j + 1) + blockLength - blockLength * (j + 1)) t part) ≡ length t) ×
+        Placed s blockLength (blockLength * (j + 1 + 1)) (parts (blockOf (problemOf p)) 1 (j + 1)) (putMid (blockLength * (j + 1)) (blockLength * (j + 1) + blockLength - blockLength * (j + 1)) t part)
+    blocks-more {s} {t} {part} f k e x =
+        let a = blockLength * (j + 1) in
+        let z : j + 1 ≡ suc j = add-one j in
+        let g : part ≡ blockOf (problemOf p) (suc j) = e ∙ rw z (sym row-sealed) in
+        let next = moved a (blockLength * (j + 1 + 1)) refl (omega arith) (part-placed t a (a + blockLength) (omega arith) (omega arith) k g) in
+        (placed-length (omega arith) next, rw blocks-next (then x next))
+
+  pub file-written : {s t u : List ℕ} (j : ℕ) → p .m ≤ j → j ≤ p .m → Placed s 0 blockLength (blockOf (problemOf p) 0) t →
+      Placed t blockLength (blockLength * (j + 1)) (parts (blockOf (problemOf p)) 1 j) u → u ≡ fileOf (problemOf p) ++ drop (fileLength (problemOf p)) s
+  unfolding fileOf fileLength parts
+  file-written j l h x y =
+      let z : j ≡ p .m = omega arith in
+      then x y .whole ∙ rw (constraint-count, z, add-one (p .m))

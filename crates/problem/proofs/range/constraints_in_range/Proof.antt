@@ -1,0 +1,55 @@
+use Prim.Native.Nat.{_-_, _≤_}
+use mathlib.Core.Bool.{true}
+use mathlib.Core.Path.{_≡_}
+use borrow.Author.Needs.{needs}
+use Rattle.model.specs.Lists.{tab, all}
+use Rattle.lists.proofs.All.{all-none}
+use Rattle.problem.proofs.Ranges.{rowTest, rows-more, row-beyond, rows-end}
+use Rattle.problem.proofs.range.constraints_in_range.Statement.{statement}
+use Rattle.problem.proofs.range.constraints_in_range.Tie as tie
+
+-- The constraints before j are in range.
+abbrev Inv-loop : tie.InvT-loop
+Inv-loop problem n m j₀ j = (j ≤ m) × (all (tab (rowTest problem) 0 j) ≡ true)
+
+abbrev μ-loop : tie.MeasureT-loop
+μ-loop problem n m j₀ j = m - j
+
+loop-holds : tie.Need-loop-holds Inv-loop μ-loop
+loop-holds c = search (needs, all-none)
+
+mul-constraint-in-range : tie.Need-mul-constraint-in-range Inv-loop μ-loop
+mul-constraint-in-range c = search needs
+
+constraint-in-range-requires : tie.Need-constraint-in-range-requires Inv-loop μ-loop
+constraint-in-range-requires c κs = search needs
+
+returns : tie.Need-returns Inv-loop μ-loop
+returns c = search (needs, row-beyond)
+
+add-j : tie.Need-add-j Inv-loop μ-loop
+add-j c = search needs
+
+loop-less : tie.Need-loop-less Inv-loop μ-loop
+loop-less c = search needs
+
+loop-again : tie.Need-loop-again Inv-loop μ-loop
+loop-again c = search (needs, rows-more)
+
+returns-2 : tie.Need-returns-2 Inv-loop μ-loop
+returns-2 c = search (needs, rows-end)
+
+pub constraints-in-range-spec : {M : Type 1} → statement M
+constraints-in-range-spec =
+    tie.close
+    (tie.spec
+    Inv-loop
+    μ-loop
+    loop-holds
+    mul-constraint-in-range
+    constraint-in-range-requires
+    returns
+    add-j
+    loop-less
+    loop-again
+    returns-2)

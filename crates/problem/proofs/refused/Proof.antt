@@ -1,0 +1,11 @@
+use borrow.Author.Needs.{needs}
+use Rattle.problem.specs.View.{zeros, empty}
+use Rattle.problem.proofs.refused.Statement.{statement}
+use Rattle.problem.proofs.refused.Tie as tie
+
+returns : tie.Need-returns
+unfolding zeros empty
+returns c = search needs
+
+pub refused-spec : {M : Type 1} → statement M
+refused-spec = tie.close (tie.spec returns)

@@ -1,0 +1,56 @@
+use borrow.Author.Needs.{needs}
+use Rattle.problem.proofs.Cascade.{pass}
+use Rattle.problem.proofs.WriteCascade.{sized, variables-few, constraints-few, size-range, domain-range, coefficient-range, short-buffer, writable, done}
+use Rattle.problem.proofs.write.Statement.{statement}
+use Rattle.problem.proofs.write.Tie as tie
+
+sizes-in-range-requires : tie.Need-sizes-in-range-requires
+sizes-in-range-requires c κs = search needs
+
+returns : tie.Need-returns
+returns c = search (needs, size-range)
+
+domain-in-range-requires : tie.Need-domain-in-range-requires
+domain-in-range-requires c κs = search (needs, variables-few, sized)
+
+returns-2 : tie.Need-returns-2
+returns-2 c = search (needs, domain-range, sized)
+
+constraints-in-range-requires : tie.Need-constraints-in-range-requires
+constraints-in-range-requires c κs = search (needs, variables-few, constraints-few, sized)
+
+returns-3 : tie.Need-returns-3
+returns-3 c = search (needs, coefficient-range, sized, pass)
+
+returns-4 : tie.Need-returns-4
+returns-4 c = search (needs, short-buffer, sized, pass)
+
+write-blocks-requires : tie.Need-write-blocks-requires
+write-blocks-requires c κs =
+    writable _
+    (sized _ _ (c .before .before .before .before .before .before .before .sizes-in-range .ensures) (c .before .before .before .before .before .before .if1 .left))
+    _
+    (pass _ _ (c .before .before .before .before .before .domain-in-range .ensures) (c .before .before .before .before .if2 .left))
+    (pass _ _ (c .before .before .before .constraints-in-range .ensures) (c .before .before .if3 .left))
+    (c .before .if4 .left)
+
+same-length : tie.Need-same-length
+same-length c = search needs
+
+returns-5 : tie.Need-returns-5
+returns-5 c = search (needs, done, sized, pass)
+
+pub write-spec : {M : Type 1} → statement M
+write-spec =
+    tie.close
+    (tie.spec
+    sizes-in-range-requires
+    returns
+    domain-in-range-requires
+    returns-2
+    constraints-in-range-requires
+    returns-3
+    returns-4
+    write-blocks-requires
+    same-length
+    returns-5)

@@ -1,0 +1,113 @@
+// Reading and writing problem files, document 01's 'plan files'.
+mod offsets;
+mod range;
+mod reader;
+mod writer;
+
+ghost use mathlib.Core.Path.{_≡_};
+ghost use Rattle.model.specs.File.{readFile, writeFile};
+ghost use Rattle.problem.specs.Answer.{written};
+ghost use Rattle.problem.specs.View.{problemOf, empty, readingOf};
+
+// A problem, document 01's 'plan'. Its constraints lie in 64 rows of 33 numbers: the constant, then a coefficient for each of 32 variables. What stands
+// past the first n variables and m constraints is ignored; a problem that was read has zeros there.
+pub struct Problem {
+    // 'n', the variables
+    pub n: usize,
+    // 'm', the constraints
+    pub m: usize,
+    // 'B'
+    pub budget: usize,
+    // the 'limits' of each variable
+    pub lower: [i64; 32],
+    pub upper: [i64; 32],
+    pub constraints: [i64; 2112],
+}
+
+// Document 01's table, 0 to 9 in this order; `Done` where none of its conditions holds.
+pub enum Answer {
+    Done,
+    Truncated,
+    BadChecksum,
+    BadMagic,
+    SizeRange,
+    DomainRange,
+    CoefficientRange,
+    NonzeroPadding,
+    ShortBuffer,
+    InvalidSearch,
+}
+
+// What reading gives: the problem, or an error and a problem of zeros.
+pub struct Reading {
+    pub answer: Answer,
+    pub problem: Problem,
+}
+
+// An error, with nothing of the file.
+fn refused(answer: Answer) -> Reading
+    ensures { λ r. ⌜ r ≡ record { answer = answer; problem = empty } ⌝ }
+{
+    let problem = Problem {
+        n: 0,
+        m: 0,
+        budget: 0,
+        lower: [0; 32],
+        upper: [0; 32],
+        constraints: [0; 2112],
+    };
+    Reading { answer, problem }
+}
+
+// Reads a problem file: the problem in it, or the first error of document 01's table that applies.
+pub fn read(file: &[u8]) -> Reading
+    ensures { λ r. ⌜ r ≡ readingOf (readFile (now (file .entry))) ⌝ }
+{
+    if !reader::is_whole(file) {
+        return refused(Answer::Truncated);
+    }
+    if !reader::checks_match(file) {
+        return refused(Answer::BadChecksum);
+    }
+    if !reader::magic_matches(file) {
+        return refused(Answer::BadMagic);
+    }
+    if !reader::sizes_match(file) {
+        return refused(Answer::SizeRange);
+    }
+    let problem = reader::problem_in(file);
+    if !range::domain_in_range(problem) {
+        return refused(Answer::DomainRange);
+    }
+    if !range::constraints_in_range(problem) {
+        return refused(Answer::CoefficientRange);
+    }
+    if !reader::padding_zero(file) {
+        return refused(Answer::NonzeroPadding);
+    }
+    Reading {
+        answer: Answer::Done,
+        problem,
+    }
+}
+
+// Writes a problem's blocks at the buffer's start, and leaves the bytes after them; on an error the buffer keeps all its bytes.
+pub fn write(problem: Problem, buffer: &mut [u8]) -> Answer
+    ensures { λ r. ⌜ written r (now (buffer .exit)) ≡ writeFile (problemOf problem) (now (buffer .entry)) ⌝ }
+{
+    let m = problem.m;
+    if !range::sizes_in_range(problem.n, m, problem.budget) {
+        return Answer::SizeRange;
+    }
+    if !range::domain_in_range(problem) {
+        return Answer::DomainRange;
+    }
+    if !range::constraints_in_range(problem) {
+        return Answer::CoefficientRange;
+    }
+    if buffer.len() / block::LENGTH <= m {
+        return Answer::ShortBuffer;
+    }
+    writer::write_blocks(problem, buffer);
+    Answer::Done
+}

@@ -1,0 +1,8 @@
+-- Laws of the scans and of propagation. `States` and `Descent` are for callers, the others for this crate's own proofs.
+pub mod Scans
+pub mod Fits
+pub mod Fuel
+pub mod Numbers
+pub mod Steps
+pub mod Descent
+pub mod States

@@ -1,0 +1,135 @@
+-- One turn of propagation's loop: a bound that is set keeps what propagation asks, leaves its answer as it was, and lowers the slack.
+use Prim.Native.Nat.{ℕ, _+_, _<_}
+use native.Mathlib.Omega.{arith}
+use mathlib.Core.List.{List}
+use mathlib.Core.Path.{_≡_, sym, ap, subst, _∙_}
+use lib.IntN.{ℤ}
+use lib.ListN.{length-set}
+use Rattle.model.specs.Constraint.{Box, setLower, setUpper}
+use Rattle.model.specs.Search as model
+use Rattle.model.specs.Move.{Move, conflict, newLower, newUpper, decide, finish, nextMove, slack}
+use Rattle.lists.proofs.Tab.{length-tab}
+use Rattle.layout.specs.Rows.{rowAt, boxOf}
+use Rattle.layout.proofs.Rows.{length-box, box-lower, box-upper}
+use Rattle.state.specs.View.{keptCuts, levelOf}
+use Rattle.state.specs.Change.{Whole, raised, lowered}
+use Rattle.state.specs.declared.Level.{Level}
+use Rattle.state.proofs.Levels.{level-raised, level-lowered}
+use Rattle.validity.proofs.Boxes.{Ordered, Nested, set-lower-ordered, set-upper-ordered, set-lower-nested, set-upper-nested, set-lower-slack, set-upper-slack}
+use Rattle.validity.proofs.Moves.{Raises, Lowers, Chosen, next-chosen}
+use Rattle.validity.proofs.Tests.{range-ordered, range-nested}
+use Rattle.propagate.specs.Propagation.{Propagation, propagateBy, propagation, numberFor, propagationOf}
+use Rattle.propagate.specs.Moves.{stopOf}
+use Rattle.propagate.specs.declared.propagate.Found.{Found}
+use Rattle.propagate.specs.declared.propagate.Found.the-variants.{Conflict, Decide, Finish}
+use Rattle.propagate.specs.Ready.{keptRows, Ready}
+use Rattle.propagate.proofs.Fuel.{propagation-next}
+use Rattle.propagate.proofs.Numbers.{number-reason}
+
+-- the box of a level, and what it leaves to propagation
+abbrev pub boxAt : ℕ → Level → Box
+boxAt n l = boxOf n (l .lower) (l .upper)
+
+unfoldable pub answer : ℕ → ℕ → ℕ → List ℤ → Level → Propagation
+answer n m made rows l = propagation (keptRows n m made rows) (numberFor m made) (levelOf n l)
+
+-- constraint j sets a bound of variable i, which leaves the level k
+pub record Next (n m made : ℕ) (rows : List ℤ) (l : Level) (j i : ℕ) (k : Level) : Type 0 where
+  pub constraint : j < m + keptCuts made
+  pub variable : i < n
+  pub ready : Ready n m made rows k
+  pub same : answer n m made rows l ≡ answer n m made rows k
+  pub less : slack (boxAt n k) < slack (boxAt n l)
+
+module _ (n m made : ℕ) (rows : List ℤ) (l : Level) (r : Ready n m made rows l) where
+  ordered : Ordered (boxAt n l)
+  ordered = range-ordered (boxAt n l) (r .bounds)
+
+  -- the answer is what the next move leads to
+  follows : (move : Move) → move ≡ nextMove (keptRows n m made rows) (boxAt n l) →
+      answer n m made rows l ≡ propagateBy move (numberFor m made) (levelOf n l) (propagation (keptRows n m made rows) (numberFor m made))
+  unfolding answer levelOf
+  follows move e =
+      propagation-next (keptRows n m made rows) (numberFor m made) (levelOf n l) ordered ∙
+      ap (λ (x : Move). propagateBy x (numberFor m made) (levelOf n l) (propagation (keptRows n m made rows) (numberFor m made))) (sym e)
+
+  chosen : (move : Move) → move ≡ nextMove (keptRows n m made rows) (boxAt n l) → Chosen (keptRows n m made rows) (boxAt n l) move
+  chosen move e = subst (Chosen (keptRows n m made rows) (boxAt n l)) (sym e) (next-chosen (keptRows n m made rows) (boxAt n l) ordered)
+
+  -- a level with a smaller box
+  nested-next : (j i : ℕ) (k : Level) → (j < m + keptCuts made) × (i < n) → Whole k → Ordered (boxAt n k) → Nested (boxAt n k) (boxAt n l) → slack (boxAt n k) < slack (boxAt n l) →
+      answer n m made rows l ≡ answer n m made rows k → Next n m made rows l j i k
+  nested-next j i k places w o h less e =
+      record {
+        constraint = places .0;
+        variable = places .1;
+        ready = record {
+          few = r .few;
+          inputs = r .inputs;
+          cuts = r .cuts;
+          whole = w;
+          constraints = r .constraints;
+          bounds = range-nested (boxAt n k) (boxAt n l) o h (r .bounds);
+        };
+        same = e;
+        less = less;
+      }
+
+  module _ (j i : ℕ) (v : ℤ) (e : newLower j i v ≡ nextMove (keptRows n m made rows) (boxAt n l)) where
+    raises : Raises (keptRows n m made rows) (boxAt n l) j i v
+    raises = chosen (newLower j i v) e
+
+    raise-places : (j < m + keptCuts made) × (i < n)
+    raise-places = (omega (arith, raises .constraint, length-tab (rowAt n rows) 0 (m + keptCuts made)), omega (arith, raises .variable, length-box n (l .lower) (l .upper)))
+
+    raised-level : levelOf n (raised l i v (numberFor m made j)) ≡ model.raiseLower i v (model.constraint (numberFor m made j)) (levelOf n l)
+    raised-level =
+        level-raised n l (r .whole) (r .few) i v (numberFor m made j) (raise-places .1) ∙ rw (number-reason m made j (r .inputs) (r .cuts) (raise-places .0))
+
+    raised-answer : answer n m made rows l ≡ answer n m made rows (raised l i v (numberFor m made j))
+    unfolding propagateBy answer
+    raised-answer = follows (newLower j i v) e ∙ ap (propagation (keptRows n m made rows) (numberFor m made)) (sym raised-level)
+
+    pub raise-next : Next n m made rows l j i (raised l i v (numberFor m made j))
+    raise-next =
+        let w = r .whole in
+        let box = boxAt n l in
+        let k = numberFor m made j in
+        let b : boxAt n (raised l i v k) ≡ setLower i v box = box-lower n (l .lower) (l .upper) i v (raise-places .1) (omega (arith, w .lower, r .few, raise-places .1)) in
+        nested-next j i (raised l i v k) raise-places
+        (record { lower = length-set (l .lower) i v ∙ w .lower; upper = w .upper; below = length-set (l .below) i k ∙ w .below; above = w .above })
+        (rw b (set-lower-ordered i v box ordered (raises .fits))) (rw b (set-lower-nested i v box (omega (arith, raises .better))))
+        (rw b (set-lower-slack i v box (raises .variable) ordered (raises .better) (raises .fits))) raised-answer
+
+  module _ (j i : ℕ) (v : ℤ) (e : newUpper j i v ≡ nextMove (keptRows n m made rows) (boxAt n l)) where
+    lowers : Lowers (keptRows n m made rows) (boxAt n l) j i v
+    lowers = chosen (newUpper j i v) e
+
+    lower-places : (j < m + keptCuts made) × (i < n)
+    lower-places = (omega (arith, lowers .constraint, length-tab (rowAt n rows) 0 (m + keptCuts made)), omega (arith, lowers .variable, length-box n (l .lower) (l .upper)))
+
+    lowered-level : levelOf n (lowered l i v (numberFor m made j)) ≡ model.lowerUpper i v (model.constraint (numberFor m made j)) (levelOf n l)
+    lowered-level =
+        level-lowered n l (r .whole) (r .few) i v (numberFor m made j) (lower-places .1) ∙ rw (number-reason m made j (r .inputs) (r .cuts) (lower-places .0))
+
+    lowered-answer : answer n m made rows l ≡ answer n m made rows (lowered l i v (numberFor m made j))
+    unfolding propagateBy answer
+    lowered-answer = follows (newUpper j i v) e ∙ ap (propagation (keptRows n m made rows) (numberFor m made)) (sym lowered-level)
+
+    pub lower-next : Next n m made rows l j i (lowered l i v (numberFor m made j))
+    lower-next =
+        let w = r .whole in
+        let box = boxAt n l in
+        let k = numberFor m made j in
+        let b : boxAt n (lowered l i v k) ≡ setUpper i v box = box-upper n (l .lower) (l .upper) i v (lower-places .1) (omega (arith, w .upper, r .few, lower-places .1)) in
+        nested-next j i (lowered l i v k) lower-places
+        (record { lower = w .lower; upper = length-set (l .upper) i v ∙ w .upper; below = w .below; above = length-set (l .above) i k ∙ w .above })
+        (rw b (set-upper-ordered i v box ordered (lowers .fits))) (rw b (set-upper-nested i v box (omega (arith, lowers .better))))
+        (rw b (set-upper-slack i v box (lowers .variable) ordered (lowers .fits) (lowers .better))) lowered-answer
+
+  -- where the next move sets no bound, it is the answer
+  pub stop-answer : (found : Found) → stopOf found ≡ nextMove (keptRows n m made rows) (boxAt n l) → propagationOf n (record { level = l; found = found }) ≡ answer n m made rows l
+  unfolding propagateBy propagationOf stopOf
+  stop-answer (Conflict j) e = sym (follows (conflict j) e)
+  stop-answer (Decide i) e = sym (follows (decide i) e)
+  stop-answer Finish e = sym (follows finish e)

@@ -1,0 +1,42 @@
+-- Document 01's move 2 repeated at one level, until the next move is a conflict, a decision or the end. The model's descent goes through it: see
+-- proofs/Descent.
+use Prim.Native.Nat.{ℕ, zero, suc, _+_, _-_}
+use mathlib.Core.Bool.{cond}
+use mathlib.Core.List.{List}
+use lib.Dec.{ltb}
+use Rattle.model.specs.Ranges.{maxCuts}
+use Rattle.model.specs.Constraint.{Constraint}
+use Rattle.model.specs.Search.{Level, constraint, raiseLower, lowerUpper}
+use Rattle.model.specs.Move.{Move, conflict, newLower, newUpper, decide, finish, nextMove, slack}
+use Rattle.state.specs.View as view
+use Rattle.propagate.specs.declared.propagate.Propagated.{Propagated}
+use Rattle.propagate.specs.Moves.{stopOf}
+
+-- the level where propagation stops, and the next move there
+pub record Propagation : Type 0 where
+  pub level : Level
+  pub move : Move
+
+-- `number` gives the number of the kept constraint at a position
+unfoldable pub propagateBy : Move → (ℕ → ℕ) → Level → (Level → Propagation) → Propagation
+propagateBy (conflict j) number l go = record { level = l; move = conflict j }
+propagateBy (newLower j i v) number l go = go (raiseLower i v (constraint (number j)) l)
+propagateBy (newUpper j i v) number l go = go (lowerUpper i v (constraint (number j)) l)
+propagateBy (decide i) number l go = record { level = l; move = decide i }
+propagateBy finish number l go = record { level = l; move = finish }
+
+unfoldable pub propagateFor : ℕ → List Constraint → (ℕ → ℕ) → Level → Propagation
+propagateFor zero ks number l = record { level = l; move = finish }
+propagateFor (suc fuel) ks number l = propagateBy (nextMove ks (l .box)) number l (propagateFor fuel ks number)
+
+-- every bound that is set lowers the slack, so this fuel does not run out
+unfoldable pub propagation : List Constraint → (ℕ → ℕ) → Level → Propagation
+propagation ks number l = propagateFor (suc (slack (l .box))) ks number l
+
+-- ---- what the code gives
+-- the number of the kept constraint at position p, of m inputs and `made` cuts made
+unfoldable pub numberFor : ℕ → ℕ → ℕ → ℕ
+numberFor m made p = cond (ltb p m) (suc p) (suc (p + (made - maxCuts)))
+
+unfoldable pub propagationOf : ℕ → Propagated → Propagation
+propagationOf n r = record { level = view.levelOf n (r .level); move = stopOf (r .found) }

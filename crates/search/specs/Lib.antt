@@ -1,2 +1,0 @@
--- What the search's contracts say.
-pub mod Advancing

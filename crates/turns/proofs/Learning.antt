@@ -1,0 +1,81 @@
+-- What `learn` gives, from what its parts give.
+use Prim.Native.Nat.{ℕ, suc, _+_, _≤_, _<_}
+use native.Mathlib.Omega.{arith}
+use mathlib.Core.Bool.{true}
+use mathlib.Core.List.{List}
+use mathlib.Core.Path.{_≡_, refl, sym, ap, _∙_}
+use lib.Dec.{T}
+use lib.IntN.{ℤ, pos}
+use lib.ListN.{getD, length}
+use Rattle.model.specs.Lists.{tab}
+use Rattle.model.specs.Ranges.{maxVariables, maxCuts}
+use Rattle.model.specs.Constraint.{Constraint}
+use Rattle.model.specs.File.{noConstraint}
+use Rattle.model.specs.Search as model
+use Rattle.model.specs.Conflict.{analyze, firstEqual}
+use Rattle.lists.proofs.Tab.{getD-tab}
+use Rattle.layout.specs.Rows.{constraintAt, rowAt}
+use Rattle.state.specs.View.{levelOf, keptCuts, coreWith}
+use Rattle.state.specs.declared.Level.{Level}
+use Rattle.state.proofs.Cores.{kept-rows}
+use Rattle.analyze.specs.Analyzed.{Analyzed, analysisOf}
+use Rattle.analyze.specs.Position.{foundBelow}
+use Rattle.analyze.specs.Storing.{RowKept, NumberKept}
+use Rattle.analyze.specs.declared.analysis.Analysis.{Analysis}
+use Rattle.analyze.proofs.Numbering.{numbered-equal, numbered-kept}
+use Rattle.turns.specs.Learning.{Learns, Learnable, LearnedFrom}
+use Rattle.turns.specs.declared.learn.Learned.{Learned}
+
+module _ (n m made : ℕ) (rows : List ℤ) (numbers : List ℕ) (level : Level) (j : ℕ) (l : Learnable n m made rows numbers level j)
+    (a : Analysis) (z : Analyzed n m made rows (level .lower) (level .upper) (level .below) (level .above) j a) where
+  -- the constraint in position j is that of row j
+  here : (outer : List model.Level) → getD (model.kept (coreWith n m made rows numbers (levelOf n level) outer)) j noConstraint ≡ rowAt n rows j
+  here outer = rw (kept-rows n m made rows numbers (levelOf n level) outer) (getD-tab (rowAt n rows) (m + keptCuts made) j noConstraint (l .position))
+
+  analyzed : (outer : List model.Level) →
+      analyze (coreWith n m made rows numbers (levelOf n level) outer) (getD (model.kept (coreWith n m made rows numbers (levelOf n level) outer)) j noConstraint) ≡
+      record { cut = constraintAt n (a .cut) 0; used = tab (λ i. getD (a .used) i 0) 0 n }
+  unfolding levelOf analysisOf
+  analyzed outer =
+      ap (analyze (coreWith n m made rows numbers (levelOf n level) outer)) (here outer) ∙ z .analysis numbers (level .decided) outer
+
+  pub learned-equal : (p number : ℕ) →
+      firstEqual 0 (tab (rowAt n rows) 0 (m + keptCuts made)) (constraintAt n (a .cut) 0) ≡ foundBelow (m + keptCuts made) p → p < m + keptCuts made →
+      ((n : ℕ) (rows : List ℤ) (numbers : List ℕ) (k : model.Level) (ks : List model.Level) → number ≡ model.numberAt (coreWith n m made rows numbers k ks) p) →
+      LearnedFrom n m made rows numbers level j (record { cut = a .cut; used = a .used; number = number; made = made }) rows numbers
+  learned-equal p number e h f =
+      record {
+        learns = λ outer.
+            record {
+              analysis = analyzed outer;
+              numbering = numbered-equal n m made rows numbers (levelOf n level) outer (constraintAt n (a .cut) 0) p e h ∙
+                  ap (λ (k : ℕ). record { number = k; core = coreWith n m made rows numbers (levelOf n level) outer }) (sym (f n rows numbers (levelOf n level) outer));
+            };
+        range = z .range;
+        cutSize = z .cut-size;
+        cutRest = z .cut-rest;
+        usedRest = z .used-rest;
+        rowsLong = l .rowsLong;
+        numbersLong = l .numbersLong;
+        count = omega arith;
+      }
+
+  pub learned-kept : (p : ℕ) (rows₁ : List ℤ) (numbers₁ : List ℕ) →
+      firstEqual 0 (tab (rowAt n rows) 0 (m + keptCuts made)) (constraintAt n (a .cut) 0) ≡ foundBelow (m + keptCuts made) p → m + keptCuts made ≤ p →
+      RowKept m made rows (a .cut) rows₁ → NumberKept made (m + made + 1) numbers numbers₁ →
+      LearnedFrom n m made rows numbers level j (record { cut = a .cut; used = a .used; number = m + made + 1; made = made + 1 }) rows₁ numbers₁
+  learned-kept p rows₁ numbers₁ e h r k =
+      record {
+        learns = λ outer.
+            record {
+              analysis = analyzed outer;
+              numbering = numbered-kept n m made rows (a .cut) rows₁ numbers numbers₁ (levelOf n level) outer p e h (l .variables) r k;
+            };
+        range = z .range;
+        cutSize = z .cut-size;
+        cutRest = z .cut-rest;
+        usedRest = z .used-rest;
+        rowsLong = r .size ∙ l .rowsLong;
+        numbersLong = k .size ∙ l .numbersLong;
+        count = omega arith;
+      }

@@ -1,0 +1,11 @@
+-- The argument for the search's loop.
+pub mod Learning
+pub mod Turning
+pub mod Calls
+pub mod Backjumping
+pub mod Conflicting
+pub mod Measures
+pub mod Buffers
+pub mod Running
+pub mod Arms
+pub mod Counting

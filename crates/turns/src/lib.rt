@@ -1,0 +1,19 @@
+// Turns repeated in place, on a valid state.
+use state::Search;
+
+pub mod learn;
+
+// How turns repeated end: after as many as were asked for, or with a verdict.
+pub enum Ending {
+    GoOn,
+    NoSolution,
+    OutOfBudget,
+    Solution,
+}
+
+// The ending, how many conflicts were counted, and the state.
+pub struct Advanced {
+    pub ending: Ending,
+    pub blocks: usize,
+    pub state: Search,
+}

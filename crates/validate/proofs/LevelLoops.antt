@@ -1,0 +1,115 @@
+-- One level's tests, and the loops over the levels from 0 to the depth.
+use Prim.Native.Nat.{ℕ, zero, suc, _+_, _<_, _≤_}
+use native.Mathlib.Omega.{arith}
+use native.Mathlib.Numerals.{add-one}
+use mathlib.Core.Bool.{Bool, true, false, not, _&&_, and-assoc, and-false}
+use mathlib.Core.List.{List}
+use mathlib.Core.Logic.{⊎-elim}
+use mathlib.Core.Path.{_≡_, refl, sym, _∙_}
+use lib.ListN.{getD}
+use borrow.Author.Tests.{not-true, not-false}
+use Rattle.model.specs.Lists.{tab, allOf}
+use Rattle.model.specs.Problem.{boundsInRange}
+use Rattle.model.specs.Validity.{reasonsValid, levelValid, boxInside, decisionValid, nestedValid}
+use Rattle.lists.proofs.Bools.{clash, and-true, and-both, lt-or-le}
+use Rattle.layout.specs.Rows.{boxOf}
+use Rattle.state.specs.View.{reasonsIn, levelOf, noLevel, levelAt, levelsFrom}
+use Rattle.state.specs.declared.Level.{Level}
+use Rattle.validate.specs.Nested.{nestedIn, nestedTo}
+
+-- ---- one level: its box, then its reasons
+module _ (n last : ℕ) (l : Level) (r : Bool) (t : r ≡ allOf boundsInRange (boxOf n (l .lower) (l .upper))) where
+  pub level-box : not r ≡ true → false ≡ levelValid last (levelOf n l)
+  unfolding levelValid levelOf
+  level-box h = rw (← t, not-true r h)
+
+  pub level-reasons : not r ≡ false → (q : Bool) → q ≡ allOf (reasonsValid last) (tab (reasonsIn (l .below) (l .above)) 0 n) → q ≡ levelValid last (levelOf n l)
+  unfolding levelValid levelOf
+  level-reasons h q u = rw (← t, not-false r h) u
+
+box-of-level : (n last : ℕ) (l : Level) → levelValid last (levelOf n l) ≡ true → allOf boundsInRange (boxOf n (l .lower) (l .upper)) ≡ true
+unfolding levelValid levelOf
+box-of-level n last l e = and-true (allOf boundsInRange (boxOf n (l .lower) (l .upper))) (allOf (reasonsValid last) (tab (reasonsIn (l .below) (l .above)) 0 n)) e .0
+
+-- ---- every level
+unfoldable pub levelsTo : ℕ → ℕ → List Level → ℕ → Bool
+levelsTo n last levels d = allOf (levelValid last) (levelsFrom n levels d)
+
+module _ (n last : ℕ) (levels : List Level) where
+  pub levels-none : levelsTo n last levels 0 ≡ true
+  unfolding levelsTo levelsFrom allOf
+  levels-none = refl
+
+  pub levels-end : (depth d : ℕ) → depth < d → d ≤ depth + 1 → levelsTo n last levels d ≡ true → true ≡ levelsTo n last levels (depth + 1)
+  levels-end depth d l h a = let z : d ≡ depth + 1 = omega arith in sym (rw z at a)
+
+  fails-at : (d k : ℕ) → d < k → levelValid last (levelAt n levels d) ≡ false → levelsTo n last levels k ≡ false
+  unfolding levelsTo levelsFrom allOf
+  fails-at d zero l e = absurd (omega arith)
+  fails-at d (suc k) l e =
+      ⊎-elim (λ (h : d < k). rw (fails-at d k h e) (and-false (levelValid last (levelAt n levels k))))
+      (λ (h : k ≤ d). let z : d ≡ k = omega arith in rw (← z, e)) (lt-or-le d k)
+
+  module _ (d : ℕ) (l : Level) (w : l ≡ getD levels d noLevel) (r : Bool) (t : r ≡ levelValid last (levelOf n l)) where
+    here : levelValid last (levelAt n levels d) ≡ r
+    unfolding levelAt
+    here = rw (← w) (sym t)
+
+    pub levels-more : levelsTo n last levels d ≡ true → not r ≡ false → levelsTo n last levels (d + 1) ≡ true
+    unfolding levelsTo levelsFrom allOf
+    levels-more a h = rw (add-one d) (and-both (here ∙ not-false r h) a)
+
+    pub levels-fail : (depth : ℕ) → d ≤ depth → not r ≡ true → false ≡ levelsTo n last levels (depth + 1)
+    levels-fail depth h k = sym (fails-at d (depth + 1) (omega arith) (here ∙ not-true r k))
+
+  -- a level of those that passed: its bounds
+  pub level-passed : (depth d : ℕ) → d ≤ depth → levelsTo n last levels (depth + 1) ≡ true →
+      allOf boundsInRange (boxOf n (getD levels d noLevel .lower) (getD levels d noLevel .upper)) ≡ true
+  level-passed depth d h a = in-range (levelValid last (levelAt n levels d)) refl
+    where
+      in-range : (t : Bool) → levelValid last (levelAt n levels d) ≡ t → allOf boundsInRange (boxOf n (getD levels d noLevel .lower) (getD levels d noLevel .upper)) ≡ true
+      in-range true e = box-of-level n last (getD levels d noLevel) (unfold levelAt in e)
+      in-range false e = clash a (fails-at d (depth + 1) (omega arith) e)
+
+-- ---- one level in the one above it: its box, then its decision
+module _ (n : ℕ) (l o : Level) (r : Bool) (t : r ≡ boxInside (boxOf n (l .lower) (l .upper)) (boxOf n (o .lower) (o .upper))) where
+  pub nested-box : not r ≡ true → false ≡ nestedIn n (levelOf n l) (levelOf n o)
+  unfolding nestedIn levelOf
+  nested-box h = rw (← t, not-true r h)
+
+  pub nested-decision : not r ≡ false → (q : Bool) →
+      q ≡ decisionValid n (l .decided) (boxOf n (l .lower) (l .upper)) (boxOf n (o .lower) (o .upper)) → q ≡ nestedIn n (levelOf n l) (levelOf n o)
+  unfolding nestedIn levelOf
+  nested-decision h q u = rw (← t, not-false r h) u
+
+-- ---- every level in the one above it
+module _ (n : ℕ) (levels : List Level) where
+  pub nested-none : nestedTo n levels 0 ≡ true
+  unfolding nestedTo levelsFrom nestedValid
+  nested-none = refl
+
+  pub nested-end : (depth d : ℕ) → depth ≤ d → d ≤ depth → nestedTo n levels d ≡ true → true ≡ nestedTo n levels depth
+  nested-end depth d l h a = let z : d ≡ depth = omega arith in sym (rw z at a)
+
+  one-more : (d : ℕ) → nestedTo n levels (suc d) ≡ (nestedIn n (levelAt n levels (suc d)) (levelAt n levels d) && nestedTo n levels d)
+  unfolding nestedTo nestedIn levelsFrom nestedValid
+  one-more d = rw and-assoc
+
+  unnested-at : (d k : ℕ) → d < k → nestedIn n (levelAt n levels (suc d)) (levelAt n levels d) ≡ false → nestedTo n levels k ≡ false
+  unnested-at d zero l e = absurd (omega arith)
+  unnested-at d (suc k) l e =
+      one-more k ∙
+      ⊎-elim (λ (h : d < k). rw (unnested-at d k h e) (and-false (nestedIn n (levelAt n levels (suc k)) (levelAt n levels k))))
+      (λ (h : k ≤ d). let z : d ≡ k = omega arith in rw (← z, e)) (lt-or-le d k)
+
+  module _ (d : ℕ) (o : Level) (v : o ≡ getD levels d noLevel) (l : Level) (w : l ≡ getD levels (d + 1) noLevel) (r : Bool)
+      (t : r ≡ nestedIn n (levelOf n l) (levelOf n o)) where
+    inner : nestedIn n (levelAt n levels (suc d)) (levelAt n levels d) ≡ r
+    unfolding levelAt
+    inner = rw (← add-one d, ← v, ← w) (sym t)
+
+    pub nested-more : nestedTo n levels d ≡ true → not r ≡ false → nestedTo n levels (d + 1) ≡ true
+    nested-more a h = rw (add-one d) (one-more d ∙ and-both (inner ∙ not-false r h) a)
+
+    pub nested-fail : (depth : ℕ) → d < depth → not r ≡ true → false ≡ nestedTo n levels depth
+    nested-fail depth h k = sym (unnested-at d depth h (inner ∙ not-true r k))

@@ -1,0 +1,13 @@
+-- Laws of the tests of a search state.
+pub mod Loops
+pub mod Sizes
+pub mod Numbers
+pub mod Bounds
+pub mod Reasons
+pub mod Inside
+pub mod LevelLoops
+pub mod Decision
+pub mod RowLoops
+pub mod Views
+pub mod Marks
+pub mod Valid

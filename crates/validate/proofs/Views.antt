@@ -1,0 +1,56 @@
+-- The model's tests of a state's view, in the terms of its arrays.
+use Prim.Native.Nat.{ℕ, _+_, _-_}
+use native.Mathlib.Omega.{arith}
+use native.Mathlib.Numerals.{add-one}
+use mathlib.Core.Path.{_≡_, refl, ap, ap₂, _∙_}
+use lib.Dec.{eqb}
+use lib.ListN.{length}
+use Rattle.model.specs.Lists.{tab, allOf, allPairs}
+use Rattle.model.specs.Ranges.{maxCuts}
+use Rattle.model.specs.Constraint.{inRange}
+use Rattle.model.specs.Search as model
+use Rattle.model.specs.Validity.{scalarsValid, constraintsValid, cutNumber, numbersValid, levelsValid, nestedValid}
+use Rattle.lists.proofs.Tab.{length-tab, tab-ext-0}
+use Rattle.layout.specs.Rows.{rowAt}
+use Rattle.state.specs.View.{levelsFrom, keptCuts, storedNumber, coreWith, coreOf, view}
+use Rattle.state.specs.declared.Search.{Search}
+use Rattle.state.proofs.Cores.{kept-rows, length-levels}
+use Rattle.validate.specs.Sizes.{sizesValid, numberFrom}
+use Rattle.validate.specs.Nested.{nestedTo}
+use Rattle.validate.proofs.Numbers.{numbersTo}
+use Rattle.validate.proofs.LevelLoops.{levelsTo}
+
+module _ (s : Search) where
+  cuts-length : length (coreOf s .cuts) ≡ keptCuts (s .made)
+  unfolding coreOf coreWith
+  cuts-length = length-tab (rowAt (s .n) (s .rows)) (s .m) (keptCuts (s .made))
+
+  stored : coreOf s .numbers ≡ tab (storedNumber (s .numbers)) 0 (keptCuts (s .made))
+  unfolding coreOf coreWith
+  stored = refl
+
+  pub sizes-view : scalarsValid (view s) ≡ sizesValid (s .n) (s .m) (s .budget) (s .conflicts) (s .made) (s .depth)
+  unfolding scalarsValid sizesValid view model.depth coreOf coreWith
+  sizes-view = rw (length-tab (rowAt (s .n) (s .rows)) 0 (s .m), length-levels (s .n) (s .levels) (s .depth))
+
+  pub constraints-view : constraintsValid (coreOf s) ≡ allOf inRange (tab (rowAt (s .n) (s .rows)) 0 (s .m + keptCuts (s .made)))
+  unfolding constraintsValid coreOf
+  constraints-view = ap (allOf inRange) (kept-rows _ _ _ _ _ _ _)
+
+  number-here : (p : ℕ) → cutNumber (coreOf s) p ≡ numberFrom (s .m + (s .made - maxCuts) + 1) p
+  unfolding cutNumber numberFrom model.dropped coreOf coreWith
+  number-here p = rw (length-tab (rowAt (s .n) (s .rows)) 0 (s .m)) (omega arith)
+
+  pub numbers-view : numbersValid (coreOf s) ≡ numbersTo (s .numbers) (s .m + (s .made - maxCuts) + 1) (keptCuts (s .made))
+  unfolding numbersValid numbersTo
+  numbers-view =
+      ap₂ (allPairs eqb) stored
+      (ap (tab (cutNumber (coreOf s)) 0) cuts-length ∙ tab-ext-0 (cutNumber (coreOf s)) _ (keptCuts (s .made)) (λ p h. number-here p))
+
+  pub levels-view : levelsValid (coreOf s) ≡ levelsTo (s .n) (s .m + s .made) (s .levels) (s .depth + 1)
+  unfolding levelsValid levelsTo model.levels levelsFrom coreOf coreWith
+  levels-view = rw (length-tab (rowAt (s .n) (s .rows)) 0 (s .m), add-one (s .depth))
+
+  pub nested-view : nestedValid (coreOf s .variables) (coreOf s .deepest) (coreOf s .outer) ≡ nestedTo (s .n) (s .levels) (s .depth)
+  unfolding nestedTo coreOf coreWith
+  nested-view = refl

@@ -1,0 +1,21 @@
+-- `validate::levels::is_level_valid` meets its contract. Assumes nothing.
+use Rattle.validate.proofs.LevelLoops.{level-box, level-reasons}
+use borrow.Author.Needs.{needs}
+use Rattle.validate.proofs.levels.is_level_valid.Statement.{statement}
+use Rattle.validate.proofs.levels.is_level_valid.Tie as tie
+
+is-box-in-range-requires : tie.Need-is-box-in-range-requires
+is-box-in-range-requires c κs = search needs
+
+returns : tie.Need-returns
+returns c = search (needs, level-box)
+
+are-reasons-valid-requires : tie.Need-are-reasons-valid-requires
+are-reasons-valid-requires c κs = search needs
+
+returns-2 : tie.Need-returns-2
+returns-2 c = search (needs, level-reasons)
+
+pub is-level-valid-spec : {M : Type 1} → statement M
+is-level-valid-spec =
+    tie.close (tie.spec is-box-in-range-requires returns are-reasons-valid-requires returns-2)

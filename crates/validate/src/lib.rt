@@ -1,0 +1,36 @@
+// Document 01's 'foreign walk' (9): whether a search state is one that a turn or a run takes.
+ghost use mathlib.Core.Path.{_≡_};
+ghost use Rattle.model.specs.Validity.{valid};
+ghost use Rattle.state.specs.View.{view};
+use state::Search;
+
+pub mod constraints;
+pub mod levels;
+pub mod scalars;
+pub mod status;
+
+// Whether a search state, made up or not, is valid: none of the conditions of a 'foreign walk' holds. Sizes come first, for indices are computed from
+// them, and ranges before any activity.
+pub fn is_valid(s: Search) -> bool
+    ensures { λ r. ⌜ r ≡ valid (view s) ⌝ }
+{
+    if !scalars::are_sizes_valid(s.n, s.m, s.budget, s.conflicts, s.made, s.depth) {
+        return false;
+    }
+    let kept = scalars::kept_cuts(s.made);
+    let count = s.m + kept;
+    if !constraints::are_constraints_valid(&s.rows, count, s.n) {
+        return false;
+    }
+    let first = s.m + scalars::dropped_cuts(s.made) + 1;
+    if !scalars::are_numbers_valid(&s.numbers, first, kept) {
+        return false;
+    }
+    if !levels::are_levels_valid(s) {
+        return false;
+    }
+    if !levels::are_levels_nested(s) {
+        return false;
+    }
+    status::is_status_valid(s, count)
+}

@@ -1,0 +1,84 @@
+// The sizes and counters of a search state, and the numbers of its kept cuts.
+ghost use mathlib.Core.Path.{_≡_};
+ghost use Prim.Native.Nat.{_+_, _-_, _≤_};
+ghost use lib.Dec.{eqb};
+ghost use lib.ListN.{length};
+ghost use Rattle.model.specs.Ranges.{maxCuts};
+ghost use Rattle.model.specs.Lists.{tab, allPairs};
+ghost use Rattle.state.specs.View.{keptCuts, storedNumber};
+ghost use Rattle.validate.specs.Sizes.{sizesValid, numberFrom, maxFirst};
+
+const MAX_VARIABLES: usize = 32;
+
+const MAX_CONSTRAINTS: usize = 64;
+
+const MAX_CUTS: usize = 64;
+
+const MAX_BUDGET: usize = 1000000000;
+
+// Whether n, m, B, the dead ends, the cuts made and the depth are in range.
+pub fn are_sizes_valid(
+    n: usize,
+    m: usize,
+    budget: usize,
+    conflicts: usize,
+    made: usize,
+    depth: usize,
+) -> bool
+    ensures { λ r. ⌜ r ≡ sizesValid n m budget conflicts made depth ⌝ }
+{
+    if n < 1 {
+        return false;
+    }
+    if MAX_VARIABLES < n {
+        return false;
+    }
+    if MAX_CONSTRAINTS < m {
+        return false;
+    }
+    if MAX_BUDGET < budget {
+        return false;
+    }
+    if n < depth {
+        return false;
+    }
+    if budget < conflicts {
+        return false;
+    }
+    made <= conflicts
+}
+
+// How many cuts are kept.
+pub fn kept_cuts(made: usize) -> usize
+    ensures { λ r. ⌜ (r ≡ keptCuts made) × (r ≤ maxCuts) ⌝ }
+{
+    if made < MAX_CUTS {
+        return made;
+    }
+    MAX_CUTS
+}
+
+// How many cuts were made and are no longer kept.
+pub fn dropped_cuts(made: usize) -> usize
+    ensures { λ r. ⌜ r ≡ made - maxCuts ⌝ }
+{
+    if made < MAX_CUTS {
+        return 0;
+    }
+    made - MAX_CUTS
+}
+
+// Whether the first `count` stored numbers follow one another from `first` on.
+pub fn are_numbers_valid(numbers: &[usize], first: usize, count: usize) -> bool
+    requires { ⌜ (first ≤ maxFirst) × (count ≤ maxCuts) × (count ≤ length (now numbers)) ⌝ }
+    ensures { λ r. ⌜ r ≡ allPairs eqb (tab (storedNumber (now (numbers .entry))) 0 count) (tab (numberFrom first) 0 count) ⌝ }
+{
+    let mut p: usize = 0;
+    while p < count {
+        if numbers[p] != first + p {
+            return false;
+        }
+        p += 1;
+    }
+    true
+}
