@@ -13,6 +13,7 @@ use Rattle.model.specs.Points.{Point, Inside, Meets, Before}
 use Rattle.validity.proofs.Boxes.{Ordered, Nested, FirstOpen, first-open, nested-refl, nested-trans, nested-inside, lowHalf, highHalf, low-nested, low-ordered, high-nested, high-ordered, halves-inside, halves-before}
 use Rattle.soundness.proofs.Sizes.{size, size-positive, size-nested, halves-size}
 use Rattle.validity.proofs.Constraints.{falsified-empty, falsified-nested}
+use Rattle.validity.proofs.Steps.{impossible}
 
 -- ---- the levels of an opened search: each lies in the low half of its decision, which is at the first open variable of the one above
 abbrev pub Chain : Box → Level → List Level → Type 0
@@ -154,15 +155,12 @@ falsified-top k zero l ls f = f
 falsified-top k (suc j) l [] f = f
 falsified-top k (suc j) l (o ∷ ls) f = f .0
 
-nothing : {A : Type 0} (level : Level) (rest : List Level) → _≡_ {A = List Level} [] (level ∷ rest) → A
-nothing level rest e = let z : _≡_ {A = ℕ} 0 1 = cc in let y : ⊥ = omega arith in absurd y
-
 -- a constraint that the level after j dropped ones falsifies is falsified at those too
 pub falsified-to : (domain : Box) (k : Constraint) (j : ℕ) (l level : Level) (ls rest : List Level) → Chain domain l ls → drop j (l ∷ ls) ≡ level ∷ rest →
     T (falsified k (level .box)) → FalsifiedTo k j l ls
 falsified-to domain k zero l level ls rest c e f = let h : level ≡ l = cc in subst (λ (m : Level). T (falsified k (m .box))) h f
-falsified-to domain k (suc zero) l level [] rest c e f = nothing level rest e
-falsified-to domain k (suc (suc j)) l level [] rest c e f = nothing level rest e
+falsified-to domain k (suc zero) l level [] rest c e f = impossible (cc)
+falsified-to domain k (suc (suc j)) l level [] rest c e f = impossible (cc)
 falsified-to domain k (suc j) l level (o ∷ ls) rest c e f =
     let r = falsified-to domain k j o level ls rest (c .3) e f in
     let n = nested-trans (l .box) (lowHalf (l .decided) (o .box)) (o .box) (c .1) (low-nested (l .decided) (o .box) (chain-ordered domain o ls (c .3))) in

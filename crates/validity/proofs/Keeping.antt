@@ -21,6 +21,7 @@ use Rattle.lists.proofs.Tab.{length-tab, tab-drop, tab-more, tab-shift}
 use Rattle.lists.proofs.AllOf.{allOf-weaker}
 use Rattle.lists.proofs.AnyOf.{anyOf-append}
 use Rattle.lists.proofs.AllPairs.{pairs-equal}
+use Rattle.validity.proofs.Tests.{equal-in}
 use Rattle.validity.proofs.States.{Every, ConstraintFits, LevelFits, CoreFits}
 use Rattle.validity.proofs.Elements.{every-left, every-right, every-append, every-drop, every-map, Holds, holds-map, holds-cond}
 
@@ -90,20 +91,13 @@ keep-fits c k h g =
     }
 
 -- ---- an equal constraint
-same-ℤ : (a b : ℤ) → T (equalℤ a b) → a ≡ b
-unfolding equalℤ
-same-ℤ (pos a) (pos b) t = ap pos (eqb→eq a b t)
-same-ℤ (pos a) (negsuc b) t = absurd t
-same-ℤ (negsuc a) (pos b) t = absurd t
-same-ℤ (negsuc a) (negsuc b) t = ap negsuc (eqb→eq a b t)
-
 same-constraint : (k l : Constraint) → T (equal k l) → k ≡ l
 unfolding equal
 same-constraint k l t =
     let pairs = allPairs equalℤ (k .coefficients) (l .coefficients) in
     let first = equalℤ (k .constant) (l .constant) in
-    let constants = same-ℤ (k .constant) (l .constant) (and-left first pairs t) in
-    let coefficients = pairs-equal equalℤ (λ a b e. same-ℤ a b (T-of e)) (k .coefficients) (l .coefficients) (true-of pairs (and-right first pairs t)) in
+    let constants = equal-in (k .constant) (l .constant) (and-left first pairs t) in
+    let coefficients = pairs-equal equalℤ (λ a b e. equal-in a b (T-of e)) (k .coefficients) (l .coefficients) (true-of pairs (and-right first pairs t)) in
     ap₂ (λ (a : ℤ) (cs : List ℤ). record { constant = a; coefficients = cs }) constants coefficients
 
 -- a position that is found shows a constraint that the box falsifies
