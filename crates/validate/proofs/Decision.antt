@@ -1,15 +1,16 @@
 -- The tests of a level's decision in the level above it, whose bounds are bottom and top.
 use Prim.Native.Nat.{ℕ, _<_, _≤_}
-use mathlib.Core.Bool.{true, false}
+use mathlib.Core.Bool.{Bool, true, false, and-true as and-one}
 use mathlib.Core.List.{List, [], _∷_}
-use mathlib.Core.Path.{_≡_, ap}
+use mathlib.Core.Path.{_≡_, refl, sym, ap}
+use lib.Dec.{eqb}
 use lib.IntN.{ℤ, pos}
 use lib.Signed.{_≤ℤ_, _<ℤ_, leZ, ltZ}
 use lib.ListN.{getD}
 use mir.Syntax.{w64}
 use mir.Val.{SFits, ofZ}
 use mir.Facts.{toZ-ofZ}
-use borrow.Author.Tests.{lt-ltb, le-ltb}
+use borrow.Author.Tests.{lt-ltb, le-ltb, eqb-true, eqb-false}
 use Rattle.model.specs.Lists.{all}
 use Rattle.model.specs.Constraint.{equalℤ}
 use Rattle.model.specs.Validity.{decisionValid}
@@ -25,6 +26,13 @@ equal {a} {b} f g e = let z : a ≡ b = same f g e in rw z (equal-refl b)
 
 unequal : (a b : ℤ) → (ofZ w64 a ≡ ofZ w64 b → ⊥) → equalℤ a b ≡ false
 unequal a b h = equal-not a b (λ e. h (ap (ofZ w64) e))
+
+equal-bits : {a b : ℤ} → SFits w64 a → SFits w64 b → eqb (ofZ w64 a) (ofZ w64 b) ≡ equalℤ a b
+equal-bits {a} {b} f g = go (eqb (ofZ w64 a) (ofZ w64 b)) refl
+  where
+    go : (t : Bool) → eqb (ofZ w64 a) (ofZ w64 b) ≡ t → t ≡ equalℤ a b
+    go true e = sym (equal f g (eqb-true _ _ e))
+    go false e = sym (unequal a b (eqb-false _ _ e))
 
 module _ (n i : ℕ) (lower upper bottom top : List ℤ) where
   pub decided-past : n ≤ i → false ≡ decisionValid n i (boxOf n lower upper) (boxOf n bottom top)
@@ -58,11 +66,7 @@ module _ (n i : ℕ) (lower upper bottom top : List ℤ) where
       decided-lower h = rw (tests, is-open, unequal (getD lower i (pos 0)) (getD bottom i (pos 0)) h)
 
       module _ (f : SFits w64 (getD lower i (pos 0))) (p : ofZ w64 (getD lower i (pos 0)) ≡ ofZ w64 (getD bottom i (pos 0))) where
-        pub decided-upper : (ofZ w64 (getD upper i (pos 0)) ≡ ofZ w64 (getD bottom i (pos 0)) → ⊥) → false ≡ decisionValid n i (boxOf n lower upper) (boxOf n bottom top)
+        pub decided-upper : SFits w64 (getD upper i (pos 0)) →
+            eqb (ofZ w64 (getD upper i (pos 0))) (ofZ w64 (getD bottom i (pos 0))) ≡ decisionValid n i (boxOf n lower upper) (boxOf n bottom top)
         unfolding all
-        decided-upper h = rw (tests, is-open, equal f a p, unequal (getD upper i (pos 0)) (getD bottom i (pos 0)) h)
-
-        pub decided-both : SFits w64 (getD upper i (pos 0)) → ofZ w64 (getD upper i (pos 0)) ≡ ofZ w64 (getD bottom i (pos 0)) →
-            true ≡ decisionValid n i (boxOf n lower upper) (boxOf n bottom top)
-        unfolding all
-        decided-both g q = rw (tests, is-open, equal f a p, equal g a q)
+        decided-upper g = rw (tests, is-open, equal f a p, and-one (equalℤ (getD upper i (pos 0)) (getD bottom i (pos 0)))) (equal-bits g a)

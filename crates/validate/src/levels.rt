@@ -167,10 +167,7 @@ fn is_decision_valid<'a>(
     if lower[i] != v {
         return false;
     }
-    if upper[i] != v {
-        return false;
-    }
-    true
+    upper[i] == v
 }
 
 // Whether a level is one that a decision in the level above it leads to.

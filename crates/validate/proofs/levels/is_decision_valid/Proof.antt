@@ -1,5 +1,5 @@
 -- `validate::levels::is_decision_valid` meets its contract: each test in its turn. Assumes nothing.
-use Rattle.validate.proofs.Decision.{decided-both, decided-lower, decided-past, decided-shut, decided-upper}
+use Rattle.validate.proofs.Decision.{decided-lower, decided-past, decided-shut, decided-upper}
 use borrow.Author.Needs.{needs}
 use Rattle.validate.proofs.levels.is_decision_valid.Statement.{statement}
 use Rattle.validate.proofs.levels.is_decision_valid.Tie as tie
@@ -31,17 +31,14 @@ shared-slice-copy-out-if3 c = search needs
 returns-3 : tie.Need-returns-3
 returns-3 c = search (needs, decided-lower)
 
-mul-if4 : tie.Need-mul-if4
-mul-if4 c = search needs
+mul-result : tie.Need-mul-result
+mul-result c = search needs
 
-shared-slice-copy-out-if4 : tie.Need-shared-slice-copy-out-if4
-shared-slice-copy-out-if4 c = search needs
+shared-slice-copy-out-result : tie.Need-shared-slice-copy-out-result
+shared-slice-copy-out-result c = search needs
 
 returns-4 : tie.Need-returns-4
 returns-4 c = search (needs, decided-upper)
-
-returns-5 : tie.Need-returns-5
-returns-5 c = search (needs, decided-both)
 
 pub is-decision-valid-spec : {M : Type 1} → statement M
 is-decision-valid-spec =
@@ -56,7 +53,6 @@ is-decision-valid-spec =
     mul-if3
     shared-slice-copy-out-if3
     returns-3
-    mul-if4
-    shared-slice-copy-out-if4
-    returns-4
-    returns-5)
+    mul-result
+    shared-slice-copy-out-result
+    returns-4)

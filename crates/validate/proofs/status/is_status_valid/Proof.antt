@@ -28,7 +28,7 @@ is-any-falsified-requires c κs =
     let e = start .pre .0 .1 in
     let room : length (start .args .t1 .rows) ≡ 4224 = search needs in
     let w = c .before .before .before .before .before .before .before .before .whole .ensures in
-    let box = box-passed (start .args .t1) 0 _ (w .0) (w .1) z (start .pre .1 .1) (omega arith) in
+    let box = box-passed (start .args .t1) _ _ (w .0) (w .1) z (start .pre .1 .1) (omega arith) in
     ((z .variables, omega arith), (start .pre .1 .0, box))
 
 enum-told-3 : tie.Need-enum-told-3

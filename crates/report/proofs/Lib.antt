@@ -1,0 +1,3 @@
+-- Laws of the functions that put numbers.
+pub mod Digits
+pub mod Magnitude
