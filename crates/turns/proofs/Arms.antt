@@ -36,9 +36,8 @@ unfolding view coreOf
 view-stored n m budget conflicts made depth status rows numbers levels l h =
     rw (level-here n levels depth l h, levels-above n levels depth depth l (omega arith))
 
-module _ (s : model.Search) (old : List ℕ) (limit : ℕ) (keep : Bool) (n m budget : ℕ) (now : List ℕ) (rows : List ℤ) (numbers : List ℕ) (levels : List Level) (made conflicts depth : ℕ)
-    (level before : Level) (start done : ℕ) (here : Level)
-    (r : Running s old limit keep n m budget now rows numbers levels made conflicts depth level before start done) where
+module _ {s : model.Search} {old : List ℕ} {limit : ℕ} {keep : Bool} {n m budget : ℕ} {now : List ℕ} {rows : List ℤ} {numbers : List ℕ} {levels : List Level} {made conflicts depth : ℕ}
+    {level before : Level} {start done : ℕ} (r : Running s old limit keep n m budget now rows numbers levels made conflicts depth level before start done) where
   -- one turn more is allowed
   more : done < limit → limit - done ≡ suc (limit - done - 1)
   more h = omega arith
@@ -47,11 +46,11 @@ module _ (s : model.Search) (old : List ℕ) (limit : ℕ) (keep : Bool) (n m bu
       advance limit s ≡ withBlocks (r .blocks) (lastTurn o)
   last-trace o h e = r .ahead ∙ ap (withBlocks (r .blocks)) (rw (more h) e)
 
-  pub finishes : done < limit → depth < length levels →
+  pub finishes : (here : Level) → done < limit → depth < length levels →
       Propagates (coreHere n m rows numbers levels made depth level) (coreHere n m rows numbers levels made depth here) finish →
       Advances s limit keep (record { ending = Solution; blocks = done; state = stateWith n m budget conflicts made depth Solved rows numbers (set levels depth here) }) old now
   unfolding traceOf verdictOf statusOf withBlocks lastTurn solvedBy withStatus blockIn follow
-  finishes h k p =
+  finishes here h k p =
       let t = turnStart n m budget conflicts rows numbers levels made before start in
       let c = coreHere n m rows numbers levels made depth here in
       let d : descend (t .core) ≡ record { core = c; falsified = none } = r .turn ∙ p .next in
@@ -64,11 +63,11 @@ module _ (s : model.Search) (old : List ℕ) (limit : ℕ) (keep : Bool) (n m bu
       }
 
   -- out of budget: the levels from the turn's start on are put back
-  pub spends : (j : ℕ) → done < limit → start < length levels → conflicts ≡ budget →
+  pub spends : (here : Level) (j : ℕ) → done < limit → start < length levels → conflicts ≡ budget →
       Propagates (coreHere n m rows numbers levels made depth level) (coreHere n m rows numbers levels made depth here) (conflict j) →
       Advances s limit keep (record { ending = OutOfBudget; blocks = done; state = stateWith n m budget conflicts made start Undecided rows numbers (set (set levels depth here) start before) }) old now
   unfolding traceOf verdictOf statusOf withBlocks lastTurn budgetSpent blockIn follow
-  spends j h k e p =
+  spends here j h k e p =
       let t = turnStart n m budget conflicts rows numbers levels made before start in
       let c = coreHere n m rows numbers levels made depth here in
       let d : descend (t .core) ≡ record { core = c; falsified = some j } = r .turn ∙ p .next in

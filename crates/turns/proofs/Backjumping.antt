@@ -3,6 +3,7 @@ use Prim.Native.Nat.{ℕ, zero, suc, _+_, _-_, _≤_, _<_}
 use native.Mathlib.Omega.{arith}
 use mathlib.Core.Bool.{Bool, true, false, cond}
 use mathlib.Core.List.{List, [], _∷_, _++_}
+use mathlib.Core.Logic.{⊎-elim}
 use mathlib.Core.Option.{Option, none, some}
 use mathlib.Core.Path.{_≡_, refl, sym, ap, ap₂, subst, _∙_}
 use lib.IntN.{ℤ, pos, sucℤ, _+ℤ_, +ℤ-one}
@@ -11,8 +12,9 @@ use Rattle.model.specs.Lists.{tab, orElse, withDefault}
 use Rattle.model.specs.Constraint.{Constraint, nextValue, falsified}
 use Rattle.model.specs.Search as model
 use Rattle.model.specs.Conflict.{leastFalsified, backjumpLevel, backFrom, backUp}
-use Rattle.layout.specs.Rows.{numberIn}
-use Rattle.state.specs.View.{reasonOf, flippedReason, levelOf, levelAt, levelsFrom, coreWith}
+use Rattle.lists.proofs.Bools.{lt-or-le}
+use Rattle.layout.specs.Rows.{numberIn, boxOf}
+use Rattle.state.specs.View.{reasonOf, flippedReason, noLevel, levelOf, levelAt, levelsFrom, coreWith}
 use Rattle.state.specs.Change.{Whole, raised}
 use Rattle.state.specs.declared.Level.{Level}
 use Rattle.state.proofs.Levels.{level-raised, level-lower}
@@ -23,6 +25,14 @@ abbrev pub Passed : ℕ → List Level → Constraint → ℕ → Type 0
 Passed n levels cut e = (k : ℕ) → k < e → falsified cut (levelAt n levels k .box) ≡ false
 
 module _ (n : ℕ) (levels : List Level) (cut : Constraint) where
+  -- what a test of the level at depth e told, of the level as it was read
+  pub tested : (e : ℕ) (o : Level) → o ≡ getD levels e noLevel → (t : Bool) → t ≡ falsified cut (boxOf n (o .lower) (o .upper)) → falsified cut (levelAt n levels e .box) ≡ t
+  unfolding levelAt levelOf
+  tested e o q t f = sym (f ∙ ap (λ (l : Level). falsified cut (boxOf n (l .lower) (l .upper))) q)
+
+  pub passed-more : (e : ℕ) → Passed n levels cut e → falsified cut (levelAt n levels e .box) ≡ false → Passed n levels cut (e + 1)
+  passed-more e p f k h = ⊎-elim (λ l. p k l) (λ l. let z : k ≡ e = omega arith in rw z f) (lt-or-le k e)
+
   least-none : (e : ℕ) → Passed n levels cut e → leastFalsified cut (levelsFrom n levels e) ≡ none
   unfolding leastFalsified levelsFrom orElse
   least-none zero p = refl

@@ -9,3 +9,7 @@ pub mod Buffers
 pub mod Running
 pub mod Arms
 pub mod Counting
+pub mod Starting
+pub mod Rounds
+pub mod Stored
+pub mod Counted

@@ -86,7 +86,7 @@ core-decided n m made rows numbers levels d i l w f h k =
     rw (level-decided n l w f i h, level-here n levels d l k, levels-above n levels d d l (omega arith))
 
 -- the first open variable is one of the n
-decided-variable : (c : model.Core) (i : ℕ) → CoreFits c → Decides (model.kept c) (c .deepest .box) i → i < c .variables
+pub decided-variable : (c : model.Core) (i : ℕ) → CoreFits c → Decides (model.kept c) (c .deepest .box) i → i < c .variables
 unfolding model.levels
 decided-variable c i f d = omega (arith, first-open i (c .deepest .box) (d .first) .at, f .levels .0 .box)
 
@@ -104,33 +104,33 @@ pub turn-kept : (n m budget conflicts : ℕ) (rows : List ℤ) (numbers : List �
     turnStart n m budget conflicts rows numbers (set levels d l) made before start ≡ turnStart n m budget conflicts rows numbers levels made before start
 turn-kept n m budget conflicts rows numbers levels made before start d l h = rw (levels-above n levels start d l h)
 
-pub running-decides : (s : model.Search) (old : List ℕ) (limit : ℕ) (keep : Bool) (n m budget : ℕ) (now : List ℕ) (rows : List ℤ) (numbers : List ℕ) (levels : List Level) (made conflicts depth : ℕ)
-    (level before : Level) (start done i : ℕ) (here : Level) →
-    Running s old limit keep n m budget now rows numbers levels made conflicts depth level before start done → Whole here →
-    Propagates (coreHere n m rows numbers levels made depth level) (coreHere n m rows numbers levels made depth here) (decide i) →
-    Running s old limit keep n m budget now rows numbers (set levels depth here) made conflicts (depth + 1) (decidedAt here i) before start done
-running-decides s old limit keep n m budget now rows numbers levels made conflicts depth level before start done i here r w p =
-    let c = coreHere n m rows numbers levels made depth here in
-    let v : i < n = unfold coreWith in decided-variable c i (p .fits) (p .chosen) in
-    let deep : depth < length levels = omega (arith, depth-here n m rows numbers levels made depth here (p .fits), r .counts .few, r .levelsLong) in
-    let e = core-decided n m made rows numbers levels depth i here w (r .counts .few) v deep in
-    let t = turn-kept n m budget conflicts rows numbers levels made before start depth here (r .from) in
-    rw add-one
-    (record {
-      counts = r .counts;
-      whole = whole-decided here i w;
-      wholeBefore = r .wholeBefore;
-      rowsLong = r .rowsLong;
-      numbersLong = r .numbersLong;
-      levelsLong = length-set levels depth here ∙ r .levelsLong;
-      fits = subst CoreFits e (decide-fits c i (p .fits) (p .chosen));
-      from = omega (arith, r .from);
-      turn = ap (λ (x : model.Search). descend (x .core)) t ∙ r .turn ∙ p .next ∙ (unfold follow in ap descend e);
-      within = r .within;
-      blocks = r .blocks;
-      many = r .many;
-      long = r .long;
-      room = r .room;
-      ahead = r .ahead ∙ ap (λ (x : model.Search). withBlocks (r .blocks) (advance (limit - done) x)) (sym t);
-      buffer = r .buffer;
-    })
+module _ {s : model.Search} {old : List ℕ} {limit : ℕ} {keep : Bool} {n m budget : ℕ} {now : List ℕ} {rows : List ℤ} {numbers : List ℕ} {levels : List Level} {made conflicts depth : ℕ}
+    {level before : Level} {start done : ℕ} (r : Running s old limit keep n m budget now rows numbers levels made conflicts depth level before start done) where
+  pub running-decides : (i : ℕ) (here : Level) → Whole here →
+      Propagates (coreHere n m rows numbers levels made depth level) (coreHere n m rows numbers levels made depth here) (decide i) →
+      Running s old limit keep n m budget now rows numbers (set levels depth here) made conflicts (depth + 1) (decidedAt here i) before start done
+  running-decides i here w p =
+      let c = coreHere n m rows numbers levels made depth here in
+      let v : i < n = unfold coreWith in decided-variable c i (p .fits) (p .chosen) in
+      let deep : depth < length levels = omega (arith, depth-here n m rows numbers levels made depth here (p .fits), r .counts .few, r .levelsLong) in
+      let e = core-decided n m made rows numbers levels depth i here w (r .counts .few) v deep in
+      let t = turn-kept n m budget conflicts rows numbers levels made before start depth here (r .from) in
+      rw add-one
+      (record {
+        counts = r .counts;
+        whole = whole-decided here i w;
+        wholeBefore = r .wholeBefore;
+        rowsLong = r .rowsLong;
+        numbersLong = r .numbersLong;
+        levelsLong = length-set levels depth here ∙ r .levelsLong;
+        fits = subst CoreFits e (decide-fits c i (p .fits) (p .chosen));
+        from = omega (arith, r .from);
+        turn = ap (λ (x : model.Search). descend (x .core)) t ∙ r .turn ∙ p .next ∙ (unfold follow in ap descend e);
+        within = r .within;
+        blocks = r .blocks;
+        many = r .many;
+        long = r .long;
+        room = r .room;
+        ahead = r .ahead ∙ ap (λ (x : model.Search). withBlocks (r .blocks) (advance (limit - done) x)) (sym t);
+        buffer = r .buffer;
+      })

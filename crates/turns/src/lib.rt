@@ -1,6 +1,7 @@
 // Turns repeated in place, on a valid state.
 use state::Search;
 
+pub mod advance;
 pub mod learn;
 
 // How turns repeated end: after as many as were asked for, or with a verdict.

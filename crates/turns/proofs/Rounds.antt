@@ -1,0 +1,127 @@
+-- A round of the loop: what its first call asks and gives, and the measure after a decision.
+use Prim.Native.Nat.{ℕ, _+_, _-_, _*_, _≤_, _<_}
+use native.Mathlib.Omega.{arith}
+use mathlib.Core.Bool.{Bool, true, false}
+use mathlib.Core.List.{List}
+use mathlib.Core.Path.{_≡_, refl, sym, ap, subst, _∙_}
+use lib.Dec.{T}
+use lib.IntN.{ℤ}
+use lib.ListN.{length, drop, length-append, length-drop}
+use Rattle.model.specs.Lists.{allOf}
+use Rattle.model.specs.Ranges.{maxBudget}
+use Rattle.model.specs.Bytes.{blockLength}
+use Rattle.model.specs.Constraint.{Constraint}
+use Rattle.model.specs.Problem.{boundsInRange}
+use Rattle.model.specs.Search as model
+use Rattle.model.specs.Move.{Move, conflict, decide, slack}
+use Rattle.model.specs.Trace.{joined}
+use Rattle.lists.proofs.Tab.{length-tab}
+use Rattle.layout.specs.Rows.{rowAt, boxOf}
+use Rattle.validity.proofs.Boxes.{Ordered, OpenAt, first-open, lowHalf, low-slack, set-lower-ordered, set-upper-ordered, set-lower-slack, set-upper-slack}
+use Rattle.validity.proofs.Moves.{Chosen}
+use Rattle.validity.proofs.States.{deepest-ordered}
+use Rattle.state.specs.View.{levelOf, levelsFrom, keptCuts, coreWith}
+use Rattle.state.specs.Change.{Whole, decidedAt}
+use Rattle.state.specs.declared.Level.{Level}
+use Rattle.state.proofs.Levels.{level-decided}
+use Rattle.state.proofs.Cores.{kept-rows}
+use Rattle.propagate.specs.Moves.{stopOf}
+use Rattle.propagate.specs.Propagation.{Propagation, propagation, numberFor, propagationOf}
+use Rattle.propagate.specs.Ready.{keptRows, Ready}
+use Rattle.propagate.specs.declared.propagate.Propagated.{Propagated}
+use Rattle.propagate.proofs.Fuel.{propagation-keeps}
+use Rattle.propagate.proofs.States.{state-ready, state-descent, state-fits, state-chosen}
+use Rattle.turns.specs.Advancing.{Buffered}
+use Rattle.turns.specs.Learning.{Learnable}
+use Rattle.turns.proofs.Measures.{turnWeight}
+use Rattle.turns.proofs.Running.{Running, Propagates, coreHere, depth-here, decided-variable}
+
+-- ---- propagation does not widen a box
+slack-propagated : (ks : List Constraint) (number : ℕ → ℕ) (l : model.Level) → Ordered (l .box) → slack (propagation ks number l .level .box) ≤ slack (l .box)
+slack-propagated ks number l o =
+    propagation-keeps ks number (λ k. Ordered (k .box) × (slack (k .box) ≤ slack (l .box))) (λ k p. p .0)
+    (λ k j i v p r. unfold model.raiseLower in (set-lower-ordered i v (k .box) (p .0) (r .fits), omega (arith, set-lower-slack i v (k .box) (r .variable) (p .0) (r .better) (r .fits), p .1)))
+    (λ k j i v p r. unfold model.lowerUpper in (set-upper-ordered i v (k .box) (p .0) (r .fits), omega (arith, set-upper-slack i v (k .box) (r .variable) (p .0) (r .fits) (r .better), p .1)))
+    l (o, omega arith) .holds .1
+
+-- the buffer has the length that it had
+buffered-length : (keep : Bool) (blocks : List (List ℕ)) (old now : List ℕ) (done limit : ℕ) → length blocks ≡ done → length (joined blocks) ≡ blockLength * done → done ≤ limit →
+    (keep ≡ true → blockLength * limit ≤ length old) → Buffered keep blocks old now → length now ≡ length old
+buffered-length true blocks old now done limit m l w room b =
+    let h = room refl in
+    ap length (b .written refl) ∙ omega (arith, length-append (joined blocks) (drop (blockLength * length blocks) old), length-drop (blockLength * length blocks) old)
+buffered-length false blocks old now done limit m l w room b = ap length (b .untouched refl)
+
+module _ {s : model.Search} {old : List ℕ} {limit : ℕ} {keep : Bool} {n m budget : ℕ} {now : List ℕ} {rows : List ℤ} {numbers : List ℕ} {levels : List Level} {made conflicts depth : ℕ}
+    {level before : Level} {start done : ℕ} (r : Running s old limit keep n m budget now rows numbers levels made conflicts depth level before start done) where
+  pub depth-small : depth ≤ 32
+  depth-small = omega (arith, depth-here n m rows numbers levels made depth level (r .fits), r .counts .few)
+
+  pub made-small : made ≤ maxBudget
+  made-small = omega (arith, r .counts .cuts, r .counts .afford, r .counts .limited)
+
+  pub ready : Ready n m made rows level
+  ready = state-ready n m made rows numbers level (levelsFrom n levels depth) (r .fits) (r .counts .few) (r .counts .inputs) made-small (r .whole)
+
+  pub same-length : length now ≡ length old
+  same-length = buffered-length keep (r .blocks) old now done limit (r .many) (r .long) (r .within) (r .room) (r .buffer)
+
+  pub box-ordered : Ordered (levelOf n level .box)
+  unfolding coreWith
+  box-ordered = deepest-ordered (coreHere n m rows numbers levels made depth level) (r .fits)
+
+  module _ (p : Propagated) (e : propagationOf n p ≡ propagation (keptRows n m made rows) (numberFor m made) (levelOf n level)) where
+    pub propagates : (q : Move) → stopOf (p .found) ≡ q → Propagates (coreHere n m rows numbers levels made depth level) (coreHere n m rows numbers levels made depth (p .level)) q
+    propagates q f =
+        let ls = levelsFrom n levels depth in
+        let d = coreHere n m rows numbers levels made depth (p .level) in
+        let chosen : Chosen (model.kept d) (d .deepest .box) (stopOf (p .found)) =
+        unfold coreWith levelOf in
+        subst (λ (ks : List Constraint). Chosen ks (boxOf n (p .level .lower) (p .level .upper)) (stopOf (p .found))) (sym (kept-rows n m made rows numbers (levelOf n (p .level)) ls))
+        (state-chosen n m made rows numbers level ls (r .fits) p e) in
+        subst (Propagates (coreHere n m rows numbers levels made depth level) d) f
+        (record { fits = state-fits n m made rows numbers level ls (r .fits) p e; next = state-descent n m made rows numbers level ls (r .fits) p e; chosen = chosen })
+
+    -- a decision: its variable, and the measure falls
+    pub decided-here : (i : ℕ) → stopOf (p .found) ≡ decide i → i < n
+    decided-here i f =
+        let q = propagates (decide i) f in
+        unfold coreWith in decided-variable (coreHere n m rows numbers levels made depth (p .level)) i (q .fits) (q .chosen)
+
+    slack-here : slack (levelOf n (p .level) .box) ≤ slack (levelOf n level .box)
+    unfolding propagationOf
+    slack-here =
+        subst (λ (q : Propagation). slack (q .level .box) ≤ slack (levelOf n level .box)) (sym e) (slack-propagated (keptRows n m made rows) (numberFor m made) (levelOf n level) box-ordered)
+
+    pub decide-less : (i : ℕ) → stopOf (p .found) ≡ decide i → Whole (p .level) →
+        (limit - done) * turnWeight + slack (boxOf n (decidedAt (p .level) i .lower) (decidedAt (p .level) i .upper)) <
+        (limit - done) * turnWeight + slack (boxOf n (level .lower) (level .upper))
+    decide-less i f w =
+        let q = propagates (decide i) f in
+        let c = coreHere n m rows numbers levels made depth (p .level) in
+        let o : Ordered (levelOf n (p .level) .box) = unfold coreWith in deepest-ordered c (q .fits) in
+        let a : OpenAt (levelOf n (p .level) .box) i = unfold coreWith in first-open i (levelOf n (p .level) .box) (q .chosen .first) in
+        let k : levelOf n (decidedAt (p .level) i) .box ≡ lowHalf i (levelOf n (p .level) .box) =
+        unfold model.decideAt lowHalf in ap (λ (x : model.Level). x .box) (level-decided n (p .level) w (r .counts .few) i (decided-here i f)) in
+        let less : slack (levelOf n (decidedAt (p .level) i) .box) < slack (levelOf n level .box) =
+        rw k (omega (arith, low-slack i (levelOf n (p .level) .box) o a, slack-here)) in
+        let small : slack (boxOf n (decidedAt (p .level) i .lower) (decidedAt (p .level) i .upper)) < slack (boxOf n (level .lower) (level .upper)) = unfold levelOf in less in
+        omega arith
+
+    -- a conflict: what learning from it asks
+    pub learnable : (j : ℕ) → stopOf (p .found) ≡ conflict j → Whole (p .level) × T (allOf boundsInRange (boxOf n (p .level .lower) (p .level .upper))) → Learnable n m made rows numbers (p .level) j
+    learnable j f w =
+        let q = propagates (conflict j) f in
+        let g = ready in
+        let size = ap length (kept-rows n m made rows numbers (levelOf n (p .level)) (levelsFrom n levels depth)) in
+        record {
+          variables = r .counts .few;
+          inputs = r .counts .inputs;
+          cuts = made-small;
+          rowsLong = r .rowsLong;
+          numbersLong = r .numbersLong;
+          whole = w .0;
+          constraints = g .constraints;
+          bounds = w .1;
+          position = omega (arith, q .chosen .at, size, length-tab (rowAt n rows) 0 (m + keptCuts made));
+        }
