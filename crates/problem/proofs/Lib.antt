@@ -3,7 +3,7 @@ pub mod Ranges
 pub mod FileTests
 pub mod Arrays
 pub mod Views
-pub mod Cascade
+pub mod ReadCascade
 pub mod Writing
 pub mod WriteCascade
 pub mod Numbers

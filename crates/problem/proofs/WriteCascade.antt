@@ -20,7 +20,7 @@ use Rattle.problem.specs.Answer.{number, written}
 use Rattle.problem.specs.Fields.{Writable}
 use Rattle.problem.specs.Sizes.{SizesTest}
 use Rattle.problem.specs.View.{problemOf}
-use Rattle.problem.proofs.Cascade.{pass, fail}
+use Rattle.problem.proofs.ReadCascade.{pass, fail}
 
 module _ (p : Problem) where
   variable-count : variables (problemOf p) ≡ p .n

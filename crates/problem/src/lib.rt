@@ -75,11 +75,11 @@ pub fn read(file: &[u8]) -> Reading
     if !reader::sizes_match(file) {
         return refused(Answer::SizeRange);
     }
-    let problem = reader::problem_in(file);
-    if !range::domain_in_range(problem) {
+    let found = reader::problem_in(file);
+    if !range::domain_in_range(found) {
         return refused(Answer::DomainRange);
     }
-    if !range::constraints_in_range(problem) {
+    if !range::constraints_in_range(found) {
         return refused(Answer::CoefficientRange);
     }
     if !reader::padding_zero(file) {
@@ -87,7 +87,7 @@ pub fn read(file: &[u8]) -> Reading
     }
     Reading {
         answer: Answer::Done,
-        problem,
+        problem: found,
     }
 }
 

@@ -1,5 +1,5 @@
 use borrow.Author.Needs.{needs}
-use Rattle.problem.proofs.Cascade.{pass, truncated, has-head, bad-checksum, bad-magic, size-range, blocks, domain-range, coefficient-range, nonzero-padding, accepted}
+use Rattle.problem.proofs.ReadCascade.{pass, truncated, has-head, bad-checksum, bad-magic, size-range, blocks, domain-range, coefficient-range, nonzero-padding, accepted}
 use Rattle.problem.proofs.read.Statement.{statement}
 use Rattle.problem.proofs.read.Tie as tie
 
@@ -10,7 +10,7 @@ refused-requires : tie.Need-refused-requires
 refused-requires c κs = search needs
 
 returns : tie.Need-returns
-returns c = search (needs, truncated)
+returns c = search truncated
 
 checks-match-requires : tie.Need-checks-match-requires
 checks-match-requires c κs = search needs
@@ -19,7 +19,7 @@ refused-requires-2 : tie.Need-refused-requires-2
 refused-requires-2 c κs = search needs
 
 returns-2 : tie.Need-returns-2
-returns-2 c = search (needs, bad-checksum, pass)
+returns-2 c = search (bad-checksum, pass)
 
 magic-matches-requires : tie.Need-magic-matches-requires
 magic-matches-requires c κs = search (needs, has-head, pass)
@@ -28,7 +28,7 @@ refused-requires-3 : tie.Need-refused-requires-3
 refused-requires-3 c κs = search needs
 
 returns-3 : tie.Need-returns-3
-returns-3 c = search (needs, bad-magic, pass)
+returns-3 c = search (bad-magic, pass)
 
 sizes-match-requires : tie.Need-sizes-match-requires
 sizes-match-requires c κs = search (needs, has-head, pass)
@@ -37,7 +37,7 @@ refused-requires-4 : tie.Need-refused-requires-4
 refused-requires-4 c κs = search needs
 
 returns-4 : tie.Need-returns-4
-returns-4 c = search (needs, size-range, pass)
+returns-4 c = search (size-range, pass)
 
 problem-in-requires : tie.Need-problem-in-requires
 problem-in-requires c κs = blocks _ (pass _ _ (c .before .sizes-match .ensures) (c .if4 .left))
@@ -49,7 +49,7 @@ refused-requires-5 : tie.Need-refused-requires-5
 refused-requires-5 c κs = search needs
 
 returns-5 : tie.Need-returns-5
-returns-5 c = search (needs, domain-range, pass)
+returns-5 c = search (domain-range, pass)
 
 constraints-in-range-requires : tie.Need-constraints-in-range-requires
 constraints-in-range-requires c κs = search needs
@@ -58,7 +58,7 @@ refused-requires-6 : tie.Need-refused-requires-6
 refused-requires-6 c κs = search needs
 
 returns-6 : tie.Need-returns-6
-returns-6 c = search (needs, coefficient-range, pass)
+returns-6 c = search (coefficient-range, pass)
 
 padding-zero-requires : tie.Need-padding-zero-requires
 padding-zero-requires c κs = blocks _ (pass _ _ (c .before .before .before .before .before .before .sizes-match .ensures) (c .before .before .before .before .before .if4 .left))
@@ -67,7 +67,7 @@ refused-requires-7 : tie.Need-refused-requires-7
 refused-requires-7 c κs = search needs
 
 returns-7 : tie.Need-returns-7
-returns-7 c = search (needs, nonzero-padding, pass)
+returns-7 c = search (nonzero-padding, pass)
 
 returns-8 : tie.Need-returns-8
 returns-8 c =

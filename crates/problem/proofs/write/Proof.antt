@@ -1,5 +1,5 @@
 use borrow.Author.Needs.{needs}
-use Rattle.problem.proofs.Cascade.{pass}
+use Rattle.problem.proofs.ReadCascade.{pass}
 use Rattle.problem.proofs.WriteCascade.{sized, variables-few, constraints-few, size-range, domain-range, coefficient-range, short-buffer, writable, done}
 use Rattle.problem.proofs.write.Statement.{statement}
 use Rattle.problem.proofs.write.Tie as tie
@@ -8,22 +8,22 @@ sizes-in-range-requires : tie.Need-sizes-in-range-requires
 sizes-in-range-requires c κs = search needs
 
 returns : tie.Need-returns
-returns c = search (needs, size-range)
+returns c = search size-range
 
 domain-in-range-requires : tie.Need-domain-in-range-requires
 domain-in-range-requires c κs = search (needs, variables-few, sized)
 
 returns-2 : tie.Need-returns-2
-returns-2 c = search (needs, domain-range, sized)
+returns-2 c = search (domain-range, sized)
 
 constraints-in-range-requires : tie.Need-constraints-in-range-requires
 constraints-in-range-requires c κs = search (needs, variables-few, constraints-few, sized)
 
 returns-3 : tie.Need-returns-3
-returns-3 c = search (needs, coefficient-range, sized, pass)
+returns-3 c = search (coefficient-range, sized, pass)
 
 returns-4 : tie.Need-returns-4
-returns-4 c = search (needs, short-buffer, sized, pass)
+returns-4 c = search (short-buffer, sized, pass)
 
 write-blocks-requires : tie.Need-write-blocks-requires
 write-blocks-requires c κs =
@@ -38,7 +38,7 @@ same-length : tie.Need-same-length
 same-length c = search needs
 
 returns-5 : tie.Need-returns-5
-returns-5 c = search (needs, done, sized, pass)
+returns-5 c = search (done, sized, pass)
 
 pub write-spec : {M : Type 1} → statement M
 write-spec =

@@ -19,7 +19,7 @@ same-length : tie.Need-same-length
 same-length c = search needs
 
 returns : tie.Need-returns
-returns c = search (needs, sizes-placed)
+returns c = search sizes-placed
 
 pub put-sizes-spec : {M : Type 1} → statement M
 put-sizes-spec =

@@ -16,7 +16,7 @@ same-length : tie.Need-same-length
 same-length c = search needs
 
 returns : tie.Need-returns
-returns c = search (needs, constraint-sealed)
+returns c = search constraint-sealed
 
 pub write-constraint-spec : {M : Type 1} → statement M
 write-constraint-spec =

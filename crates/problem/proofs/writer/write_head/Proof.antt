@@ -19,7 +19,7 @@ same-length : tie.Need-same-length
 same-length c = search needs
 
 returns : tie.Need-returns
-returns c = search (needs, head-sealed)
+returns c = search head-sealed
 
 pub write-head-spec : {M : Type 1} → statement M
 write-head-spec =
