@@ -1,0 +1,22 @@
+-- `arithmetic::calls::falsified` meets its contract. Assumes nothing.
+use borrow.Author.Needs.{needs}
+use mathlib.Core.Path.{refl}
+use Rattle.linear.proofs.Tests.{said-yes}
+use Rattle.arithmetic.proofs.calls.falsified.Statement.{statement}
+use Rattle.arithmetic.proofs.calls.falsified.Tie as tie
+
+is-measurable-requires : tie.Need-is-measurable-requires
+is-measurable-requires c κs = search needs
+
+returns : tie.Need-returns
+returns c = search needs
+
+is-falsified-requires : tie.Need-is-falsified-requires
+is-falsified-requires c κs = c .before .is-measurable .ensures (said-yes refl refl (c .if1 .left))
+
+returns-2 : tie.Need-returns-2
+returns-2 c = search needs
+
+pub falsified-spec : {M : Type 1} → statement M
+falsified-spec =
+    tie.close (tie.spec is-measurable-requires returns is-falsified-requires returns-2)

@@ -1,0 +1,21 @@
+-- `arithmetic::calls::lowest` meets its contract. Assumes nothing.
+use borrow.Author.Needs.{needs}
+use mathlib.Core.Path.{refl}
+use Rattle.linear.proofs.Tests.{said-yes}
+use Rattle.arithmetic.proofs.calls.lowest.Statement.{statement}
+use Rattle.arithmetic.proofs.calls.lowest.Tie as tie
+
+is-measurable-requires : tie.Need-is-measurable-requires
+is-measurable-requires c κs = search needs
+
+returns : tie.Need-returns
+returns c = search needs
+
+min-activity-requires : tie.Need-min-activity-requires
+min-activity-requires c κs = c .before .is-measurable .ensures (said-yes refl refl (c .if1 .left))
+
+returns-2 : tie.Need-returns-2
+returns-2 c = search needs
+
+pub lowest-spec : {M : Type 1} → statement M
+lowest-spec = tie.close (tie.spec is-measurable-requires returns min-activity-requires returns-2)

@@ -1,0 +1,34 @@
+-- `arithmetic::random::after` meets its contract. Assumes nothing.
+use borrow.Author.Needs.{needs}
+use Prim.Native.Nat.{_≤_, _-_}
+use Rattle.arithmetic.proofs.random.after.Statement.{statement}
+use Rattle.arithmetic.proofs.random.after.Tie as tie
+
+abbrev Inv-loop : tie.InvT-loop
+Inv-loop state s₀ i₀ s i = i ≤ 16
+
+abbrev μ-loop : tie.MeasureT-loop
+μ-loop state s₀ i₀ s i = 16 - i
+
+loop-holds : tie.Need-loop-holds Inv-loop μ-loop
+loop-holds c = search needs
+
+next-requires : tie.Need-next-requires Inv-loop μ-loop
+next-requires c κs = search needs
+
+add-i : tie.Need-add-i Inv-loop μ-loop
+add-i c = search needs
+
+loop-less : tie.Need-loop-less Inv-loop μ-loop
+loop-less c = search needs
+
+loop-again : tie.Need-loop-again Inv-loop μ-loop
+loop-again c = search needs
+
+returns : tie.Need-returns Inv-loop μ-loop
+returns c = search needs
+
+pub after-spec : {M : Type 1} → statement M
+after-spec =
+    tie.close
+    (tie.spec Inv-loop μ-loop loop-holds next-requires add-i loop-less loop-again returns)
