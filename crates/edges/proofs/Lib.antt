@@ -1,0 +1,2 @@
+-- Laws of the functions that make files and problems.
+pub mod Values

@@ -1,0 +1,36 @@
+// What the program prints.
+use libc::STDOUT_FILENO;
+use problem::Answer;
+
+// A line: what was done, the case, a number and a note.
+pub(crate) fn show(verb: &[u8], label: &[u8], number: usize, note: &[u8]) {
+    io::write_all(STDOUT_FILENO, verb);
+    io::write_all(STDOUT_FILENO, label);
+    io::write_all(STDOUT_FILENO, b": ");
+    io::print_decimal(STDOUT_FILENO, number as u64);
+    io::write_all(STDOUT_FILENO, note);
+    io::write_all(STDOUT_FILENO, b"\n");
+}
+
+// A check of the program's own did not hold.
+pub(crate) fn fail(label: &[u8]) {
+    io::write_all(STDOUT_FILENO, b"FAILED ");
+    io::write_all(STDOUT_FILENO, label);
+    io::write_all(STDOUT_FILENO, b"\n");
+}
+
+// Document 01's number of an answer.
+pub(crate) fn number(answer: Answer) -> usize {
+    match answer {
+        Answer::Done => 0,
+        Answer::Truncated => 1,
+        Answer::BadChecksum => 2,
+        Answer::BadMagic => 3,
+        Answer::SizeRange => 4,
+        Answer::DomainRange => 5,
+        Answer::CoefficientRange => 6,
+        Answer::NonzeroPadding => 7,
+        Answer::ShortBuffer => 8,
+        Answer::InvalidSearch => 9,
+    }
+}
