@@ -38,10 +38,10 @@ fn letters_and_checks() {
     reading::checks_of_others(&mut space);
 }
 
-fn strays() {
+fn padding() {
     let mut space = io::large_buffer();
-    reading::strays_in_head(&mut space);
-    reading::strays_in_constraints(&mut space);
+    reading::padding_in_head(&mut space);
+    reading::padding_in_constraints(&mut space);
     reading::past_the_end(&mut space);
     pairs::read_single(&mut space);
     pairs::read_pairs(&mut space);
@@ -75,7 +75,7 @@ fn main() {
     numbers();
     lengths();
     letters_and_checks();
-    strays();
+    padding();
     problems();
     buffers();
     round_trips();

@@ -280,7 +280,7 @@ pub(crate) fn checks_of_others(file: &mut [u8])
     );
 }
 
-pub(crate) fn strays_in_head(file: &mut [u8])
+pub(crate) fn padding_in_head(file: &mut [u8])
     requires { ⌜ length (now file) ≡ space ⌝ }
 {
     with_byte(b"a stray byte after the last bound", 0, 36, 1, file);
@@ -289,7 +289,7 @@ pub(crate) fn strays_in_head(file: &mut [u8])
     with_byte(b"the last byte of the last bound", 0, 35, 0, file);
 }
 
-pub(crate) fn strays_in_constraints(file: &mut [u8])
+pub(crate) fn padding_in_constraints(file: &mut [u8])
     requires { ⌜ length (now file) ≡ space ⌝ }
 {
     with_byte(b"a stray byte after the last coefficient", 1, 16, 1, file);
