@@ -1,0 +1,4 @@
+-- Laws of the calls: opening, turns from any valid state, and what the answers show.
+pub mod Openings
+pub mod Proceeding
+pub mod Showing

@@ -1,0 +1,167 @@
+-- What the answers show is document 01's.
+use Prim.Native.Nat.{ℕ, suc, _+_, _*_, _-_, _/_, _≤_}
+use native.Mathlib.Numerals.{add-one}
+use mathlib.Core.Bool.{Bool, true, false, cond}
+use mathlib.Core.List.{List, [], _++_, append-nil}
+use mathlib.Core.Option.{Option, none, some}
+use mathlib.Core.Path.{_≡_, refl, ap, _∙_}
+use lib.Dec.{eqb}
+use lib.ListN.{getD, length, take, drop}
+use lib.Seq.{take-at}
+use Rattle.model.specs.Bytes.{blockLength}
+use Rattle.model.specs.Constraint.{Bounds}
+use Rattle.model.specs.Lists.{tab}
+use Rattle.model.specs.Problem.{Result, ok, error}
+use Rattle.model.specs.Search as model
+use Rattle.model.specs.Step.{Verdict as ModelVerdict, solution, Outcome, blockIn as blocksIn, lowers, checked, step, run, withoutBlock, stepCall, runCall}
+use Rattle.model.specs.Trace.{Trace, lastTurn, advance, joined, written, tracedBy, traceCall}
+use Rattle.model.specs.Validity.{valid}
+use Rattle.layout.specs.Rows.{numberIn, boundsAt, boxOf}
+use Rattle.lists.proofs.Bools.{T-of}
+use Rattle.lists.proofs.Tab.{length-tab, tab-map}
+use Rattle.problem.specs.Fields.{filled}
+use Rattle.problem.specs.View.{zeros}
+use Rattle.state.specs.View.{noLevel, levelOf, levelAt, coreWith, coreOf, view}
+use Rattle.state.specs.declared.Level.{Level}
+use Rattle.state.specs.declared.Search.{Search}
+use Rattle.state.proofs.Shape.{view-shaped}
+use Rattle.validity.proofs.Steps.{Valid}
+use Rattle.turns.specs.Advancing.{verdictOf as modelVerdictOf, traceOf, Advances}
+use Rattle.turns.specs.declared.Ending.{Ending}
+use Rattle.turns.specs.declared.Ending.the-variants as ending
+use Rattle.turns.specs.declared.Advanced.{Advanced}
+use Rattle.turns.proofs.Calls.{advance-one, Same, run-same}
+use Rattle.search.specs.declared.Traced.{Traced}
+use Rattle.search.specs.Seen.{Seen, verdictOf, refusedIn, seenTraced, seenStepped, seenRan, valuesOf, noBlock, blockOr, shown, turn, blockIn, stepSeen, runSeen, traceSeen}
+use Rattle.search.specs.Answered.{caseOf, valuesAt, answered, refusal, ranOf}
+use Rattle.search.proofs.Proceeding.{sizes}
+
+-- ---- a state that passed the test
+pub valid-view : (s : Search) → valid (view s) ≡ true → Valid (view s)
+valid-view s e = record { shape = unfold view in view-shaped s; tests = T-of e }
+
+-- ---- the values of a solution
+lowers-are : (n : ℕ) (l : Level) → lowers (levelOf n l .box) ≡ tab (numberIn (l .lower)) 0 n
+unfolding levelOf boxOf lowers
+lowers-are n l = tab-map (λ (b : Bounds). b .lower) (boundsAt (l .lower) (l .upper)) 0 n ∙ (unfold boundsAt in refl)
+
+view-lowers : (s : Search) → lowers (view s .core .deepest .box) ≡ tab (numberIn (getD (s .levels) (s .depth) noLevel .lower)) 0 (s .n)
+unfolding view coreOf coreWith levelAt
+view-lowers s = lowers-are (s .n) (getD (s .levels) (s .depth) noLevel)
+
+verdict-shown : (e : Ending) (s : Search) → verdictOf (caseOf e) (take (s .n) (valuesAt e s)) ≡ ok (modelVerdictOf e (view s))
+unfolding caseOf verdictOf modelVerdictOf valuesAt filled
+verdict-shown ending.GoOn s = refl
+verdict-shown ending.NoSolution s = refl
+verdict-shown ending.OutOfBudget s = refl
+verdict-shown ending.Solution s =
+    let f = numberIn (getD (s .levels) (s .depth) noLevel .lower) in
+    rw (view-lowers s, take-at (tab f 0 (s .n)) (zeros (32 - s .n)) (s .n) (length-tab f 0 (s .n)))
+
+values-shown : (e : Ending) (s : Search) → valuesAt e s ≡ valuesOf (modelVerdictOf e (view s))
+unfolding valuesAt valuesOf modelVerdictOf filled
+values-shown ending.GoOn s = refl
+values-shown ending.NoSolution s = refl
+values-shown ending.OutOfBudget s = refl
+values-shown ending.Solution s = rw (view-lowers s, length-tab (numberIn (getD (s .levels) (s .depth) noLevel .lower)) 0 (s .n))
+
+none-refused : (e : Ending) (s : Search) → refusedIn (caseOf e) s ≡ none
+unfolding caseOf refusedIn
+none-refused ending.GoOn s = refl
+none-refused ending.NoSolution s = refl
+none-refused ending.OutOfBudget s = refl
+none-refused ending.Solution s = refl
+
+-- the answer shows the trace that it stands for
+answer-shown : (given : Search) (a : Advanced) (blocks : List (List ℕ)) (bytes : List ℕ) → a .blocks ≡ length blocks → seenTraced (answered a) bytes ≡ shown given (ok (traceOf a blocks)) bytes
+unfolding seenTraced answered shown traceOf
+answer-shown given a blocks bytes m =
+    rw (verdict-shown (a .ending) (a .state), values-shown (a .ending) (a .state), none-refused (a .ending) (a .state), m)
+
+-- ---- a trace
+written-shown : (s : Search) (a : Advanced) (t : Trace) (blocks : List (List ℕ)) (old now : List ℕ) → traceOf a blocks ≡ t → now ≡ joined blocks ++ drop (blockLength * length blocks) old →
+    shown s (ok (traceOf a blocks)) now ≡ shown s (written t old .answer) (written t old .buffer)
+unfolding written
+written-shown s a t blocks old now e b = rw (b, ← e) (unfold traceOf in refl)
+
+pub trace-shown : (s : Search) (a : Advanced) (old now : List ℕ) → valid (view s) ≡ true → Advances (view s) (length old / blockLength) true a old now → seenTraced (answered a) now ≡ traceSeen s old
+unfolding traceSeen traceCall
+trace-shown s a old now v h =
+    answer-shown s a (h .blocks) now (h .many) ∙
+    rw v (unfold tracedBy in written-shown s a (advance (length old / blockLength) (view s)) (h .blocks) old now (h .trace) (h .buffer .written refl))
+
+pub trace-refused : (s : Search) (old : List ℕ) → valid (view s) ≡ false → seenTraced (refusal s) old ≡ traceSeen s old
+unfolding traceSeen traceCall refusal
+trace-refused s old v = rw v (unfold tracedBy shown seenTraced verdictOf refusedIn in refl)
+
+-- ---- a turn is a trace with room for one block
+one-block : length noBlock / blockLength ≡ 1
+unfolding noBlock
+one-block = refl
+
+block-shown : (b : Option (List ℕ)) → joined (blocksIn b) ++ drop (blockLength * length (blocksIn b)) noBlock ≡ blockOr b
+unfolding joined blocksIn noBlock blockOr
+block-shown none = refl
+block-shown (some b) = append-nil (b ++ []) ∙ append-nil b
+
+turn-shown : (s : Search) (o : Outcome) → shown s (written (lastTurn o) noBlock .answer) (written (lastTurn o) noBlock .buffer) ≡ shown s (ok (lastTurn o)) (blockOr (o .block))
+unfolding written lastTurn
+turn-shown s o = rw (block-shown (o .block))
+
+step-by : (s : Search) (b : Bool) → (b ≡ true → s .conflicts ≤ s .budget) →
+    shown s (tracedBy b (view s) noBlock .answer) (tracedBy b (view s) noBlock .buffer) ≡ shown s (turn (checked b (step (view s)))) (blockIn (checked b (step (view s))))
+unfolding tracedBy checked turn blockIn
+step-by s true h = rw (one-block, advance-one (view s) (unfold view in h refl)) (turn-shown s (step (view s)))
+step-by s false h = refl
+
+pub step-shown : (s : Search) → traceSeen s noBlock ≡ stepSeen s
+unfolding traceSeen traceCall stepSeen stepCall
+step-shown s = step-by s (valid (view s)) (λ e. sizes s (valid-view s e) .afford)
+
+-- how many blocks a turn gives
+few-blocks : (b : Option (List ℕ)) (k : ℕ) → k ≡ length (blocksIn b) → cond (eqb k 1) 1 0 ≡ k
+unfolding blocksIn
+few-blocks none k e = rw e
+few-blocks (some b) k e = rw e
+
+turn-blocks : (r : Result Outcome) (s : Search) (k : ℕ) → k ≡ shown s (turn r) (blockIn r) .blocks → cond (eqb k 1) 1 0 ≡ k
+unfolding turn shown lastTurn
+turn-blocks (ok o) s k e = few-blocks (o .block) k e
+turn-blocks (error x) s k e = rw e
+
+pub step-seen : (s : Search) (t : Traced) (block : List ℕ) → seenTraced t block ≡ traceSeen s noBlock →
+    seenStepped (record { verdict = t .verdict; values = t .values; count = t .count; recorded = eqb (t .blocks) 1; block = block; state = t .state }) ≡ stepSeen s
+unfolding seenStepped seenTraced shown stepSeen
+step-seen s t block e =
+    let q = e ∙ step-shown s in
+    let k : cond (eqb (t .blocks) 1) 1 0 ≡ t .blocks = turn-blocks (stepCall (view s)) s (t .blocks) (ap (λ (x : Seen). x .blocks) q) in
+    rw k q
+
+-- ---- a run
+same-trace : {v w : ModelVerdict} {c d : ℕ} {s t : model.Search} → v ≡ w → c ≡ d → s ≡ t →
+    _≡_ {A = Trace} (record { verdict = v; count = c; blocks = []; state = s }) (record { verdict = w; count = d; blocks = []; state = t })
+same-trace e f g = rw (e, f, g)
+
+run-traced : (s : Search) (a : Advanced) (blocks : List (List ℕ)) → Valid (view s) → traceOf a blocks ≡ advance (suc (s .budget - s .conflicts)) (view s) →
+    traceOf (record { ending = a .ending; blocks = 0; state = a .state }) [] ≡ lastTurn (run (view s))
+unfolding traceOf lastTurn blocksIn run withoutBlock
+run-traced s a blocks v e =
+    let r : Same (advance (suc (s .budget - s .conflicts)) (view s)) (run (view s)) = unfold view in run-same (view s) v in
+    same-trace (ap (λ (t : Trace). t .verdict) e ∙ r .verdict) (ap (λ (t : Trace). t .count) e ∙ r .count) (ap (λ (t : Trace). t .state) e ∙ r .state)
+
+pub run-shown : (s : Search) (a : Advanced) (old now : List ℕ) → valid (view s) ≡ true → Advances (view s) (s .budget - s .conflicts + 1) false a old now →
+    seenRan (ranOf (answered a)) ≡ runSeen s
+unfolding seenRan ranOf answered runSeen runCall
+run-shown s a old now v h =
+    answer-shown s (record { ending = a .ending; blocks = 0; state = a .state }) [] [] refl ∙
+    rw (v, run-traced s a (h .blocks) (valid-view s v) (h .trace ∙ ap (λ (k : ℕ). advance k (view s)) (add-one (s .budget - s .conflicts)))) (unfold checked turn in refl)
+
+pub run-refused : (s : Search) → valid (view s) ≡ false → seenRan (ranOf (refusal s)) ≡ runSeen s
+unfolding seenRan ranOf refusal runSeen runCall
+run-refused s v = rw v (unfold checked turn shown seenTraced verdictOf refusedIn in refl)
+
+-- ---- where the turns ended
+pub answered-as : (a : Advanced) (e : Ending) → a .ending ≡ e →
+    record { verdict = caseOf e; values = valuesAt e (a .state); count = a .state .conflicts; blocks = a .blocks; state = a .state } ≡ answered a
+unfolding answered
+answered-as a e q = rw q

@@ -1,0 +1,4 @@
+-- What the contracts of `search` cite: what a caller sees of an answer, and what document 01 says of it.
+pub mod Opening
+pub mod Seen
+pub mod Answered

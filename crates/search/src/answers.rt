@@ -1,0 +1,150 @@
+// The answers of the calls on a search.
+use crate::Ran;
+use crate::Traced;
+use crate::Verdict;
+use state::Level;
+use state::Search;
+use state::Status;
+use turns::Advanced;
+use turns::Ending;
+use turns::advance::advance;
+ghost use Prim.Native.Nat.{_*_, _<_, _≤_};
+ghost use mathlib.Core.Bool.{true};
+ghost use mathlib.Core.Path.{_≡_};
+ghost use lib.ListN.{length};
+ghost use Rattle.model.specs.Bytes.{blockLength};
+ghost use Rattle.layout.specs.Rows.{numberIn};
+ghost use Rattle.problem.specs.Fields.{filled};
+ghost use Rattle.state.specs.View.{view};
+ghost use Rattle.turns.specs.Advancing.{Advances};
+ghost use Rattle.validity.proofs.Steps.{Valid};
+ghost use Rattle.search.specs.Opening.{blank as blankState};
+ghost use Rattle.search.specs.Answered.{answered, refusal, ranOf};
+
+// The state that a refused file gives.
+pub fn blank() -> Search
+    ensures { λ r. ⌜ r ≡ blankState ⌝ }
+{
+    let level = Level {
+        lower: [0; 32],
+        upper: [0; 32],
+        below: [0; 32],
+        above: [0; 32],
+        decided: 0,
+    };
+    Search {
+        n: 0,
+        m: 0,
+        budget: 0,
+        conflicts: 0,
+        made: 0,
+        depth: 0,
+        status: Status::Undecided,
+        rows: [0; 4224],
+        numbers: [0; 64],
+        levels: [level; 33],
+    }
+}
+
+// The answer to a state that is not valid.
+pub fn refused(s: Search) -> Traced
+    ensures { λ r. ⌜ r ≡ refusal s ⌝ }
+{
+    Traced {
+        verdict: Verdict::Invalid,
+        values: [0; 32],
+        count: 0,
+        blocks: 0,
+        state: s,
+    }
+}
+
+// The lower bounds of the first n variables, zeros past them.
+fn lowers(l: Level, n: usize) -> [i64; 32]
+    requires { ⌜ n ≤ 32 ⌝ }
+    ensures { λ r. ⌜ r ≡ filled (numberIn (l .lower)) n 32 ⌝ }
+{
+    let mut values = [0i64; 32];
+    let mut i: usize = 0;
+    while i < n {
+        values[i] = l.lower[i];
+        i += 1;
+    }
+    values
+}
+
+// At most `limit` turns from a valid state, to a verdict; a marked one gives its verdict again.
+pub fn proceed(s: Search, buffer: &mut [u8], limit: usize, keep: bool) -> Advanced
+    requires { ⌜ Valid (view s) × (keep ≡ true → blockLength * limit ≤ length (now buffer)) ⌝ }
+    ensures { λ r. ⌜ Advances (view s) limit keep r (now (buffer .entry)) (now (buffer .exit)) ⌝ }
+{
+    if limit == 0 {
+        return Advanced {
+            ending: Ending::GoOn,
+            blocks: 0,
+            state: s,
+        };
+    }
+    let status = s.status;
+    match status {
+        Status::Undecided => advance(s, buffer, limit, keep),
+        Status::Infeasible => Advanced {
+            ending: Ending::NoSolution,
+            blocks: 0,
+            state: s,
+        },
+        Status::Solved => Advanced {
+            ending: Ending::Solution,
+            blocks: 0,
+            state: s,
+        },
+    }
+}
+
+// The answer to a caller from where the turns ended.
+pub fn answer(a: Advanced) -> Traced
+    requires { ⌜ (a .state .n ≤ 32) × (a .state .depth < 33) ⌝ }
+    ensures { λ r. ⌜ r ≡ answered a ⌝ }
+{
+    let blocks = a.blocks;
+    let state = a.state;
+    let count = state.conflicts;
+    let mut verdict = Verdict::GoOn;
+    let mut values = [0i64; 32];
+    let ending = a.ending;
+    match ending {
+        Ending::GoOn => {}
+        Ending::NoSolution => {
+            verdict = Verdict::NoSolution;
+        }
+        Ending::OutOfBudget => {
+            verdict = Verdict::OutOfBudget;
+        }
+        Ending::Solution => {
+            verdict = Verdict::Solution;
+            values = lowers(state.levels[state.depth], state.n);
+        }
+    }
+    Traced {
+        verdict,
+        values,
+        count,
+        blocks,
+        state,
+    }
+}
+
+// A run's answer: that of a trace, without its blocks.
+pub fn without_blocks(t: Traced) -> Ran
+    ensures { λ r. ⌜ r ≡ ranOf t ⌝ }
+{
+    let verdict = t.verdict;
+    let values = t.values;
+    let state = t.state;
+    Ran {
+        verdict,
+        values,
+        count: t.count,
+        state,
+    }
+}

@@ -1,0 +1,117 @@
+// The public calls on a search: open a file, take a turn, run to a verdict, and run with the journal. None has a `requires`: each does its own checking.
+use problem::Answer;
+use state::Search;
+ghost use mathlib.Core.Path.{_≡_};
+ghost use Rattle.model.specs.Search.{openFile};
+ghost use Rattle.search.specs.Opening.{seenOpened, opening};
+ghost use Rattle.search.specs.Seen.{seenStepped, seenRan, seenTraced, stepSeen, runSeen, traceSeen};
+
+mod answers;
+
+// What a turn, a run or a trace answers: 'go on', 'none', 'spent', a solution, or 9 for a state that is not valid.
+pub enum Verdict {
+    GoOn,
+    NoSolution,
+    OutOfBudget,
+    Solution,
+    Invalid,
+}
+
+// What opening gives: the search state, or an error and a blank state, which is not valid.
+pub struct Opened {
+    pub answer: Answer,
+    pub state: Search,
+}
+
+// What a turn gives. `values` are the solution's, zeros past them or where there is none; `block` is the journal block if a conflict was counted
+// (`recorded`), else zeros; an error gives back the state whole.
+pub struct Stepped {
+    pub verdict: Verdict,
+    pub values: [i64; 32],
+    pub count: usize,
+    pub recorded: bool,
+    pub block: [u8; 512],
+    pub state: Search,
+}
+
+// What a run gives.
+pub struct Ran {
+    pub verdict: Verdict,
+    pub values: [i64; 32],
+    pub count: usize,
+    pub state: Search,
+}
+
+// What a trace gives: `blocks` journal blocks stand at the buffer's start.
+pub struct Traced {
+    pub verdict: Verdict,
+    pub values: [i64; 32],
+    pub count: usize,
+    pub blocks: usize,
+    pub state: Search,
+}
+
+// Opens the problem file in these bytes.
+pub fn open(file: &[u8]) -> Opened
+    ensures { λ r. ⌜ seenOpened r ≡ opening (openFile (now (file .entry))) ⌝ }
+{
+    let reading = problem::read(file);
+    let answer = reading.answer;
+    match answer {
+        Answer::Done => {
+            let state = opening::from_problem(reading.problem);
+            Opened { answer, state }
+        }
+        _ => {
+            let state = answers::blank();
+            Opened { answer, state }
+        }
+    }
+}
+
+// Turns repeated, to a verdict or until the buffer has no room for another block.
+pub fn trace(s: Search, buffer: &mut [u8]) -> Traced
+    ensures { λ r. ⌜ seenTraced r (now (buffer .exit)) ≡ traceSeen s (now (buffer .entry)) ⌝ }
+{
+    if !validate::is_valid(s) {
+        return answers::refused(s);
+    }
+    let limit = buffer.len() / block::LENGTH;
+    let a = answers::proceed(s, buffer, limit, true);
+    answers::answer(a)
+}
+
+// One turn: a trace with room for one block.
+pub fn step(s: Search) -> Stepped
+    ensures { λ r. ⌜ seenStepped r ≡ stepSeen s ⌝ }
+{
+    let mut block = [0u8; 512];
+    let t = trace(s, &mut block);
+    let recorded = t.blocks == 1;
+    let verdict = t.verdict;
+    let values = t.values;
+    let state = t.state;
+    Stepped {
+        verdict,
+        values,
+        count: t.count,
+        recorded,
+        block,
+        state,
+    }
+}
+
+// Turns repeated to a verdict. Each that goes on counts a conflict, so there is at most one more than the budget has left.
+pub fn run(s: Search) -> Ran
+    ensures { λ r. ⌜ seenRan r ≡ runSeen s ⌝ }
+{
+    if !validate::is_valid(s) {
+        let t = answers::refused(s);
+        return answers::without_blocks(t);
+    }
+    let limit = s.budget - s.conflicts + 1;
+    let mut unused = [0u8; 1];
+    let a = answers::proceed(s, &mut unused, limit, false);
+    let t = answers::answer(a);
+    answers::without_blocks(t)
+}
