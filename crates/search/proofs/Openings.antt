@@ -9,7 +9,6 @@ use Rattle.model.specs.File.{problemIn, readError, readFile}
 use Rattle.model.specs.Problem.{Problem, ok, error, resultOf}
 use Rattle.model.specs.Search as model
 use Rattle.model.specs.Search.{openProblem, openedBy, openFile}
-use Rattle.problem.specs.declared.Answer.{Answer}
 use Rattle.problem.specs.declared.Answer.the-variants.{Done}
 use Rattle.problem.specs.declared.Reading.{Reading}
 use Rattle.problem.specs.Answer.{number}

@@ -5,7 +5,6 @@ use lib.Dec.{eqb}
 use lib.ListN.{replicate}
 use Rattle.model.specs.Problem.{Result, ok, error}
 use Rattle.model.specs.Search as model
-use Rattle.problem.specs.declared.Answer.{Answer}
 use Rattle.problem.specs.Answer.{number}
 use Rattle.problem.specs.View.{zeros}
 use Rattle.state.specs.View.{view}
