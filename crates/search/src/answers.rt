@@ -121,8 +121,9 @@ pub fn answer(a: Advanced) -> Traced
             verdict = Verdict::OutOfBudget;
         }
         Ending::Solution => {
+            let depth = state.depth;
             verdict = Verdict::Solution;
-            values = lowers(state.levels[state.depth], state.n);
+            values = lowers(state.levels[depth], state.n);
         }
     }
     Traced {
