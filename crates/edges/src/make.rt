@@ -2,7 +2,7 @@
 use block::build;
 use problem::Problem;
 ghost use mathlib.Core.Path.{_≡_};
-ghost use Prim.Native.Nat.{_<_, _≤_, _^_};
+ghost use Prim.Native.Nat.{_*_, _<_, _≤_};
 ghost use lib.ListN.{length};
 ghost use Rattle.integer.specs.Size.{Within};
 ghost use Rattle.edges.specs.Space.{space};
@@ -79,12 +79,18 @@ pub(crate) fn file(buffer: &mut [u8], n: usize, m: usize, budget: usize)
     }
 }
 
-// Puts a number in block k, and its check.
-pub(crate) fn put(file: &mut [u8], k: usize, at: usize, z: i64)
-    requires { ⌜ (length (now file) ≡ space) × (k ≤ 65) × (at ≤ 508) × Within (2 ^ 31) z ⌝ }
+// Where a byte of block k stands.
+fn place(k: usize, at: usize) -> usize
+    ensures { λ r. ⌜ r < 512 * 66 ⌝ }
 {
-    let start = 512 * k;
-    build::put_i32(file, start + at, z);
+    512 * (k % 66) + at % 512
+}
+
+// Puts 32 bits of a number in block k, and its check.
+pub(crate) fn put(file: &mut [u8], k: usize, at: usize, bits: usize)
+    requires { ⌜ length (now file) ≡ space ⌝ }
+{
+    build::put_u32(file, place(k, at), bits);
     seal(file, k, k);
 }
 
@@ -95,29 +101,28 @@ fn set(file: &mut [u8], at: usize, byte: u8)
 }
 
 // Puts a byte in block k, and its check.
-pub(crate) fn put_byte(file: &mut [u8], k: usize, at: usize, byte: u8)
-    requires { ⌜ (length (now file) ≡ space) × (k ≤ 65) × (at ≤ 511) ⌝ }
+pub(crate) fn put_byte(file: &mut [u8], k: usize, at: usize, byte: usize)
+    requires { ⌜ length (now file) ≡ space ⌝ }
 {
-    let start = 512 * k;
-    set(file, start + at, byte);
+    set(file, place(k, at), (byte % 256) as u8);
     seal(file, k, k);
 }
 
 // Puts the check that block k has as block `index`.
 pub(crate) fn seal(file: &mut [u8], k: usize, index: usize)
-    requires { ⌜ (length (now file) ≡ space) × (k ≤ 65) ⌝ }
+    requires { ⌜ length (now file) ≡ space ⌝ }
 {
-    let start = 512 * k;
+    let start = place(k, 0);
     let end = start + 512;
     build::seal(&mut file[start..end], index);
 }
 
 // Changes a byte of block k and leaves its check.
 pub(crate) fn spoil(file: &mut [u8], k: usize, at: usize)
-    requires { ⌜ (length (now file) ≡ space) × (k ≤ 65) × (at ≤ 511) ⌝ }
+    requires { ⌜ length (now file) ≡ space ⌝ }
 {
-    let place = 512 * k + at;
-    file[place] = std::num::wrapping_add_u8(file[place], 1);
+    let i = place(k, at);
+    file[i] = std::num::wrapping_add_u8(file[i], 1);
 }
 
 // The bound of variable i, lower where `side` is 1 and upper where it is 0; `past` after the last of n variables.
@@ -165,7 +170,7 @@ fn rows(n: usize, m: usize, past: i64) -> [i64; 2112] {
     numbers
 }
 
-// The problem of the file that `file` makes, with one number everywhere past its end.
+// The problem of the file that `file` makes, with one number everywhere past its end. A problem that was read has 0 there.
 pub(crate) fn sample_with(past: i64, n: usize, m: usize, budget: usize) -> Problem {
     let lower = bounds(1, n, past);
     let upper = bounds(0, n, past);
@@ -178,9 +183,4 @@ pub(crate) fn sample_with(past: i64, n: usize, m: usize, budget: usize) -> Probl
         upper,
         constraints,
     }
-}
-
-// The same with zeros there, as a problem that was read has.
-pub(crate) fn sample(n: usize, m: usize, budget: usize) -> Problem {
-    sample_with(0, n, m, budget)
 }

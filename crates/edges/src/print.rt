@@ -19,6 +19,15 @@ pub(crate) fn fail(label: &[u8]) {
     io::write_all(STDOUT_FILENO, b"\n");
 }
 
+// A line with the number of an answer, where a check holds.
+pub(crate) fn expect(verb: &[u8], label: &[u8], number: usize, holds: bool) {
+    if holds {
+        show(verb, label, number, b" same");
+        return;
+    }
+    fail(label);
+}
+
 // Document 01's number of an answer.
 pub(crate) fn number(answer: Answer) -> usize {
     match answer {
