@@ -94,14 +94,15 @@ kept-range n m made rows lower upper j a h =
     rw (getD-tab (rowAt n rows) count j noConstraint h) at
     (allOf-getD inRange (tab (rowAt n rows) 0 count) j noConstraint (true-of _ (a .rows-range)) (rw (length-tab (rowAt n rows) 0 count) h))
 
-pub resolving : (n m made : ℕ) (rows lower upper f : List ℤ) (j : ℕ) → Analyzable n m made rows lower upper → inRange (constraintAt n f 0) ≡ true → j < absent → j < m + keptCuts made → Resolving n rows lower upper f j
-resolving n m made rows lower upper f j a r p h =
+pub resolving : (n m made : ℕ) (rows lower upper f : List ℤ) (j : ℕ) → Analyzable n m made rows lower upper → length f ≡ rowLength → inRange (constraintAt n f 0) ≡ true → j < absent → j < m + keptCuts made → Resolving n rows lower upper f j
+resolving n m made rows lower upper f j a s r p h =
     record {
       variables = a .variables;
       rows-size = a .rows-size;
       lower-size = a .lower-size;
       upper-size = a .upper-size;
       position = p;
+      first-size = s;
       first-range = r;
       second-range = kept-range n m made rows lower upper j a h;
       box-range = a .box-range;

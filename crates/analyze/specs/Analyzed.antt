@@ -15,7 +15,6 @@ use Rattle.model.specs.Conflict as model
 use Rattle.layout.specs.Rows.{rowLength, numberIn, constraintAt, rowAt, boxOf}
 use Rattle.state.specs.View.{keptCuts, reasonsIn, coreWith}
 use Rattle.analyze.specs.Position.{maxRows, rowsLength}
-use Rattle.analyze.specs.declared.analysis.Resolved.{Resolved}
 use Rattle.analyze.specs.declared.analysis.Analysis.{Analysis}
 
 -- the numbers of n variables from `start` on, and 0 past them
@@ -42,6 +41,7 @@ pub record Resolving (n : ℕ) (rows lower upper f : List ℤ) (j : ℕ) : Type 
   pub lower-size : length lower ≡ maxVariables
   pub upper-size : length upper ≡ maxVariables
   pub position : j < maxRows
+  pub first-size : length f ≡ rowLength
   pub first-range : inRange (constraintAt n f 0) ≡ true
   pub second-range : inRange (rowAt n rows j) ≡ true
   pub box-range : T (allOf boundsInRange (boxOf n lower upper))
@@ -51,10 +51,11 @@ abbrev pub coreAt : (n m made : ℕ) (rows lower upper : List ℤ) (below above 
 coreAt n m made rows lower upper below above numbers decided outer =
     coreWith n m made rows numbers (record { box = boxOf n lower upper; reasons = tab (reasonsIn below above) 0 n; decided = decided }) outer
 
--- F after a variable, as the model has it, and in range
-pub record ResolvedAs (n : ℕ) (s : model.Resolved) (r : Resolved) : Type 0 where
-  pub same : s ≡ record { cut = constraintAt n (r .cut) 0; used = r .used }
-  pub range : inRange (constraintAt n (r .cut) 0) ≡ true
+-- F after a variable and the number of the constraint taken in there, as the model has them, and F in range
+pub record ResolvedAs (n : ℕ) (s : model.Resolved) (f : List ℤ) (number : ℕ) : Type 0 where
+  pub same : s ≡ record { cut = constraintAt n f 0; used = number }
+  pub range : inRange (constraintAt n f 0) ≡ true
+  pub size : length f ≡ rowLength
 
 unfoldable pub analysisOf : ℕ → Analysis → model.Analysis
 analysisOf n r = record { cut = constraintAt n (r .cut) 0; used = tab (λ i. getD (r .used) i 0) 0 n }

@@ -16,15 +16,9 @@ ghost use Rattle.model.specs.Ranges.{maxVariables};
 ghost use Rattle.model.specs.Constraint.{inRange};
 ghost use Rattle.model.specs.Search.{Level};
 ghost use Rattle.model.specs.Conflict.{usedReason, resolveWith, resolveAt};
-ghost use Rattle.layout.specs.Rows.{constraintAt, rowAt, boxOf};
+ghost use Rattle.layout.specs.Rows.{rowLength, constraintAt, rowAt, boxOf};
 ghost use Rattle.state.specs.View.{reasonOf, keptCuts};
 ghost use Rattle.analyze.specs.Analyzed.{Copied, Analyzable, Resolving, coreAt, ResolvedAs, Analyzed};
-
-// F after a variable, and the number of the constraint taken in there, 0 for none.
-pub struct Resolved {
-    pub cut: [i64; 33],
-    pub used: usize,
-}
 
 // The cut, and for each variable the number of the constraint taken in, 0 for none.
 pub struct Analysis {
@@ -56,10 +50,10 @@ fn used_reason(a: i64, below: usize, above: usize) -> usize
     below
 }
 
-// F combined at variable i with the kept constraint in row j, which has this number, if the signs are opposite and the outcome may be taken. The
-// outcome's range is tested first: only in range does its lowest value fit.
+// F combined in place at variable i with the kept constraint in row j, which has this number, if the signs are opposite and the outcome may be taken.
+// The outcome's range is tested first: only in range does its lowest value fit. Returns the number of the constraint taken in, 0 for none.
 fn resolve_with<'a>(
-    f: [i64; 33],
+    f: &mut [i64; 33],
     rows: &'a [i64; 4224],
     lower: &'a [i64; 32],
     upper: &'a [i64; 32],
@@ -67,30 +61,28 @@ fn resolve_with<'a>(
     i: usize,
     j: usize,
     number: usize,
-) -> Resolved
-    requires { ⌜ (i < n) × Resolving n (now rows) (now lower) (now upper) f j ⌝ }
-    ensures { λ r. ⌜ ResolvedAs n (resolveWith (boxOf n (now (lower .entry)) (now (upper .entry))) i (constraintAt n f 0) number (rowAt n (now (rows .entry)) j)) r ⌝ }
+) -> usize
+    requires { ⌜ (i < n) × Resolving n (now rows) (now lower) (now upper) (now f) j ⌝ }
+    ensures { λ r. ⌜ ResolvedAs n (resolveWith (boxOf n (now (lower .entry)) (now (upper .entry))) i (constraintAt n (now (f .entry)) 0) number (rowAt n (now (rows .entry)) j)) (now (f .exit)) r ⌝ }
 {
     let start = ROW * j;
     if !is_opposite(f[i + 1], rows[start + 1 + i]) {
-        return Resolved { cut: f, used: 0 };
+        return 0;
     }
-    let g = resolve(&f, 0, rows, start, i, n);
+    let g = resolve(f, 0, rows, start, i, n);
     if !is_in_range(&g, 0, n) {
-        return Resolved { cut: f, used: 0 };
+        return 0;
     }
     if !is_falsified(&g, 0, lower, upper, n) {
-        return Resolved { cut: f, used: 0 };
+        return 0;
     }
-    Resolved {
-        cut: g,
-        used: number,
-    }
+    *f = g;
+    number
 }
 
-// F combined at variable i with the reason of the bound that it uses there, if that is a kept constraint.
+// F combined in place at variable i with the reason of the bound that it uses there, if that is a kept constraint.
 fn resolve_at<'a>(
-    f: [i64; 33],
+    f: &mut [i64; 33],
     rows: &'a [i64; 4224],
     lower: &'a [i64; 32],
     upper: &'a [i64; 32],
@@ -100,14 +92,14 @@ fn resolve_at<'a>(
     m: usize,
     made: usize,
     i: usize,
-) -> Resolved
-    requires { ⌜ (i < n) × ((Analyzable n m made (now rows) (now lower) (now upper)) × (inRange (constraintAt n f 0) ≡ true)) ⌝ }
-    ensures { λ r. ⌜ ((numbers : List ℕ) (decided : ℕ) (outer : List Level) → ResolvedAs n (resolveAt (coreAt n m made (now (rows .entry)) (now (lower .entry)) (now (upper .entry)) (now (below .entry)) (now (above .entry)) numbers decided outer) i (constraintAt n f 0)) r) ⌝ }
+) -> usize
+    requires { ⌜ (i < n) × ((Analyzable n m made (now rows) (now lower) (now upper)) × ((inRange (constraintAt n (now f) 0) ≡ true) × (length (now f) ≡ rowLength))) ⌝ }
+    ensures { λ r. ⌜ ((numbers : List ℕ) (decided : ℕ) (outer : List Level) → ResolvedAs n (resolveAt (coreAt n m made (now (rows .entry)) (now (lower .entry)) (now (upper .entry)) (now (below .entry)) (now (above .entry)) numbers decided outer) i (constraintAt n (now (f .entry)) 0)) (now (f .exit)) r) ⌝ }
 {
     let reason = used_reason(f[i + 1], below[i], above[i]);
     let j = position_of(m, made, reason);
     if j == ABSENT {
-        return Resolved { cut: f, used: 0 };
+        return 0;
     }
     resolve_with(f, rows, lower, upper, n, i, j, reason)
 }
@@ -132,11 +124,8 @@ pub fn analyze<'a>(
     let mut i = n;
     while 0 < i {
         i -= 1;
-        let r = resolve_at(f, rows, lower, upper, below, above, n, m, made, i);
-        let g = r.cut;
-        f = g;
-        let k = r.used;
-        used[i] = k;
+        let number = resolve_at(&mut f, rows, lower, upper, below, above, n, m, made, i);
+        used[i] = number;
     }
     let cut = copy_row(&f, 0, n);
     Analysis { cut, used }

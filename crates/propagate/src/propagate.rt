@@ -60,9 +60,10 @@ pub fn propagate(rows: &[i64; 4224], level: Level, n: usize, m: usize, made: usi
     ensures { λ r. ⌜ Whole (r .level) × T (allOf boundsInRange (boxOf n (r .level .lower) (r .level .upper))) ⌝ }
 {
     let kept = kept_count(m, made);
+    let mut activities = [0i64; 128];
     let mut l = level;
     loop {
-        let next = next_move(rows, &l.lower, &l.upper, n, kept);
+        let next = next_move(rows, &l.lower, &l.upper, n, kept, &mut activities);
         match next {
             Move::Conflict(j) => {
                 return Propagated {

@@ -102,23 +102,25 @@ pub fn first_open<'a>(lower: &'a [i64; 32], upper: &'a [i64; 32], n: usize) -> u
     n
 }
 
-// The next move: the first of moves 1 to 3 that there is, else the end.
+// The next move: the first of moves 1 to 3 that there is, else the end. The array for the minimum activities is lent, whatever it holds: clearing one
+// at each move would take longer than many a scan.
 pub fn next_move<'a>(
     rows: &'a [i64; 4224],
     lower: &'a [i64; 32],
     upper: &'a [i64; 32],
     n: usize,
     kept: usize,
+    activities: &mut [i64; 128],
 ) -> Move
-    requires { ⌜ ScanFits n kept (now rows) (now lower) (now upper) ⌝ }
+    requires { ⌜ ScanFits n kept (now rows) (now lower) (now upper) × (length (now activities) ≡ maxConstraints + maxCuts) ⌝ }
     ensures { λ r. ⌜ moveOf r ≡ nextMove (tab (rowAt n (now (rows .entry))) 0 kept) (boxOf n (now (lower .entry)) (now (upper .entry))) ⌝ }
+    ensures { λ r. ⌜ length (now (activities .exit)) ≡ maxConstraints + maxCuts ⌝ }
 {
-    let mut activities = [0i64; 128];
-    let falsified = first_falsified(rows, lower, upper, n, kept, &mut activities);
+    let falsified = first_falsified(rows, lower, upper, n, kept, activities);
     if falsified < kept {
         return Move::Conflict(falsified);
     }
-    let better = first_improvement(rows, lower, upper, n, kept, &activities);
+    let better = first_improvement(rows, lower, upper, n, kept, activities);
     match better {
         Move::Finish => {}
         _ => {

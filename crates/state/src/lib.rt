@@ -2,7 +2,7 @@
 
 ghost use mathlib.Core.Path.{_≡_};
 ghost use Prim.Native.Nat.{_<_};
-ghost use Rattle.state.specs.Change.{raised, lowered, decidedAt, Whole};
+ghost use Rattle.state.specs.Change.{decidedAt, Whole};
 
 // Why a bound is held: one of these, or the number of a constraint.
 pub const DOMAIN: usize = 0;
@@ -41,35 +41,13 @@ pub struct Search {
     pub levels: [Level; 33],
 }
 
-// Variable i's lower bound becomes v, for a reason.
-pub fn raise(l: Level, i: usize, v: i64, reason: usize) -> Level
-    requires { ⌜ i < 32 ⌝ }
-    ensures { λ r. ⌜ (r ≡ raised l i v reason) × Whole l ⌝ }
-{
-    let mut k = l;
-    k.lower[i] = v;
-    k.below[i] = reason;
-    k
-}
-
-// Variable i's upper bound becomes v, for a reason.
-pub fn lower(l: Level, i: usize, v: i64, reason: usize) -> Level
-    requires { ⌜ i < 32 ⌝ }
-    ensures { λ r. ⌜ (r ≡ lowered l i v reason) × Whole l ⌝ }
-{
-    let mut k = l;
-    k.upper[i] = v;
-    k.above[i] = reason;
-    k
-}
-
 // The level of a new decision: a copy with the upper bound of variable i at its lower bound.
 pub fn decide(l: Level, i: usize) -> Level
     requires { ⌜ i < 32 ⌝ }
     ensures { λ r. ⌜ (r ≡ decidedAt l i) × Whole l ⌝ }
 {
     let mut k = l;
-    let v = l.lower[i];
+    let v = k.lower[i];
     k.upper[i] = v;
     k.above[i] = DECISION;
     k.decided = i;

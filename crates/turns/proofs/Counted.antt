@@ -38,7 +38,7 @@ use Rattle.turns.specs.Advancing.{Advances}
 use Rattle.turns.specs.Learning.{Learns, LearnedFrom}
 use Rattle.turns.specs.declared.Ending.the-variants.{NoSolution}
 use Rattle.turns.specs.declared.learn.Learned.{Learned}
-use Rattle.turns.proofs.Backjumping.{Passed, backjump-found, level-flipped}
+use Rattle.turns.proofs.Backjumping.{Passed, passed-outward, backjump-found, level-flipped}
 use Rattle.turns.proofs.Measures.{turnWeight, slack-small}
 use Rattle.turns.proofs.Running.{Running, Propagates, coreHere}
 use Rattle.turns.proofs.Arms.{stateWith}
@@ -110,7 +110,7 @@ module _ {s : model.Search} {old : List ℕ} {limit : ℕ} {keep : Bool} {n m bu
   block-fits h = (block-room h, (omega arith, cut-fits))
 
   -- ---- the level to go back to
-  deepest-false : falsified cut (levelAt n all depth .box) ≡ true
+  pub deepest-false : falsified cut (levelAt n all depth .box) ≡ true
   unfolding coreWith
   deepest-false =
       let c = coreHere n m rows numbers levels made depth (p .level) in
@@ -125,9 +125,11 @@ module _ {s : model.Search} {old : List ℕ} {limit : ℕ} {keep : Bool} {n m bu
       (sym (level-here n levels depth (p .level) deep)) (sym (levels-above n levels depth depth (p .level) (omega arith))) ∙
       backjump-found n m made rows numbers all depth back cut h g q
 
-  -- no level before the deepest is falsified
-  pub found-deepest : (back : ℕ) → back ≤ depth → depth ≤ back → Passed n all cut back → backjumpLevel cut (coreHere n m rows numbers levels made depth (p .level)) ≡ back
-  found-deepest back h k g = let z : depth ≡ back = omega arith in found-level back h g (subst (λ (d : ℕ). falsified cut (levelAt n all d .box) ≡ true) z deepest-false)
+  -- a level that does not falsify the cut ends the search for one that does
+  pub passed-all : (back : ℕ) → back ≤ depth → 1 ≤ back → falsified cut (levelAt n all (back - 1) .box) ≡ false → Passed n all cut back
+  passed-all back h s f =
+      let z : back - 1 + 1 ≡ back = omega arith in
+      rw z at (passed-outward n all cut depth (λ k b. stored-under n m rows numbers levels made depth (p .level) deep (moved .fits) k b .inside) (back - 1) (omega arith) f)
 
   module _ {back number : ℕ} (g : CountedAt limit done conflicts budget depth back number cut (coreHere n m rows numbers levels made depth (p .level)) j) (next : List ℕ)
       (w : Emitted keep done (recordBytes (recordOf maxVariables (conflicts + 1) number (x .number) depth back (x .cut) (x .used))) now next) where

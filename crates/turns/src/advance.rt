@@ -25,8 +25,11 @@ fn flip(l: Level, i: usize) -> Level
     requires { ⌜ (i < 32) × Within (2 ^ 62) (numberIn (l .lower) i) ⌝ }
     ensures { λ r. ⌜ (r ≡ raised l i (numberIn (l .lower) i +ℤ pos 1) flippedReason) × Whole l ⌝ }
 {
-    let v = l.lower[i];
-    state::raise(l, i, v + 1, FLIPPED)
+    let mut k = l;
+    let v = k.lower[i];
+    k.lower[i] = v + 1;
+    k.below[i] = FLIPPED;
+    k
 }
 
 // At most `limit` turns, to a verdict. The deepest level is in hand, and levels are stored when a turn leaves them; where a turn started is kept, so
@@ -100,13 +103,14 @@ pub fn advance(s: Search, buffer: &mut [u8], limit: usize, keep: bool) -> Advanc
                 let l = learn(&mut rows, &mut numbers, here, n, m, made, j);
                 let cut = l.cut;
                 let used = l.used;
-                let mut back: usize = 0;
-                while back < depth {
-                    let o = state::whole(levels[back]);
-                    if is_falsified(&cut, 0, &o.lower, &o.upper, n) {
+                // Levels nest, so those that falsify the cut are the deepest ones: most often the deepest alone.
+                let mut back = depth;
+                while 0 < back {
+                    let o = state::whole(levels[back - 1]);
+                    if !is_falsified(&cut, 0, &o.lower, &o.upper, n) {
                         break;
                     }
-                    back += 1;
+                    back -= 1;
                 }
                 conflicts += 1;
                 emit(

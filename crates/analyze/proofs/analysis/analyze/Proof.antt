@@ -33,7 +33,9 @@ sub-i : tie.Need-sub-i Inv-loop μ-loop
 sub-i c = search needs
 
 resolve-at-requires : tie.Need-resolve-at-requires Inv-loop μ-loop
-resolve-at-requires c κs = (omega (arith, c .before .loop .inv .most), (c .before .before .before .before .pre .0, c .before .loop .inv .range))
+resolve-at-requires c κs =
+    let l = c .before .before .loop .inv in
+    (omega (arith, l .most), (c .before .before .before .before .before .pre .0, (l .range, l .row)))
 
 mul-used : tie.Need-mul-used Inv-loop μ-loop
 mul-used c = record { fits = omega (arith, c .before .before .before .loop .inv .most, c .before .before .before .before .before .before .pre .0 .variables) }
@@ -49,9 +51,9 @@ loop-again c =
     let l = c .before .before .before .loop in
     let s = c .before .before .before .before .before .before in
     let a = s .args in
-    let r = c .before .resolve-at in
-    analysis-step (a .n) (a .m) (a .made) (a .rows .now) (a .lower .now) (a .upper .now) (a .below .now) (a .above .now) _ (l .i) (l .f) (r .result .cut) (l .used) (r .result .used)
-    (s .pre .0 .variables) (omega arith) (λ numbers decided outer. r .ensures numbers decided outer .same) (r .ensures [] 0 [] .range) (search needs) (l .inv)
+    let r = c .resolve-at in
+    analysis-step (a .n) (a .m) (a .made) (a .rows .now) (a .lower .now) (a .upper .now) (a .below .now) (a .above .now) _ (l .i) (l .f) _ (l .used) (r .result)
+    (s .pre .0 .variables) (omega arith) (λ numbers decided outer. r .ensures numbers decided outer .same) (r .ensures [] 0 [] .range) (r .ensures [] 0 [] .size) (l .inv)
 
 slice-aggregate-copy-row : tie.Need-slice-aggregate-copy-row Inv-loop μ-loop
 slice-aggregate-copy-row c = search (needs, c .before .before .loop .inv .row)

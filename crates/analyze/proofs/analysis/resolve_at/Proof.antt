@@ -23,20 +23,20 @@ add-used-reason c = search needs
 mul-used-reason : tie.Need-mul-used-reason
 mul-used-reason c = search needs
 
-array-copy-out-used-reason : tie.Need-array-copy-out-used-reason
-array-copy-out-used-reason c = search needs
+element-copy-out-used-reason : tie.Need-element-copy-out-used-reason
+element-copy-out-used-reason c = search needs
 
 mul-used-reason-2 : tie.Need-mul-used-reason-2
 mul-used-reason-2 c = search needs
 
-element-copy-out-used-reason : tie.Need-element-copy-out-used-reason
-element-copy-out-used-reason c = search needs
+element-copy-out-used-reason-2 : tie.Need-element-copy-out-used-reason-2
+element-copy-out-used-reason-2 c = search needs
 
 mul-used-reason-3 : tie.Need-mul-used-reason-3
 mul-used-reason-3 c = search needs
 
-element-copy-out-used-reason-2 : tie.Need-element-copy-out-used-reason-2
-element-copy-out-used-reason-2 c = search needs
+element-copy-out-used-reason-3 : tie.Need-element-copy-out-used-reason-3
+element-copy-out-used-reason-3 c = search needs
 
 used-reason-requires : tie.Need-used-reason-requires
 used-reason-requires c κs = search needs
@@ -50,7 +50,7 @@ module _ (c : tie.After-position-of) where
   at-start = c .before .before .before .before .before
 
   abbrev F : Constraint
-  F = constraintAt (at-start .args .n) (at-start .args .t1) 0
+  F = constraintAt (at-start .args .n) (at-start .args .f .now) 0
 
   reason-is : reasonOf (c .before .used-reason .result) ≡ usedReason (coefficientAt F (at-start .args .i)) (reasonsIn (at-start .args .below .now) (at-start .args .above .now) (at-start .args .i))
   unfolding reasonsIn
@@ -58,7 +58,7 @@ module _ (c : tie.After-position-of) where
       let s = at-start .args in
       c .before .used-reason .ensures ∙
       ap (λ (z : ℤ). usedReason z (record { lower = reasonOf (getD (s .below .now) (s .i) 0); upper = reasonOf (getD (s .above .now) (s .i) 0) }))
-      (cell-read (s .t1) 0 (s .i) (s .i + 1) (omega arith) (c .before .before .before .before .used-reason-arg .given) ∙ sym (coefficient-at (s .n) (s .t1) 0 (s .i) (at-start .pre .0)))
+      (cell-read (s .f .now) 0 (s .i) (s .i + 1) (omega arith) (c .before .before .before .before .used-reason-arg .given) ∙ sym (coefficient-at (s .n) (s .f .now) 0 (s .i) (at-start .pre .0)))
 
 position-below : (c : tie.Else1) → c .before .position-of .result < absent
 position-below c = omega (arith, c .before .position-of .ensures .most, c .if1 .left)
@@ -70,24 +70,28 @@ returns c =
     λ numbers decided outer.
     record {
       same = resolve-none (a .n) (a .m) (a .made) (a .rows .now) (a .lower .now) (a .upper .now) (a .below .now) (a .above .now) numbers decided outer (s .pre .1 .0) (a .i) (s .pre .0) (F (c .before)) (c .before .before .used-reason .result) (c .before .position-of .result) (reason-is (c .before)) (c .before .position-of .ensures) (omega arith);
-      range = s .pre .1 .1;
+      range = s .pre .1 .1 .0;
+      size = s .pre .1 .1 .1;
     }
 
 resolve-with-requires : tie.Need-resolve-with-requires
 resolve-with-requires c κs =
-    let s = c .before .before .before .before .before .before in
-    let p = c .before .position-of .ensures in
-    let h = position-below c in
-    (s .pre .0, resolving _ (s .args .m) (s .args .made) _ _ _ _ _ (s .pre .1 .0) (s .pre .1 .1) h (p .inside h))
+    let s = c .before .before .before .before .before .before .before in
+    let p = c .before .before .position-of .ensures in
+    let h = position-below (c .before) in
+    (s .pre .0, resolving _ (s .args .m) (s .args .made) _ _ _ _ _ (s .pre .1 .0) (s .pre .1 .1 .1) (s .pre .1 .1 .0) h (p .inside h))
 
 returns-2 : tie.Need-returns-2
 returns-2 c =
-    let s = c .before .before .before .before .before .before .before in
+    let s = c .before .before .before .before .before .before .before .before in
     let a = s .args in
+    let p = c .before .before .before in
+    let r = c .resolve-with .ensures in
     λ numbers decided outer.
     record {
-      same = resolve-some (a .n) (a .m) (a .made) (a .rows .now) (a .lower .now) (a .upper .now) (a .below .now) (a .above .now) numbers decided outer (s .pre .1 .0) (a .i) (s .pre .0) (F (c .before .before)) (c .before .before .before .used-reason .result) (c .before .before .position-of .result) (reason-is (c .before .before)) (c .before .before .position-of .ensures) (position-below (c .before)) ∙ c .resolve-with .ensures .same;
-      range = c .resolve-with .ensures .range;
+      same = resolve-some (a .n) (a .m) (a .made) (a .rows .now) (a .lower .now) (a .upper .now) (a .below .now) (a .above .now) numbers decided outer (s .pre .1 .0) (a .i) (s .pre .0) (F p) (p .before .used-reason .result) (p .position-of .result) (reason-is p) (p .position-of .ensures) (position-below (c .before .before)) ∙ r .same;
+      range = r .range;
+      size = r .size;
     }
 
 pub resolve-at-spec : {M : Type 1} → statement M
@@ -96,11 +100,11 @@ resolve-at-spec =
     (tie.spec
     add-used-reason
     mul-used-reason
-    array-copy-out-used-reason
-    mul-used-reason-2
     element-copy-out-used-reason
-    mul-used-reason-3
+    mul-used-reason-2
     element-copy-out-used-reason-2
+    mul-used-reason-3
+    element-copy-out-used-reason-3
     used-reason-requires
     position-of-requires
     returns

@@ -7,11 +7,13 @@ use borrow.Author.Tests.{not-true, not-false}
 use borrow.Author.Needs.{needs}
 use denote.Ref.{now}
 use Rattle.model.specs.Constraint.{Constraint, coefficientAt, opposite, inRange}
+use Rattle.model.specs.Conflict.{Resolved}
 use Rattle.lists.proofs.Bools.{true-of}
 use Rattle.layout.specs.Rows.{rowLength, constraintAt, rowAt}
 use Rattle.layout.proofs.Rows.{coefficient-at}
 use Rattle.layout.proofs.Elements.{cell-read}
 use Rattle.linear.proofs.Ranges.{row-fits, box-fits}
+use Rattle.analyze.specs.Analyzed.{ResolvedAs}
 use Rattle.analyze.proofs.Resolvents.{with-alike, with-large, with-holding, with-taken}
 use Rattle.analyze.proofs.analysis.resolve_with.Statement.{statement}
 use Rattle.analyze.proofs.analysis.resolve_with.Tie as tie
@@ -25,8 +27,8 @@ add-is-opposite c = search needs
 mul-is-opposite : tie.Need-mul-is-opposite
 mul-is-opposite c = search needs
 
-array-copy-out-is-opposite : tie.Need-array-copy-out-is-opposite
-array-copy-out-is-opposite c = search needs
+element-copy-out-is-opposite : tie.Need-element-copy-out-is-opposite
+element-copy-out-is-opposite c = search needs
 
 add-is-opposite-2 : tie.Need-add-is-opposite-2
 add-is-opposite-2 c = search needs
@@ -37,8 +39,8 @@ add-is-opposite-3 c = search needs
 mul-is-opposite-2 : tie.Need-mul-is-opposite-2
 mul-is-opposite-2 c = search needs
 
-element-copy-out-is-opposite : tie.Need-element-copy-out-is-opposite
-element-copy-out-is-opposite c = search needs
+element-copy-out-is-opposite-2 : tie.Need-element-copy-out-is-opposite-2
+element-copy-out-is-opposite-2 c = search needs
 
 is-opposite-requires : tie.Need-is-opposite-requires
 is-opposite-requires c κs = search needs
@@ -49,7 +51,7 @@ module _ (c : tie.After-is-opposite) where
   at-start = c .before .before .before
 
   abbrev F : Constraint
-  F = constraintAt (at-start .args .n) (at-start .args .t1) 0
+  F = constraintAt (at-start .args .n) (at-start .args .f .now) 0
 
   abbrev J : Constraint
   J = rowAt (at-start .args .n) (at-start .args .rows .now) (at-start .args .j)
@@ -59,39 +61,40 @@ module _ (c : tie.After-is-opposite) where
   signs =
       let s = at-start .args in
       let start = rowLength * s .j in
-      let f = cell-read (s .t1) 0 (s .i) (s .i + 1) (omega arith) (c .before .before .is-opposite-arg .given) ∙ sym (coefficient-at (s .n) (s .t1) 0 (s .i) (at-start .pre .0)) in
+      let f = cell-read (s .f .now) 0 (s .i) (s .i + 1) (omega arith) (c .before .before .is-opposite-arg .given) ∙ sym (coefficient-at (s .n) (s .f .now) 0 (s .i) (at-start .pre .0)) in
       let j = cell-read (s .rows .now) start (s .i) (start + 1 + s .i) refl (c .before .is-opposite-arg2 .given) ∙ sym (coefficient-at (s .n) (s .rows .now) start (s .i) (at-start .pre .0)) in
       sym (c .is-opposite .ensures ∙ ap₂ opposite f j)
+
+  -- F as it was, where nothing is taken in
+  untouched : {s : Resolved} → s ≡ record { cut = F; used = 0 } → ResolvedAs (at-start .args .n) s (at-start .args .f .now) 0
+  untouched e = record { same = e; range = at-start .pre .1 .first-range; size = at-start .pre .1 .first-size }
 
 -- ---- the outcome
 module _ (c : tie.After-is-in-range) where
   abbrev signed : tie.After-is-opposite
-  signed = c .before .before .before .before .before .before
+  signed = c .before .before .before .before .before .before .before
 
   abbrev outcome : Constraint
   outcome = constraintAt (at-start signed .args .n) (c .before .before .resolve .result) 0
 
   opposite-signs : opposite (coefficientAt (F signed) (at-start signed .args .i)) (coefficientAt (J signed) (at-start signed .args .i)) ≡ true
-  opposite-signs = signs signed ∙ not-false _ (c .before .before .before .before .before .if1 .left)
+  opposite-signs = signs signed ∙ not-false _ (c .before .before .before .before .before .before .if1 .left)
 
 outcome-range : (c : tie.Else2) → inRange (outcome (c .before)) ≡ true
 outcome-range c = sym (c .before .is-in-range .ensures) ∙ not-false _ (c .if2 .left)
 
 returns : tie.Need-returns
-returns c = record { same = with-alike _ _ _ _ _ (signs (c .before) ∙ not-true _ (c .if1 .taken)); range = c .before .before .before .before .pre .1 .first-range }
-
-slice-aggregate-resolve : tie.Need-slice-aggregate-resolve
-slice-aggregate-resolve c = search needs
+returns c = untouched (c .before) (with-alike _ _ _ _ _ (signs (c .before) ∙ not-true _ (c .if1 .taken)))
 
 resolve-requires : tie.Need-resolve-requires
 unfolding rowAt
 resolve-requires c κs =
-    let s = c .before .before .before .before .before .before in
+    let s = c .before .before .before .before .before .before .before in
     let q = s .pre .1 in
     record {
       variable = s .pre .0;
-      combinable = record { variables = q .variables; first-row = search needs; second-row = omega (arith, q .position, q .rows-size); first-range = q .first-range; second-range = q .second-range };
-      signs = signs (c .before .before .before) ∙ not-false _ (c .before .before .if1 .left);
+      combinable = record { variables = q .variables; first-row = omega (arith, q .first-size); second-row = omega (arith, q .position, q .rows-size); first-range = q .first-range; second-range = q .second-range };
+      signs = signs (c .before .before .before .before) ∙ not-false _ (c .before .before .before .if1 .left);
     }
 
 slice-aggregate-is-in-range : tie.Need-slice-aggregate-is-in-range
@@ -103,28 +106,23 @@ is-in-range-requires c κs = search needs
 returns-2 : tie.Need-returns-2
 unfolding rowAt
 returns-2 c =
-    let s = c .before .before .before .before .before .before .before .before .before .before in
-    record {
-      same = with-large _ _ _ _ _ (outcome (c .before)) (opposite-signs (c .before)) (c .before .before .before .resolve .ensures) (sym (c .before .is-in-range .ensures) ∙ not-true _ (c .if2 .taken));
-      range = s .pre .1 .first-range;
-    }
+    let r = c .before in
+    untouched (signed r) (with-large _ _ _ _ _ (outcome r) (opposite-signs r) (r .before .before .resolve .ensures) (sym (r .is-in-range .ensures) ∙ not-true _ (c .if2 .taken)))
 
 slice-aggregate-is-falsified : tie.Need-slice-aggregate-is-falsified
 slice-aggregate-is-falsified c = search needs
 
 is-falsified-requires : tie.Need-is-falsified-requires
 is-falsified-requires c κs =
-    let q = c .before .before .before .before .before .before .before .before .before .before .before .before .before .pre .1 in
-    (row-fits _ _ 0 (q .variables) (search needs) (search (q .first-range, outcome-range (c .before .before .before))), box-fits _ _ _ (true-of _ (q .box-range)) (omega (arith, q .variables, q .lower-size)) (omega (arith, q .variables, q .upper-size)))
+    let q = c .before .before .before .before .before .before .before .before .before .before .before .before .before .before .pre .1 in
+    (row-fits _ _ 0 (q .variables) (search needs) (outcome-range (c .before .before .before)), box-fits _ _ _ (true-of _ (q .box-range)) (omega (arith, q .variables, q .lower-size)) (omega (arith, q .variables, q .upper-size)))
 
 returns-3 : tie.Need-returns-3
 unfolding rowAt
 returns-3 c =
     let r = c .before .before .before .before .before .before in
-    record {
-      same = with-holding _ _ _ _ _ (outcome r) (opposite-signs r) (r .before .before .resolve .ensures) (outcome-range (c .before .before .before .before .before)) (sym (c .before .is-falsified .ensures) ∙ not-true _ (c .if3 .taken));
-      range = c .before .before .before .before .before .before .before .before .before .before .before .before .before .before .before .pre .1 .first-range;
-    }
+    untouched (signed r)
+    (with-holding _ _ _ _ _ (outcome r) (opposite-signs r) (r .before .before .resolve .ensures) (outcome-range (c .before .before .before .before .before)) (sym (c .before .is-falsified .ensures) ∙ not-true _ (c .if3 .taken)))
 
 returns-4 : tie.Need-returns-4
 unfolding rowAt
@@ -133,6 +131,7 @@ returns-4 c =
     record {
       same = with-taken _ _ _ _ _ (outcome r) (opposite-signs r) (r .before .before .resolve .ensures) (outcome-range (c .before .before .before .before .before)) (sym (c .before .is-falsified .ensures) ∙ not-false _ (c .if3 .left));
       range = outcome-range (c .before .before .before .before .before);
+      size = search needs;
     }
 
 pub resolve-with-spec : {M : Type 1} → statement M
@@ -142,14 +141,13 @@ resolve-with-spec =
     mul-start
     add-is-opposite
     mul-is-opposite
-    array-copy-out-is-opposite
+    element-copy-out-is-opposite
     add-is-opposite-2
     add-is-opposite-3
     mul-is-opposite-2
-    element-copy-out-is-opposite
+    element-copy-out-is-opposite-2
     is-opposite-requires
     returns
-    slice-aggregate-resolve
     resolve-requires
     slice-aggregate-is-in-range
     is-in-range-requires

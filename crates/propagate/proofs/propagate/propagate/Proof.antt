@@ -1,5 +1,6 @@
 -- `propagate::propagate::propagate` meets its contract: the level stays ready, and leaves the answer as it was; the slack falls. `Steps` has the
 -- turns. Assumes nothing.
+use Prim.Native.Nat.{_+_}
 use native.Mathlib.Omega.{arith}
 use mathlib.Core.Path.{_≡_, refl, ap, sym, _∙_}
 use borrow.Author.Needs.{needs}
@@ -8,7 +9,9 @@ use mir.Syntax.{w64}
 use mir.Val.{SFits}
 use mir.Facts.{toZ-ofZ}
 use lib.Dec.{T}
+use lib.ListN.{length}
 use Rattle.model.specs.Lists.{allOf}
+use Rattle.model.specs.Ranges.{maxConstraints, maxCuts}
 use Rattle.model.specs.Problem.{boundsInRange}
 use Rattle.model.specs.Move.{nextMove, slack}
 use Rattle.state.specs.View.{keptCuts}
@@ -23,38 +26,39 @@ use Rattle.propagate.proofs.propagate.propagate.Statement.{statement}
 use Rattle.propagate.proofs.propagate.propagate.Tie as tie
 
 abbrev Inv-loop : tie.InvT-loop
-Inv-loop rows n m made kept l₀ l = Ready n m made rows l × (answer n m made rows l₀ ≡ answer n m made rows l)
+Inv-loop rows n m made kept activities₀ l₀ activities l =
+    Ready n m made rows l × ((answer n m made rows l₀ ≡ answer n m made rows l) × (length activities ≡ maxConstraints + maxCuts))
 
 abbrev μ-loop : tie.MeasureT-loop
-μ-loop rows n m made kept l₀ l = slack (boxAt n l)
+μ-loop rows n m made kept activities₀ l₀ activities l = slack (boxAt n l)
 
 kept-count-requires : tie.Need-kept-count-requires Inv-loop μ-loop
 kept-count-requires c κs = search needs
 
 loop-holds : tie.Need-loop-holds Inv-loop μ-loop
-loop-holds c = (c .before .pre, refl)
+loop-holds c = (c .before .pre, (refl, search needs))
 
 next-move-requires : tie.Need-next-move-requires Inv-loop μ-loop
 next-move-requires c κs =
-    let r = c .before .before .before .loop .inv .0 in
-    rw (c .before .before .before .before .kept-count .ensures)
-    (record { few = r .few; count = unfold keptCuts in omega (arith, r .inputs); constraints = r .constraints; bounds = r .bounds })
+    let r = c .before .before .before .before .loop .inv .0 in
+    rw (c .before .before .before .before .before .kept-count .ensures)
+    (record { few = r .few; count = unfold keptCuts in omega (arith, r .inputs); constraints = r .constraints; bounds = r .bounds }, c .before .before .before .before .loop .inv .1 .1)
 
 -- the code's next move is the model's
 said : (c : tie.After-next-move Inv-loop μ-loop) →
-    let a = c .before .before .before .before .before .before .args in
-    moveOf (c .next-move .result) ≡ nextMove (keptRows (a .n) (a .m) (a .made) (now (a .rows))) (boxAt (a .n) (c .before .before .before .before .loop .l))
-said c = rw (c .before .before .before .before .before .kept-count .ensures) at (c .next-move .ensures)
+    let a = c .before .before .before .before .before .before .before .args in
+    moveOf (c .next-move .result) ≡ nextMove (keptRows (a .n) (a .m) (a .made) (now (a .rows))) (boxAt (a .n) (c .before .before .before .before .before .loop .l))
+said c = rw (c .before .before .before .before .before .before .kept-count .ensures) at (c .next-move .ensures .0)
 
 -- where it sets no bound, the level and the move are the answer
 stopped : (c : tie.After-next-move Inv-loop μ-loop) (found : Found) → stopOf found ≡ moveOf (c .next-move .result) →
-    let a = c .before .before .before .before .before .before .args in
-    let l : Level = c .before .before .before .before .loop .l in
+    let a = c .before .before .before .before .before .before .before .args in
+    let l : Level = c .before .before .before .before .before .loop .l in
     (propagationOf (a .n) (record { level = l; found = found }) ≡ answer (a .n) (a .m) (a .made) (now (a .rows)) (a .level)) × (Whole l × T (allOf boundsInRange (boxAt (a .n) l)))
 stopped c found e =
-    let a = c .before .before .before .before .before .before .args in
-    let i = c .before .before .before .before .loop .inv in
-    (stop-answer (a .n) (a .m) (a .made) (now (a .rows)) (c .before .before .before .before .loop .l) (i .0) found (e ∙ said c) ∙ sym (i .1), (i .0 .whole, i .0 .bounds))
+    let a = c .before .before .before .before .before .before .before .args in
+    let i = c .before .before .before .before .before .loop .inv in
+    (stop-answer (a .n) (a .m) (a .made) (now (a .rows)) (c .before .before .before .before .before .loop .l) (i .0) found (e ∙ said c) ∙ sym (i .1 .0), (i .0 .whole, i .0 .bounds))
 
 enum-known-next : tie.Need-enum-known-next Inv-loop μ-loop
 enum-known-next c = search needs
@@ -68,30 +72,30 @@ enum-known-next-2 c = search needs
 
 -- a lower bound that rises, an upper bound that falls
 raised-next : (c : tie.After-known-told2 Inv-loop μ-loop) →
-    let a = c .before .before .before .before .before .before .before .before .before .args in
-    let l : Level = c .before .before .before .before .before .before .before .loop .l in
+    let a = c .before .before .before .before .before .before .before .before .before .before .args in
+    let l : Level = c .before .before .before .before .before .before .before .before .loop .l in
     let g = c .before .next2 .given .0 in
     Next (a .n) (a .m) (a .made) (now (a .rows)) l (g .0) (g .1 .0) (raised l (g .1 .0) (g .1 .1 .0) (numberFor (a .m) (a .made) (g .0)))
 unfolding moveOf
 raised-next c =
-    let a = c .before .before .before .before .before .before .before .before .before .args in
+    let a = c .before .before .before .before .before .before .before .before .before .before .args in
     let g = c .before .next2 .given .0 in
-    raise-next (a .n) (a .m) (a .made) (now (a .rows)) (c .before .before .before .before .before .before .before .loop .l) (c .before .before .before .before .before .before .before .loop .inv .0) (g .0) (g .1 .0) (g .1 .1 .0) (sym (ap moveOf (c .before .next2 .given .1)) ∙ said (c .before .before .before))
+    raise-next (a .n) (a .m) (a .made) (now (a .rows)) (c .before .before .before .before .before .before .before .before .loop .l) (c .before .before .before .before .before .before .before .before .loop .inv .0) (g .0) (g .1 .0) (g .1 .1 .0) (sym (ap moveOf (c .before .next2 .given .1)) ∙ said (c .before .before .before))
 
 mul-v : tie.Need-mul-v Inv-loop μ-loop
-mul-v c = record { fits = omega (arith, raised-next c .variable, c .before .before .before .before .before .before .before .loop .inv .0 .few) }
+mul-v c = record { fits = omega (arith, raised-next c .variable, c .before .before .before .before .before .before .before .before .loop .inv .0 .few) }
 
 element-set-from-v : tie.Need-element-set-from-v Inv-loop μ-loop
-element-set-from-v c = omega (arith, raised-next c .variable, c .before .before .before .before .before .before .before .loop .inv .0 .few)
+element-set-from-v c = omega (arith, raised-next c .variable, c .before .before .before .before .before .before .before .before .loop .inv .0 .few)
 
 number-at-requires : tie.Need-number-at-requires Inv-loop μ-loop
-number-at-requires c κs = (c .before .before .before .before .before .before .before .loop .inv .0 .cuts, unfold keptCuts in omega (arith, raised-next c .constraint, c .before .before .before .before .before .before .before .loop .inv .0 .inputs))
+number-at-requires c κs = (c .before .before .before .before .before .before .before .before .loop .inv .0 .cuts, unfold keptCuts in omega (arith, raised-next c .constraint, c .before .before .before .before .before .before .before .before .loop .inv .0 .inputs))
 
 mul-l : tie.Need-mul-l Inv-loop μ-loop
-mul-l c = record { fits = omega (arith, raised-next (c .before) .variable, c .before .before .before .before .before .before .before .before .loop .inv .0 .few) }
+mul-l c = record { fits = omega (arith, raised-next (c .before) .variable, c .before .before .before .before .before .before .before .before .before .loop .inv .0 .few) }
 
 element-write-l : tie.Need-element-write-l Inv-loop μ-loop
-element-write-l c = omega (arith, raised-next (c .before) .variable, c .before .before .before .before .before .before .before .before .loop .inv .0 .few)
+element-write-l c = omega (arith, raised-next (c .before) .variable, c .before .before .before .before .before .before .before .before .before .loop .inv .0 .few)
 
 loop-less : tie.Need-loop-less Inv-loop μ-loop
 loop-less c =
@@ -102,36 +106,36 @@ loop-again : tie.Need-loop-again Inv-loop μ-loop
 loop-again c =
     let v : SFits w64 (c .before .before .next2 .given .0 .1 .1 .0) = search needs in
     let k = raised-next (c .before) in
-    rw (toZ-ofZ v, c .number-at .ensures) (k .ready, c .before .before .before .before .before .before .before .before .loop .inv .1 ∙ k .same)
+    rw (toZ-ofZ v, c .number-at .ensures) (k .ready, (c .before .before .before .before .before .before .before .before .before .loop .inv .1 .0 ∙ k .same, c .before .before .before .before .next-move .ensures .1))
 
 enum-known-next-3 : tie.Need-enum-known-next-3 Inv-loop μ-loop
 enum-known-next-3 c = search needs
 
 lowered-next : (c : tie.After-known-told3 Inv-loop μ-loop) →
-    let a = c .before .before .before .before .before .before .before .before .before .args in
-    let l : Level = c .before .before .before .before .before .before .before .loop .l in
+    let a = c .before .before .before .before .before .before .before .before .before .before .args in
+    let l : Level = c .before .before .before .before .before .before .before .before .loop .l in
     let g = c .before .next3 .given .0 in
     Next (a .n) (a .m) (a .made) (now (a .rows)) l (g .0) (g .1 .0) (lowered l (g .1 .0) (g .1 .1 .0) (numberFor (a .m) (a .made) (g .0)))
 unfolding moveOf
 lowered-next c =
-    let a = c .before .before .before .before .before .before .before .before .before .args in
+    let a = c .before .before .before .before .before .before .before .before .before .before .args in
     let g = c .before .next3 .given .0 in
-    lower-next (a .n) (a .m) (a .made) (now (a .rows)) (c .before .before .before .before .before .before .before .loop .l) (c .before .before .before .before .before .before .before .loop .inv .0) (g .0) (g .1 .0) (g .1 .1 .0) (sym (ap moveOf (c .before .next3 .given .1)) ∙ said (c .before .before .before))
+    lower-next (a .n) (a .m) (a .made) (now (a .rows)) (c .before .before .before .before .before .before .before .before .loop .l) (c .before .before .before .before .before .before .before .before .loop .inv .0) (g .0) (g .1 .0) (g .1 .1 .0) (sym (ap moveOf (c .before .next3 .given .1)) ∙ said (c .before .before .before))
 
 mul-v-2 : tie.Need-mul-v-2 Inv-loop μ-loop
-mul-v-2 c = record { fits = omega (arith, lowered-next c .variable, c .before .before .before .before .before .before .before .loop .inv .0 .few) }
+mul-v-2 c = record { fits = omega (arith, lowered-next c .variable, c .before .before .before .before .before .before .before .before .loop .inv .0 .few) }
 
 element-set-from-v-2 : tie.Need-element-set-from-v-2 Inv-loop μ-loop
-element-set-from-v-2 c = omega (arith, lowered-next c .variable, c .before .before .before .before .before .before .before .loop .inv .0 .few)
+element-set-from-v-2 c = omega (arith, lowered-next c .variable, c .before .before .before .before .before .before .before .before .loop .inv .0 .few)
 
 number-at-requires-2 : tie.Need-number-at-requires-2 Inv-loop μ-loop
-number-at-requires-2 c κs = (c .before .before .before .before .before .before .before .loop .inv .0 .cuts, unfold keptCuts in omega (arith, lowered-next c .constraint, c .before .before .before .before .before .before .before .loop .inv .0 .inputs))
+number-at-requires-2 c κs = (c .before .before .before .before .before .before .before .before .loop .inv .0 .cuts, unfold keptCuts in omega (arith, lowered-next c .constraint, c .before .before .before .before .before .before .before .before .loop .inv .0 .inputs))
 
 mul-l-2 : tie.Need-mul-l-2 Inv-loop μ-loop
-mul-l-2 c = record { fits = omega (arith, lowered-next (c .before) .variable, c .before .before .before .before .before .before .before .before .loop .inv .0 .few) }
+mul-l-2 c = record { fits = omega (arith, lowered-next (c .before) .variable, c .before .before .before .before .before .before .before .before .before .loop .inv .0 .few) }
 
 element-write-l-2 : tie.Need-element-write-l-2 Inv-loop μ-loop
-element-write-l-2 c = omega (arith, lowered-next (c .before) .variable, c .before .before .before .before .before .before .before .before .loop .inv .0 .few)
+element-write-l-2 c = omega (arith, lowered-next (c .before) .variable, c .before .before .before .before .before .before .before .before .before .loop .inv .0 .few)
 
 loop-less-2 : tie.Need-loop-less-2 Inv-loop μ-loop
 loop-less-2 c =
@@ -142,7 +146,7 @@ loop-again-2 : tie.Need-loop-again-2 Inv-loop μ-loop
 loop-again-2 c =
     let v : SFits w64 (c .before .before .next3 .given .0 .1 .1 .0) = search needs in
     let k = lowered-next (c .before) in
-    rw (toZ-ofZ v, c .number-at2 .ensures) (k .ready, c .before .before .before .before .before .before .before .before .loop .inv .1 ∙ k .same)
+    rw (toZ-ofZ v, c .number-at2 .ensures) (k .ready, (c .before .before .before .before .before .before .before .before .before .loop .inv .1 .0 ∙ k .same, c .before .before .before .before .next-move .ensures .1))
 
 enum-known-next-4 : tie.Need-enum-known-next-4 Inv-loop μ-loop
 enum-known-next-4 c = search needs

@@ -23,12 +23,12 @@ returns : tie.Need-returns
 unfolding moveOf
 returns c =
     let f = c .before .first-falsified in
-    next-conflict _ _ _ (f .result) (f .ensures .0) (c .if1 .taken)
+    (next-conflict _ _ _ (f .result) (f .ensures .0) (c .if1 .taken), f .ensures .1 .room)
 
 first-improvement-requires : tie.Need-first-improvement-requires
 first-improvement-requires c κs =
     let f = c .before .before .first-falsified in
-    (c .before .before .before .before .pre, stored-all _ _ _ _ _ (f .result) _ (c .before .if1 .left) (f .ensures .1))
+    (c .before .before .before .before .pre .0, stored-all _ _ _ _ _ (f .result) _ (c .before .if1 .left) (f .ensures .1))
 
 enum-told : tie.Need-enum-told
 enum-told c = search needs
@@ -46,7 +46,7 @@ returns-2 : tie.Need-returns-2
 returns-2 c =
     let f = c .before .before .before .before .first-falsified in
     let m = c .before .first-improvement in
-    next-improvement _ _ _ (f .result) (f .ensures .0) (c .before .before .before .if1 .left) _ (found (m .result) (c .match .keys2) ∙ m .ensures)
+    (next-improvement _ _ _ (f .result) (f .ensures .0) (c .before .before .before .if1 .left) _ (found (m .result) (c .match .keys2) ∙ m .ensures), f .ensures .1 .room)
 
 first-open-requires : tie.Need-first-open-requires
 first-open-requires c κs = search needs
@@ -57,7 +57,7 @@ returns-3 c =
     let f = c .before .before .before .before .before .before .before .first-falsified in
     let m = c .before .before .before .before .first-improvement in
     let o = c .before .first-open in
-    next-decide _ _ _ (f .result) (f .ensures .0) (c .before .before .before .before .before .before .if1 .left) (sym (ap foundOf (c .before .before .enum-told .given .1)) ∙ m .ensures) _ (o .result) (o .ensures) (c .if2 .taken)
+    (next-decide _ _ _ (f .result) (f .ensures .0) (c .before .before .before .before .before .before .if1 .left) (sym (ap foundOf (c .before .before .enum-told .given .1)) ∙ m .ensures) _ (o .result) (o .ensures) (c .if2 .taken), f .ensures .1 .room)
 
 returns-4 : tie.Need-returns-4
 unfolding moveOf foundOf
@@ -65,7 +65,7 @@ returns-4 c =
     let f = c .before .before .before .before .before .before .before .first-falsified in
     let m = c .before .before .before .before .first-improvement in
     let o = c .before .first-open in
-    next-finish _ _ _ (f .result) (f .ensures .0) (c .before .before .before .before .before .before .if1 .left) (sym (ap foundOf (c .before .before .enum-told .given .1)) ∙ m .ensures) _ (o .result) (o .ensures) (c .if2 .left)
+    (next-finish _ _ _ (f .result) (f .ensures .0) (c .before .before .before .before .before .before .if1 .left) (sym (ap foundOf (c .before .before .enum-told .given .1)) ∙ m .ensures) _ (o .result) (o .ensures) (c .if2 .left), f .ensures .1 .room)
 
 pub next-move-spec : {M : Type 1} → statement M
 next-move-spec =

@@ -4,31 +4,33 @@ use Prim.Native.Nat.{_+_, _-_, _*_, _≤_}
 use native.Mathlib.Omega.{arith}
 use mathlib.Core.Logic.{⊎-elim}
 use mathlib.Core.Path.{_≡_, ap, _∙_}
+use mathlib.Core.Bool.{true}
 use borrow.Author.Needs.{needs}
+use borrow.Author.Tests.{not-true, not-false}
 use Rattle.model.specs.Constraint.{falsified}
 use Rattle.model.specs.Move.{decide, finish, conflict, slack}
 use Rattle.layout.specs.Rows.{constraintAt, boxOf}
-use Rattle.state.specs.View.{keptCuts, view}
+use Rattle.state.specs.View.{keptCuts, levelAt, view}
 use Rattle.state.specs.Change.{Whole}
 use Rattle.state.specs.declared.Status.the-variants.{Undecided}
 use Rattle.propagate.specs.Moves.{stopOf}
 use Rattle.turns.proofs.Measures.{turnWeight}
-use Rattle.turns.proofs.Backjumping.{Passed, tested, passed-more}
+use Rattle.turns.proofs.Backjumping.{tested}
 use Rattle.turns.proofs.Running.{Running, running-decides, coreHere}
 use Rattle.turns.proofs.Arms.{stateWith, finishes, spends, exits}
 use Rattle.turns.proofs.Starting.{view-unmarked, start-depth, running-starts, elements-kept}
 use Rattle.turns.proofs.Rounds.{depth-small, made-small, ready, same-length as kept-length, propagates, decided-here, decide-less, learnable}
-use Rattle.turns.proofs.Counted.{CountedAt, test-fits, block-fits, found-level, found-deepest, counted-none, turned-fits, counted-on, counted-less}
+use Rattle.turns.proofs.Counted.{CountedAt, test-fits, block-fits, deepest-false, found-level, passed-all, counted-none, turned-fits, counted-on, counted-less}
 use Rattle.turns.proofs.advance.advance.Statement.{statement}
 use Rattle.turns.proofs.advance.advance.Tie as tie
 
 abbrev Inv-loop2 : tie.InvT-loop2
-Inv-loop2 buffer limit keep n m budget rows numbers levels made conflicts depth start done j falsified l cut used back₀ back =
-    (back ≤ depth) × Passed n levels (constraintAt n cut 0) back
+Inv-loop2 buffer limit keep n m budget rows numbers levels made conflicts depth start done j number l cut used back₀ back =
+    (back ≤ depth) × (falsified (constraintAt n cut 0) (levelAt n levels back .box) ≡ true)
 
 abbrev μ-loop2 : tie.MeasureT-loop2
-μ-loop2 buffer limit keep n m budget rows numbers levels made conflicts depth start done j falsified l cut used back₀ back =
-    depth - back
+μ-loop2 buffer limit keep n m budget rows numbers levels made conflicts depth start done j number l cut used back₀ back =
+    back
 
 abbrev Inv-loop : tie.InvT-loop
 Inv-loop buffer₀ limit keep n m budget rows₀ numbers₀ levels₀ made₀ conflicts₀ depth₀ level₀ before₀ start₀ done₀ buffer rows numbers levels made conflicts depth level before start done =
@@ -164,11 +166,19 @@ learn-requires c κs =
     learnable (round .loop .inv) (moved .propagate .result) (moved .propagate .ensures .0) (met .found2 .given .0 .0) (conflict-at met) (moved .propagate .ensures .1)
 
 loop2-holds : tie.Need-loop2-holds Inv-loop2 μ-loop2 Inv-loop μ-loop
-loop2-holds c = (omega arith, λ k h. let z : ⊥ = omega arith in absurd z)
+loop2-holds c =
+    let learned = c .before .before in
+    let met = learned .before .before .before .before .before .before in
+    let moved = met .before .before .before in
+    let round = moved .before .before .before in
+    (omega arith, deepest-false (round .loop .inv) (moved .propagate .result) (moved .propagate .ensures .0) (met .found2 .given .0 .0) (conflict-at met) (learned .learn .result) (learned .learn .ensures))
 
 -- the depth in the search for the level to go back to
 back-small : (c : tie.At-loop2 Inv-loop2 μ-loop2 Inv-loop μ-loop) → c .loop2 .back ≤ 32
 back-small c = omega (arith, depth-small (c .before .before .before .before .before .before .before .before .before .before .before .before .before .before .before .loop .inv), c .loop2 .inv .0)
+
+sub-whole : tie.Need-sub-whole Inv-loop2 μ-loop2 Inv-loop μ-loop
+sub-whole c = omega (arith, c .loop2-test .taken)
 
 mul-whole-2 : tie.Need-mul-whole-2 Inv-loop2 μ-loop2 Inv-loop μ-loop
 mul-whole-2 c = omega (arith, back-small (c .before))
@@ -191,23 +201,21 @@ is-falsified-requires c κs =
     let round = moved .before .before .before in
     let w = c .before .before .before .before .before .before .whole2 .ensures in
     rw (w .0) (test-fits (round .loop .inv) (moved .propagate .result) (moved .propagate .ensures .0) (met .found2 .given .0 .0) (conflict-at met)
-    (learned .learn .result) (learned .learn .ensures) (passing .loop2 .back) (passing .loop2 .inv .0) (w .1))
+    (learned .learn .result) (learned .learn .ensures) (passing .loop2 .back - 1) (omega (arith, passing .loop2 .inv .0)) (w .1))
 
-add-back : tie.Need-add-back Inv-loop2 μ-loop2 Inv-loop μ-loop
-add-back c = omega (arith, back-small (c .before .before .before .before .before .before .before .before .before .before .before))
+sub-back : tie.Need-sub-back Inv-loop2 μ-loop2 Inv-loop μ-loop
+sub-back c = omega (arith, c .before .before .before .before .before .before .before .before .before .before .loop2-test .taken)
 
 loop2-less : tie.Need-loop2-less Inv-loop2 μ-loop2 Inv-loop μ-loop
-loop2-less c = omega arith
+loop2-less c = omega (arith, c .before .before .before .before .before .before .before .before .before .before .loop2-test .taken)
 
 loop2-again : tie.Need-loop2-again Inv-loop2 μ-loop2 Inv-loop μ-loop
 loop2-again c =
     let judged = c .before in
     let read = judged .before .before .before .before .before .before .before in
-    let deeper = read .before .before in
-    let passing = deeper .before in (
-      omega (arith, deeper .loop2-test .taken),
-      passed-more _ _ _ (passing .loop2 .back) (passing .loop2 .inv .1)
-          (tested _ _ _ (passing .loop2 .back) (read .whole2 .result) (read .whole2 .ensures .0) (judged .is-falsified .result) (judged .is-falsified .ensures) ∙ c .if2 .left),
+    let passing = read .before .before .before in (
+      omega (arith, passing .loop2 .inv .0),
+      tested _ _ _ (passing .loop2 .back - 1) (read .whole2 .result) (read .whole2 .ensures .0) (judged .is-falsified .result) (judged .is-falsified .ensures) ∙ not-false _ (c .if2 .left),
     )
 
 -- the conflict is counted, and the search found the level to go back to
@@ -235,13 +243,14 @@ counted c =
       left = turn .loop-test .taken;
       afford = omega (arith, round .loop .inv .counts .afford, afforded .if1 .left);
       level =
-          ⊎-elim
-          (λ w. found-deepest (round .loop .inv) (moved .propagate .result) (moved .propagate .ensures .0) (met .found2 .given .0 .0) (conflict-at met)
-          (learned .learn .result) (learned .learn .ensures) back (inv .0) (w .left) (inv .1))
-          (λ w. found-level (round .loop .inv) (moved .propagate .result) (moved .propagate .ensures .0) (met .found2 .given .0 .0) (conflict-at met)
-          (learned .learn .result) (learned .learn .ensures) back (inv .0) (inv .1)
-          (tested _ _ _ back (w .2 .result) (w .2 .ensures .0) (w .9 .result) (w .9 .ensures) ∙ w .10 .taken))
-          (c .loop2-test .came);
+          found-level (round .loop .inv) (moved .propagate .result) (moved .propagate .ensures .0) (met .found2 .given .0 .0) (conflict-at met)
+          (learned .learn .result) (learned .learn .ensures) back (inv .0)
+          (⊎-elim (λ w k h. let z : ⊥ = omega (arith, w .left) in absurd z)
+          (λ w. passed-all (round .loop .inv) (moved .propagate .result) (moved .propagate .ensures .0) (met .found2 .given .0 .0) (conflict-at met)
+          (learned .learn .result) (learned .learn .ensures) back (inv .0) (omega (arith, w .0 .taken))
+          (tested _ _ _ (back - 1) (w .2 .result) (w .2 .ensures .0) (w .9 .result) (w .9 .ensures) ∙ not-true _ (w .10 .taken)))
+          (c .loop2-test .came))
+          (inv .1);
       reach = inv .0;
       numbered = numbered .number-of .ensures _ _ _ _ _;
     }
@@ -364,7 +373,7 @@ advance-spec =
     (tie.spec
     Inv-loop2 μ-loop2 Inv-loop μ-loop mul-whole array-copy-out-whole whole-requires loop-holds propagate-requires mul-levels array-set-from-levels
     enum-known-found decide-requires add-depth loop-less loop-again enum-told same-length returns enum-known-found-2 mul-levels-2
-    array-set-from-levels-2 same-length-2 returns-2 number-of-requires learn-requires loop2-holds mul-whole-2 array-copy-out-whole-2 whole-requires-2
-    slice-aggregate-is-falsified is-falsified-requires add-back loop2-less loop2-again add-conflicts emit-requires add-done same-length-3 returns-3
+    array-set-from-levels-2 same-length-2 returns-2 number-of-requires learn-requires loop2-holds sub-whole mul-whole-2 array-copy-out-whole-2 whole-requires-2
+    slice-aggregate-is-falsified is-falsified-requires sub-back loop2-less loop2-again add-conflicts emit-requires add-done same-length-3 returns-3
     mul-whole-3 array-copy-out-whole-3 whole-requires-3 sub-depth mul-whole-4 array-copy-out-whole-4 whole-requires-4 flip-requires loop-less-2
     loop-again-2 mul-levels-3 array-set-from-levels-3 same-length-4 returns-4)
