@@ -1,5 +1,8 @@
 // Calls of `linear` that see first to what it asks. A call that it does not allow is not made, and answers 0 or no improvement; the numbers of this
 // program allow every one.
+use crate::rows;
+use crate::rows::Point;
+use crate::rows::Row;
 use crate::small::bound;
 use crate::small::coefficient;
 use linear::activity::Improvement;
@@ -71,18 +74,32 @@ fn is_measurable<'a>(row: &'a [i64], lower: &'a [i64], upper: &'a [i64], n: usiz
     is_box(lower, upper, n)
 }
 
-pub fn lowest<'a>(row: &'a [i64], lower: &'a [i64], upper: &'a [i64], n: usize) -> i64 {
+pub fn lowest_over<'a>(row: &'a [i64], lower: &'a [i64], upper: &'a [i64], n: usize) -> i64 {
     if !is_measurable(row, lower, upper, n) {
         return 0;
     }
     min_activity(row, 0, lower, upper, n)
 }
 
-pub fn falsified<'a>(row: &'a [i64], lower: &'a [i64], upper: &'a [i64], n: usize) -> bool {
+fn falsified_over<'a>(row: &'a [i64], lower: &'a [i64], upper: &'a [i64], n: usize) -> bool {
     if !is_measurable(row, lower, upper, n) {
         return false;
     }
     is_falsified(row, 0, lower, upper, n)
+}
+
+pub fn lowest(row: Row, lower: Point, upper: Point) -> i64 {
+    let r = rows::cells(row);
+    let l = rows::coordinates(lower);
+    let u = rows::coordinates(upper);
+    lowest_over(&r, &l, &u, 3)
+}
+
+pub fn falsified(row: Row, lower: Point, upper: Point) -> bool {
+    let r = rows::cells(row);
+    let l = rows::coordinates(lower);
+    let u = rows::coordinates(upper);
+    falsified_over(&r, &l, &u, 3)
 }
 
 pub fn term_of(a: i64, lower: i64, upper: i64) -> i64 {
@@ -115,30 +132,35 @@ pub fn improvement(a: i64, lower: i64, upper: i64, activity: i64) -> Improvement
     improvement_at(coefficient(a), bound(lower), bound(upper), sum)
 }
 
-pub fn in_range(r: &[i64; 33], n: usize) -> bool {
+pub fn in_range(r: Row, n: usize) -> bool {
     if 32 < n {
         return false;
     }
-    is_in_range(r, 0, n)
+    is_in_range(&rows::cells(r), 0, n)
 }
 
-pub fn equal<'a>(a: &'a [i64; 33], b: &'a [i64; 33], n: usize) -> bool {
+pub fn equal(a: Row, b: Row, n: usize) -> bool {
     if 32 < n {
         return false;
     }
-    is_equal(a, 0, b, 0, n)
+    is_equal(&rows::cells(a), 0, &rows::cells(b), 0, n)
 }
 
 // Rounding, of three variables
-pub fn rounded(row: [i64; 33]) -> [i64; 33] {
+fn rounded_cells(row: [i64; 33]) -> [i64; 33] {
     if !is_in_range(&row, 0, 3) {
         return [0i64; 33];
     }
     round(row, 3)
 }
 
+pub fn rounded(row: Row) -> Row {
+    let r = rounded_cells(rows::cells(row));
+    rows::of_cells(&r)
+}
+
 // Combining at variable i of three
-pub fn resolvent<'a>(f: &'a [i64; 33], j: &'a [i64; 33], i: usize) -> [i64; 33] {
+fn resolvent_cells<'a>(f: &'a [i64; 33], j: &'a [i64; 33], i: usize) -> [i64; 33] {
     if 3 <= i {
         return [0i64; 33];
     }
@@ -152,4 +174,9 @@ pub fn resolvent<'a>(f: &'a [i64; 33], j: &'a [i64; 33], i: usize) -> [i64; 33] 
         return [0i64; 33];
     }
     resolve(f, 0, j, 0, i, 3)
+}
+
+pub fn resolvent(f: Row, j: Row, i: usize) -> Row {
+    let r = resolvent_cells(&rows::cells(f), &rows::cells(j), i);
+    rows::of_cells(&r)
 }

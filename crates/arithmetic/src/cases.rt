@@ -1,8 +1,10 @@
 // One random case of each family: whether the proved function and the direct computation agree.
 use crate::calls;
 use crate::direct;
+use crate::random::draw;
+use crate::rows::Point;
+use crate::rows::Row;
 use crate::small::difference;
-use crate::small::is_positive;
 use crate::small::larger;
 use crate::small::lesser;
 use crate::small::negated;
@@ -12,15 +14,8 @@ use integer::magnitude;
 use linear::activity::Improvement;
 ghost use Prim.Native.Nat.{_<_, _^_};
 
-// A row of three variables, with a number past them that no function may read.
-pub fn row(constant: i64, a: i64, b: i64, c: i64) -> [i64; 33] {
-    let mut r = [0i64; 33];
-    r[0] = constant;
-    r[1] = a;
-    r[2] = b;
-    r[3] = c;
-    r[4] = 77;
-    r
+pub fn row(constant: i64, a: i64, b: i64, c: i64) -> Row {
+    Row { constant, a, b, c }
 }
 
 // A divisor from 1 to 21 of a number from −20 to 20
@@ -30,9 +25,9 @@ fn divisor_of(z: i64) -> u64
     magnitude(crate::small::coefficient(z)) + 1
 }
 
-pub fn division(x: &[i64; 16]) -> bool {
-    let z = product(x[0], 2);
-    let d = divisor_of(x[1]);
+pub fn division(s: u32) -> bool {
+    let z = product(draw(s, 0), 2);
+    let d = divisor_of(draw(s, 1));
     let divisor = signed(d);
     if integer::floor_div(z, d) != direct::largest(negated(z), divisor) {
         return false;
@@ -43,39 +38,60 @@ pub fn division(x: &[i64; 16]) -> bool {
     integer::exact_div(product(z, divisor), d) == z
 }
 
-pub fn common_divisor(x: &[i64; 16]) -> bool {
-    let a = magnitude(product(x[0], x[2]));
-    let b = magnitude(product(x[1], x[2]));
+pub fn common_divisor(s: u32) -> bool {
+    let a = magnitude(product(draw(s, 0), draw(s, 2)));
+    let b = magnitude(product(draw(s, 1), draw(s, 2)));
     integer::gcd(a, b) == direct::common(a, b)
 }
 
-pub fn implied(x: &[i64; 16]) -> bool {
-    let p = product(x[0], 2);
-    let a = signed(divisor_of(x[1]));
+pub fn implied(s: u32) -> bool {
+    let p = product(draw(s, 0), 2);
+    let a = signed(divisor_of(draw(s, 1)));
     if calls::upper_from(p, a) != direct::largest(p, a) {
         return false;
     }
     calls::lower_from(p, negated(a)) == direct::smallest(p, negated(a))
 }
 
-pub fn activity(x: &[i64; 16]) -> bool {
-    let r = row(product(x[0], x[10]), x[1], x[2], x[3]);
-    let lower = [lesser(x[4], x[5]), lesser(x[6], x[7]), lesser(x[8], x[9])];
-    let upper = [larger(x[4], x[5]), larger(x[6], x[7]), larger(x[8], x[9])];
-    let least = direct::lowest_corner(&r, &lower, &upper);
-    if calls::lowest(&r, &lower, &upper, 3) != least {
+// Whether the lowest value is the one at a corner of the box, and decides whether the constraint is false.
+fn is_lowest(row: Row, lower: Point, upper: Point) -> bool {
+    let least = direct::lowest_corner(row, lower, upper);
+    if calls::lowest(row, lower, upper) != least {
         return false;
     }
-    if calls::falsified(&r, &lower, &upper, 3) {
-        return is_positive(least);
+    if calls::falsified(row, lower, upper) {
+        return 0 < least;
     }
-    !is_positive(least)
+    least <= 0
 }
 
-pub fn one_term(x: &[i64; 16]) -> bool {
-    let l = lesser(x[1], x[2]);
-    let u = larger(x[1], x[2]);
-    calls::term_of(x[0], l, u) == lesser(product(x[0], l), product(x[0], u))
+fn lower_bounds(s: u32) -> Point {
+    Point {
+        x: lesser(draw(s, 4), draw(s, 5)),
+        y: lesser(draw(s, 6), draw(s, 7)),
+        z: lesser(draw(s, 8), draw(s, 9)),
+    }
+}
+
+fn upper_bounds(s: u32) -> Point {
+    Point {
+        x: larger(draw(s, 4), draw(s, 5)),
+        y: larger(draw(s, 6), draw(s, 7)),
+        z: larger(draw(s, 8), draw(s, 9)),
+    }
+}
+
+pub fn activity(s: u32) -> bool {
+    let constant = product(draw(s, 0), draw(s, 10));
+    let r = row(constant, draw(s, 1), draw(s, 2), draw(s, 3));
+    is_lowest(r, lower_bounds(s), upper_bounds(s))
+}
+
+pub fn one_term(s: u32) -> bool {
+    let a = draw(s, 0);
+    let l = lesser(draw(s, 1), draw(s, 2));
+    let u = larger(draw(s, 1), draw(s, 2));
+    calls::term_of(a, l, u) == lesser(product(a, l), product(a, u))
 }
 
 // Whether v is the best upper bound below u that p + a · v ≤ 0 implies.
@@ -110,11 +126,8 @@ fn is_no_better(p: i64, a: i64, l: i64, u: i64) -> bool {
     true
 }
 
-pub fn improving(x: &[i64; 16]) -> bool {
-    let a = x[0];
-    let l = lesser(x[1], x[2]);
-    let u = larger(x[1], x[2]);
-    let activity = lesser(product(x[3], x[4]), product(negated(x[3]), x[4]));
+// Whether an improvement of l or u is the best one that the constraint's other terms leave.
+fn is_improved(a: i64, l: i64, u: i64, activity: i64) -> bool {
     let p = difference(activity, lesser(product(a, l), product(a, u)));
     let found = calls::improvement(a, l, u, activity);
     match found {
@@ -122,6 +135,13 @@ pub fn improving(x: &[i64; 16]) -> bool {
         Improvement::Upper(v) => is_new_upper(p, a, u, v),
         Improvement::Nothing => is_no_better(p, a, l, u),
     }
+}
+
+pub fn improving(s: u32) -> bool {
+    let l = lesser(draw(s, 1), draw(s, 2));
+    let u = larger(draw(s, 1), draw(s, 2));
+    let size = product(draw(s, 3), draw(s, 4));
+    is_improved(draw(s, 0), l, u, lesser(size, negated(size)))
 }
 
 // b / g as a signed number; 0 where g is 0
@@ -140,8 +160,8 @@ fn turned(z: i64, sign: i64) -> i64 {
     z
 }
 
-// The row of three variables that has a at variable i, and the other numbers before and after it.
-fn row_with(constant: i64, a: i64, b: i64, c: i64, i: u64) -> [i64; 33] {
+// The row that has a at variable i, and the other numbers before and after it.
+fn row_with(constant: i64, a: i64, b: i64, c: i64, i: usize) -> Row {
     if i == 0 {
         return row(constant, a, b, c);
     }
@@ -151,42 +171,36 @@ fn row_with(constant: i64, a: i64, b: i64, c: i64, i: u64) -> [i64; 33] {
     row(constant, b, c, a)
 }
 
-fn place(i: u64) -> usize {
-    if i == 0 {
-        return 0;
-    }
-    if i == 1 {
-        return 1;
-    }
-    2
-}
-
-pub fn resolving(x: &[i64; 16]) -> bool {
-    let a = divisor_of(x[0]);
-    let b = divisor_of(x[1]);
-    let i = magnitude(x[9]) % 3;
-    let f = row_with(x[2], turned(signed(a), x[8]), x[3], x[4], i);
-    let j = row_with(x[5], turned(negated(signed(b)), x[8]), x[6], x[7], i);
+// Whether F and J, which have a and −b at variable i or −a and b, combine there as they should.
+fn is_resolvent(f: Row, j: Row, a: u64, b: u64, i: usize) -> bool {
     let g = direct::common(a, b);
     let s = multiplier(b, g);
     let t = multiplier(a, g);
-    let h = direct::common(
-        direct::mixed_size(s, x[3], t, x[6]),
-        direct::mixed_size(s, x[4], t, x[7]),
-    );
-    let r = calls::resolvent(&f, &j, place(i));
-    direct::is_resolved(&r, &f, &j, s, t, signed(h))
+    let h = direct::common_coefficient(f, j, s, t);
+    direct::is_resolved(calls::resolvent(f, j, i), f, j, s, t, signed(h))
+}
+
+pub fn resolving(s: u32) -> bool {
+    let a = divisor_of(draw(s, 0));
+    let b = divisor_of(draw(s, 1));
+    let sign = draw(s, 8);
+    let i = (magnitude(draw(s, 9)) % 3) as usize;
+    let first = turned(signed(a), sign);
+    let second = turned(negated(signed(b)), sign);
+    let f = row_with(draw(s, 2), first, draw(s, 3), draw(s, 4), i);
+    let j = row_with(draw(s, 5), second, draw(s, 6), draw(s, 7), i);
+    is_resolvent(f, j, a, b, i)
 }
 
 // Family `kind`, from 0
-pub fn agrees(kind: u32, x: &[i64; 16]) -> bool {
+pub fn agrees(kind: u32, s: u32) -> bool {
     match kind {
-        0 => division(x),
-        1 => common_divisor(x),
-        2 => implied(x),
-        3 => one_term(x),
-        4 => activity(x),
-        5 => improving(x),
-        _ => resolving(x),
+        0 => division(s),
+        1 => common_divisor(s),
+        2 => implied(s),
+        3 => one_term(s),
+        4 => activity(s),
+        5 => improving(s),
+        _ => resolving(s),
     }
 }

@@ -1,4 +1,6 @@
 // The same questions answered another way: by trying values one by one, by trial division, by the corners of a box, by values at points.
+use crate::rows::Point;
+use crate::rows::Row;
 use crate::small::coefficient;
 use crate::small::lesser;
 use crate::small::product;
@@ -62,9 +64,9 @@ pub fn common(x: u64, y: u64) -> u64 {
     0
 }
 
-// The value of a constraint of three variables at a point.
-pub fn value(row: &[i64; 33], x: i64, y: i64, z: i64) -> i64 {
-    coefficient(row[0]) + product(row[1], x) + product(row[2], y) + product(row[3], z)
+// The value of a constraint at a point.
+fn value(row: Row, p: Point) -> i64 {
+    coefficient(row.constant) + product(row.a, p.x) + product(row.b, p.y) + product(row.c, p.z)
 }
 
 fn side(lower: i64, upper: i64, k: u32) -> i64 {
@@ -74,20 +76,21 @@ fn side(lower: i64, upper: i64, k: u32) -> i64 {
     upper
 }
 
-// The value at corner k of a box of three variables.
-fn corner<'a>(row: &'a [i64; 33], lower: &'a [i64; 3], upper: &'a [i64; 3], k: u32) -> i64 {
-    let x = side(lower[0], upper[0], k);
-    let y = side(lower[1], upper[1], k / 2);
-    let z = side(lower[2], upper[2], k / 4);
-    value(row, x, y, z)
+// Corner k of a box.
+fn corner(lower: Point, upper: Point, k: u32) -> Point {
+    Point {
+        x: side(lower.x, upper.x, k),
+        y: side(lower.y, upper.y, k / 2),
+        z: side(lower.z, upper.z, k / 4),
+    }
 }
 
 // The least value at the eight corners.
-pub fn lowest_corner<'a>(row: &'a [i64; 33], lower: &'a [i64; 3], upper: &'a [i64; 3]) -> i64 {
-    let mut best = corner(row, lower, upper, 0);
+pub fn lowest_corner(row: Row, lower: Point, upper: Point) -> i64 {
+    let mut best = value(row, lower);
     let mut k: u32 = 1;
     while k < 8 {
-        best = lesser(best, corner(row, lower, upper, k));
+        best = lesser(best, value(row, corner(lower, upper, k)));
         k += 1;
     }
     best
@@ -114,34 +117,24 @@ fn mixed(s: i64, f: i64, t: i64, j: i64) -> i64 {
     product(s, f) + product(t, j)
 }
 
-// Whether `row` at point k of the 27 with coordinates from −1 to 1 is (s · F + t · J) / h rounded up.
-fn is_resolved_at<'a>(
-    row: &'a [i64; 33],
-    f: &'a [i64; 33],
-    j: &'a [i64; 33],
-    s: i64,
-    t: i64,
-    h: i64,
-    k: u32,
-) -> bool {
-    let x = coordinate(k);
-    let y = coordinate(k / 3);
-    let z = coordinate(k / 9);
-    let v = mixed(s, value(f, x, y, z), t, value(j, x, y, z));
-    is_quotient(value(row, x, y, z), v, h)
+// Point k of the 27 with coordinates from −1 to 1.
+fn point(k: u32) -> Point {
+    Point {
+        x: coordinate(k),
+        y: coordinate(k / 3),
+        z: coordinate(k / 9),
+    }
 }
 
-pub fn is_resolved<'a>(
-    row: &'a [i64; 33],
-    f: &'a [i64; 33],
-    j: &'a [i64; 33],
-    s: i64,
-    t: i64,
-    h: i64,
-) -> bool {
+// Whether `row` at a point is (s · F + t · J) / h rounded up.
+fn is_resolved_at(row: Row, f: Row, j: Row, s: i64, t: i64, h: i64, p: Point) -> bool {
+    is_quotient(value(row, p), mixed(s, value(f, p), t, value(j, p)), h)
+}
+
+pub fn is_resolved(row: Row, f: Row, j: Row, s: i64, t: i64, h: i64) -> bool {
     let mut k: u32 = 0;
     while k < 27 {
-        if !is_resolved_at(row, f, j, s, t, h, k) {
+        if !is_resolved_at(row, f, j, s, t, h, point(k)) {
             return false;
         }
         k += 1;
@@ -150,6 +143,14 @@ pub fn is_resolved<'a>(
 }
 
 // The size of s · a + t · b
-pub fn mixed_size(s: i64, a: i64, t: i64, b: i64) -> u64 {
+fn mixed_size(s: i64, a: i64, t: i64, b: i64) -> u64 {
     integer::magnitude(mixed(s, a, t, b))
+}
+
+// The greatest common divisor of the coefficients of s · F + t · J
+pub fn common_coefficient(f: Row, j: Row, s: i64, t: i64) -> u64 {
+    let first = mixed_size(s, f.a, t, j.a);
+    let second = mixed_size(s, f.b, t, j.b);
+    let third = mixed_size(s, f.c, t, j.c);
+    common(first, common(second, third))
 }

@@ -3,39 +3,48 @@ mod calls;
 mod cases;
 mod direct;
 mod random;
+mod rows;
 mod show;
 mod small;
 
 use calls::equal;
 use calls::in_range;
 use cases::row;
+use rows::Point;
+use rows::Row;
+use small::MAX_COEFFICIENT;
+use small::MIN_COEFFICIENT;
 
 const CASES: u32 = 2000;
 
+fn rounding(name: &[u8], r: Row) -> Row {
+    let rounded = calls::rounded(r);
+    show::row(name, rounded);
+    rounded
+}
+
+fn combination(name: &[u8], f: Row, j: Row, i: usize) {
+    show::row(name, calls::resolvent(f, j, i));
+}
+
 fn table() {
-    let p1 = calls::rounded(row(-2, 6, -3, 0));
-    let p2 = calls::rounded(row(1, -6, 3, 0));
-    show::row(b"P1", &p1);
-    show::row(b"P2", &p2);
-    show::answer(
-        b"P3",
-        calls::lowest(&row(1, -3, 2, 0), &[0i64, 1, 0], &[4i64, 2, 0], 3),
-    );
+    let p1 = rounding(b"P1", row(-2, 6, -3, 0));
+    let p2 = rounding(b"P2", row(1, -6, 3, 0));
+    let lower = Point { x: 0, y: 1, z: 0 };
+    let upper = Point { x: 4, y: 2, z: 0 };
+    show::answer(b"P3", calls::lowest(row(1, -3, 2, 0), lower, upper));
     show::answer(b"P4", calls::upper_from(7, 3));
     show::answer(b"P5", calls::lower_from(7, -3));
     show::answer(b"P6", calls::lower_from(-7, -3));
-    show::row(b"P7", &calls::resolvent(&p2, &p1, 1));
-    show::row(
-        b"P8",
-        &calls::resolvent(&row(0, -1, 1, 0), &row(1, -1, -1, 0), 1),
-    );
+    combination(b"P7", p2, p1, 1);
+    combination(b"P8", row(0, -1, 1, 0), row(1, -1, -1, 0), 1);
 }
 
 // The lowest value of a constraint of 32 variables that all have this coefficient and these bounds.
 fn lowest_of(constant: i64, coefficient: i64, lower: i64, upper: i64) -> i64 {
     let mut r = [coefficient; 33];
     r[0] = constant;
-    calls::lowest(&r, &[lower; 32], &[upper; 32], 32)
+    calls::lowest_over(&r, &[lower; 32], &[upper; 32], 32)
 }
 
 // The least and the greatest i64 have a magnitude and quotients.
@@ -73,85 +82,114 @@ fn integers() {
     show::text(b"\n");
 }
 
+fn lowest_value(name: &[u8], constant: i64, coefficient: i64, lower: i64, upper: i64) {
+    show::answer(name, lowest_of(constant, coefficient, lower, upper));
+}
+
 fn lowest_values() {
-    let most = small::MAX_COEFFICIENT;
+    let most = MAX_COEFFICIENT;
+    let least = MIN_COEFFICIENT;
     let limit = 1048576;
+    let low = -1048576;
     let wide = small::MAX_BOUND;
-    show::answer(
-        b"least lowest value, limits 2^20:",
-        lowest_of(-most, most, -limit, limit),
-    );
-    show::answer(
+    lowest_value(b"least lowest value, limits 2^20:", least, most, low, limit);
+    lowest_value(
         b"least lowest value, negative coefficients:",
-        lowest_of(-most, -most, -limit, limit),
+        least,
+        least,
+        low,
+        limit,
     );
-    show::answer(
+    lowest_value(
         b"greatest lowest value, limits 2^20:",
-        lowest_of(most, most, limit, limit),
+        most,
+        most,
+        limit,
+        limit,
     );
-    show::answer(
+    lowest_value(
         b"greatest lowest value, negative coefficients:",
-        lowest_of(most, -most, -limit, -limit),
+        most,
+        least,
+        low,
+        low,
     );
-    show::answer(
+    lowest_value(
         b"least lowest value, bounds 2^24:",
-        lowest_of(-most, most, -wide, wide),
+        least,
+        most,
+        -wide,
+        wide,
     );
-    show::answer(
+    lowest_value(
         b"greatest lowest value, bounds 2^24:",
-        lowest_of(most, most, wide, wide),
+        most,
+        most,
+        wide,
+        wide,
     );
 }
 
 fn combinations() {
-    let most = small::MAX_COEFFICIENT;
-    let f = row(most, most, most, -1);
-    let j = row(most, 1 - most, most, 1);
-    show::row(b"greatest combination:", &calls::resolvent(&f, &j, 0));
-    let f = row(-most, most, -most, -1);
-    let j = row(-most, 1 - most, -most, 1);
-    show::row(b"least combination:", &calls::resolvent(&f, &j, 0));
-    let f = row(most, most, most, 0);
-    let j = row(-most, 1 - most, most, 0);
-    show::row(b"rounded combination:", &calls::resolvent(&f, &j, 0));
-    show::row(
-        b"combination with no coefficient:",
-        &calls::resolvent(&row(1, 2, 0, 0), &row(1, -2, 0, 0), 0),
+    let most = MAX_COEFFICIENT;
+    let least = MIN_COEFFICIENT;
+    combination(
+        b"greatest combination:",
+        row(most, most, most, -1),
+        row(most, least + 1, most, 1),
+        0,
     );
+    combination(
+        b"least combination:",
+        row(least, most, least, -1),
+        row(least, least + 1, least, 1),
+        0,
+    );
+    combination(
+        b"rounded combination:",
+        row(most, most, most, 0),
+        row(least, least + 1, most, 0),
+        0,
+    );
+    combination(
+        b"combination with no coefficient:",
+        row(1, 2, 0, 0),
+        row(1, -2, 0, 0),
+        0,
+    );
+}
+
+fn range_test(name: &[u8], r: Row, n: usize) {
+    show::test(name, in_range(r, n));
 }
 
 fn range_tests() {
-    let most = small::MAX_COEFFICIENT;
-    show::test(
+    let most = MAX_COEFFICIENT;
+    let least = MIN_COEFFICIENT;
+    range_test(
         b"in range, -2^30 and 2^30:",
-        in_range(&row(-most, most, -most, most), 3),
+        row(least, most, least, most),
+        3,
     );
-    show::test(
-        b"in range, constant 2^30 + 1:",
-        in_range(&row(most + 1, 0, 0, 0), 3),
-    );
-    show::test(
+    range_test(b"in range, constant 2^30 + 1:", row(most + 1, 0, 0, 0), 3);
+    range_test(
         b"in range, coefficient -2^30 - 1:",
-        in_range(&row(0, 0, 0, -most - 1), 3),
+        row(0, 0, 0, least - 1),
+        3,
     );
-    show::test(
-        b"in range, past the variables:",
-        in_range(&row(0, 0, 0, -most - 1), 2),
-    );
+    range_test(b"in range, past the variables:", row(0, 0, 0, least - 1), 2);
+}
+
+// Whether a row equals 1 2 3 4.
+fn equality_test(name: &[u8], r: Row, n: usize) {
+    show::test(name, equal(row(1, 2, 3, 4), r, n));
 }
 
 fn equality_tests() {
-    let r = row(1, 2, 3, 4);
-    show::test(b"equal:", equal(&r, &row(1, 2, 3, 4), 3));
-    show::test(b"equal, another constant:", equal(&r, &row(2, 2, 3, 4), 3));
-    show::test(
-        b"equal, another coefficient:",
-        equal(&r, &row(1, 2, 3, -4), 3),
-    );
-    show::test(
-        b"equal, past the variables:",
-        equal(&r, &row(1, 2, 3, -4), 2),
-    );
+    equality_test(b"equal:", row(1, 2, 3, 4), 3);
+    equality_test(b"equal, another constant:", row(2, 2, 3, 4), 3);
+    equality_test(b"equal, another coefficient:", row(1, 2, 3, -4), 3);
+    equality_test(b"equal, past the variables:", row(1, 2, 3, -4), 2);
 }
 
 // The count, one more where a case differs.
@@ -171,9 +209,8 @@ fn different(kind: u32) -> u32 {
     let mut count: u32 = 0;
     let mut i: u32 = 0;
     while i < CASES {
-        let x = random::numbers(state);
-        count = tally(count, cases::agrees(kind, &x));
-        state = random::after(state);
+        count = tally(count, cases::agrees(kind, state));
+        state = random::after(state, 16);
         i += 1;
     }
     count

@@ -1,4 +1,5 @@
 // Numbers and constraints on standard output.
+use crate::rows::Row;
 use integer::magnitude;
 
 pub fn text(s: &[u8]) {
@@ -15,12 +16,12 @@ pub fn number(z: i64) {
 }
 
 // The constant, and the coefficients of three variables
-pub fn row(name: &[u8], r: &[i64; 33]) {
+pub fn row(name: &[u8], r: Row) {
     text(name);
-    number(r[0]);
-    number(r[1]);
-    number(r[2]);
-    number(r[3]);
+    number(r.constant);
+    number(r.a);
+    number(r.b);
+    number(r.c);
     text(b"\n");
 }
 

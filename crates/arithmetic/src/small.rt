@@ -7,6 +7,8 @@ ghost use Prim.Native.Nat.{_^_};
 
 pub const MAX_COEFFICIENT: i64 = 1073741824;
 
+pub const MIN_COEFFICIENT: i64 = -1073741824;
+
 pub const MAX_BOUND: i64 = 16777216;
 
 // z, held to a coefficient's range
@@ -63,10 +65,6 @@ pub fn larger(a: i64, b: i64) -> i64 {
         return b;
     }
     a
-}
-
-pub fn is_positive(z: i64) -> bool {
-    0 < z
 }
 
 // A number below 2^30 as a signed one; 0 for any other.

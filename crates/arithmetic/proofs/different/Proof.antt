@@ -1,6 +1,5 @@
--- `arithmetic::different` meets its contract. Assumes nothing.
-use borrow.Author.Needs.{needs}
 use Prim.Native.Nat.{_≤_, _-_}
+use borrow.Author.Needs.{needs}
 use Rattle.arithmetic.proofs.different.Statement.{statement}
 use Rattle.arithmetic.proofs.different.Tie as tie
 
@@ -12,9 +11,6 @@ abbrev μ-loop : tie.MeasureT-loop
 
 loop-holds : tie.Need-loop-holds Inv-loop μ-loop
 loop-holds c = search needs
-
-numbers-requires : tie.Need-numbers-requires Inv-loop μ-loop
-numbers-requires c κs = search needs
 
 agrees-requires : tie.Need-agrees-requires Inv-loop μ-loop
 agrees-requires c κs = search needs
@@ -44,7 +40,6 @@ different-spec =
     Inv-loop
     μ-loop
     loop-holds
-    numbers-requires
     agrees-requires
     tally-requires
     after-requires

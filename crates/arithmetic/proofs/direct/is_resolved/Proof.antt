@@ -1,6 +1,5 @@
--- `arithmetic::direct::is_resolved` meets its contract. Assumes nothing.
-use borrow.Author.Needs.{needs}
 use Prim.Native.Nat.{_≤_, _-_}
+use borrow.Author.Needs.{needs}
 use Rattle.arithmetic.proofs.direct.is_resolved.Statement.{statement}
 use Rattle.arithmetic.proofs.direct.is_resolved.Tie as tie
 
@@ -12,6 +11,9 @@ abbrev μ-loop : tie.MeasureT-loop
 
 loop-holds : tie.Need-loop-holds Inv-loop μ-loop
 loop-holds c = search needs
+
+point-requires : tie.Need-point-requires Inv-loop μ-loop
+point-requires c κs = search needs
 
 is-resolved-at-requires : tie.Need-is-resolved-at-requires Inv-loop μ-loop
 is-resolved-at-requires c κs = search needs
@@ -38,6 +40,7 @@ is-resolved-spec =
     Inv-loop
     μ-loop
     loop-holds
+    point-requires
     is-resolved-at-requires
     returns
     add-k

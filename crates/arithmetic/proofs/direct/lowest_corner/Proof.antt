@@ -1,6 +1,5 @@
--- `arithmetic::direct::lowest_corner` meets its contract. Assumes nothing.
-use borrow.Author.Needs.{needs}
 use Prim.Native.Nat.{_≤_, _-_}
+use borrow.Author.Needs.{needs}
 use Rattle.arithmetic.proofs.direct.lowest_corner.Statement.{statement}
 use Rattle.arithmetic.proofs.direct.lowest_corner.Tie as tie
 
@@ -10,14 +9,17 @@ Inv-loop row lower upper best₀ k₀ best k = k ≤ 8
 abbrev μ-loop : tie.MeasureT-loop
 μ-loop row lower upper best₀ k₀ best k = 8 - k
 
-corner-requires : tie.Need-corner-requires Inv-loop μ-loop
-corner-requires c κs = search needs
+value-requires : tie.Need-value-requires Inv-loop μ-loop
+value-requires c κs = search needs
 
 loop-holds : tie.Need-loop-holds Inv-loop μ-loop
 loop-holds c = search needs
 
-corner-requires-2 : tie.Need-corner-requires-2 Inv-loop μ-loop
-corner-requires-2 c κs = search needs
+corner-requires : tie.Need-corner-requires Inv-loop μ-loop
+corner-requires c κs = search needs
+
+value-requires-2 : tie.Need-value-requires-2 Inv-loop μ-loop
+value-requires-2 c κs = search needs
 
 lesser-requires : tie.Need-lesser-requires Inv-loop μ-loop
 lesser-requires c κs = search needs
@@ -40,9 +42,10 @@ lowest-corner-spec =
     (tie.spec
     Inv-loop
     μ-loop
-    corner-requires
+    value-requires
     loop-holds
-    corner-requires-2
+    corner-requires
+    value-requires-2
     lesser-requires
     add-k
     loop-less

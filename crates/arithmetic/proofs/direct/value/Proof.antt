@@ -1,17 +1,10 @@
--- `arithmetic::direct::value` meets its contract. Assumes nothing.
 use borrow.Author.Needs.{needs}
 use Rattle.integer.specs.Automatic.{exps, fits!, within! }
 use Rattle.arithmetic.proofs.direct.value.Statement.{statement}
 use Rattle.arithmetic.proofs.direct.value.Tie as tie
 
-element-copy-out-coefficient : tie.Need-element-copy-out-coefficient
-element-copy-out-coefficient c = search needs
-
 coefficient-requires : tie.Need-coefficient-requires
 coefficient-requires c κs = search needs
-
-element-copy-out-product : tie.Need-element-copy-out-product
-element-copy-out-product c = search needs
 
 product-requires : tie.Need-product-requires
 product-requires c κs = search needs
@@ -19,17 +12,11 @@ product-requires c κs = search needs
 add-result : tie.Need-add-result
 add-result c = fits! (search exps depth 10) tt
 
-element-copy-out-product-2 : tie.Need-element-copy-out-product-2
-element-copy-out-product-2 c = search needs
-
 product-requires-2 : tie.Need-product-requires-2
 product-requires-2 c κs = search needs
 
 add-result-2 : tie.Need-add-result-2
 add-result-2 c = fits! (search exps depth 12) tt
-
-element-copy-out-product-3 : tie.Need-element-copy-out-product-3
-element-copy-out-product-3 c = search needs
 
 product-requires-3 : tie.Need-product-requires-3
 product-requires-3 c κs = search needs
@@ -44,15 +31,11 @@ pub value-spec : {M : Type 1} → statement M
 value-spec =
     tie.close
     (tie.spec
-    element-copy-out-coefficient
     coefficient-requires
-    element-copy-out-product
     product-requires
     add-result
-    element-copy-out-product-2
     product-requires-2
     add-result-2
-    element-copy-out-product-3
     product-requires-3
     add-result-3
     returns)

@@ -1,14 +1,13 @@
--- `arithmetic::random::after` meets its contract. Assumes nothing.
-use borrow.Author.Needs.{needs}
 use Prim.Native.Nat.{_≤_, _-_}
+use borrow.Author.Needs.{needs}
 use Rattle.arithmetic.proofs.random.after.Statement.{statement}
 use Rattle.arithmetic.proofs.random.after.Tie as tie
 
 abbrev Inv-loop : tie.InvT-loop
-Inv-loop state s₀ i₀ s i = i ≤ 16
+Inv-loop state steps s₀ i₀ s i = i ≤ steps
 
 abbrev μ-loop : tie.MeasureT-loop
-μ-loop state s₀ i₀ s i = 16 - i
+μ-loop state steps s₀ i₀ s i = steps - i
 
 loop-holds : tie.Need-loop-holds Inv-loop μ-loop
 loop-holds c = search needs

@@ -1,12 +1,12 @@
--- `arithmetic::calls::rounded` meets its contract. Assumes nothing.
+-- `arithmetic::calls::rounded_cells` meets its contract. Assumes nothing.
 use borrow.Author.Needs.{needs}
 use mathlib.Core.Path.{refl}
 use lib.Dec.{lit≤}
 use Rattle.linear.proofs.Sizes.{range-sized}
 use Rattle.linear.proofs.Tests.{said-yes}
 use Rattle.arithmetic.proofs.Bounds.{sized-combined}
-use Rattle.arithmetic.proofs.calls.rounded.Statement.{statement}
-use Rattle.arithmetic.proofs.calls.rounded.Tie as tie
+use Rattle.arithmetic.proofs.calls.rounded_cells.Statement.{statement}
+use Rattle.arithmetic.proofs.calls.rounded_cells.Tie as tie
 
 slice-aggregate-is-in-range : tie.Need-slice-aggregate-is-in-range
 slice-aggregate-is-in-range c = search needs
@@ -23,7 +23,7 @@ round-requires c κs = (lit≤ tt, sized-combined (range-sized _ (said-yes (c .b
 returns-2 : tie.Need-returns-2
 returns-2 c = search needs
 
-pub rounded-spec : {M : Type 1} → statement M
-rounded-spec =
+pub rounded-cells-spec : {M : Type 1} → statement M
+rounded-cells-spec =
     tie.close
     (tie.spec slice-aggregate-is-in-range is-in-range-requires returns round-requires returns-2)

@@ -1,9 +1,9 @@
--- `arithmetic::calls::falsified` meets its contract. Assumes nothing.
+-- `arithmetic::calls::falsified_over` meets its contract. Assumes nothing.
 use borrow.Author.Needs.{needs}
 use mathlib.Core.Path.{refl}
 use Rattle.linear.proofs.Tests.{said-yes}
-use Rattle.arithmetic.proofs.calls.falsified.Statement.{statement}
-use Rattle.arithmetic.proofs.calls.falsified.Tie as tie
+use Rattle.arithmetic.proofs.calls.falsified_over.Statement.{statement}
+use Rattle.arithmetic.proofs.calls.falsified_over.Tie as tie
 
 is-measurable-requires : tie.Need-is-measurable-requires
 is-measurable-requires c κs = search needs
@@ -17,6 +17,6 @@ is-falsified-requires c κs = c .before .is-measurable .ensures (said-yes refl r
 returns-2 : tie.Need-returns-2
 returns-2 c = search needs
 
-pub falsified-spec : {M : Type 1} → statement M
-falsified-spec =
+pub falsified-over-spec : {M : Type 1} → statement M
+falsified-over-spec =
     tie.close (tie.spec is-measurable-requires returns is-falsified-requires returns-2)

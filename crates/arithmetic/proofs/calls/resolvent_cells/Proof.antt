@@ -1,4 +1,4 @@
--- `arithmetic::calls::resolvent` meets its contract. Assumes nothing.
+-- `arithmetic::calls::resolvent_cells` meets its contract. Assumes nothing.
 use borrow.Author.Needs.{needs}
 use Prim.Native.Nat.{_+_, _<_}
 use native.Mathlib.Omega.{arith}
@@ -9,8 +9,8 @@ use Rattle.model.specs.Constraint.{opposite}
 use Rattle.layout.proofs.Rows.{coefficient-at}
 use Rattle.layout.proofs.Elements.{cell-read}
 use Rattle.linear.proofs.Tests.{said-yes}
-use Rattle.arithmetic.proofs.calls.resolvent.Statement.{statement}
-use Rattle.arithmetic.proofs.calls.resolvent.Tie as tie
+use Rattle.arithmetic.proofs.calls.resolvent_cells.Statement.{statement}
+use Rattle.arithmetic.proofs.calls.resolvent_cells.Tie as tie
 
 returns : tie.Need-returns
 returns c = search needs
@@ -71,8 +71,8 @@ resolve-requires c κs =
 returns-5 : tie.Need-returns-5
 returns-5 c = search needs
 
-pub resolvent-spec : {M : Type 1} → statement M
-resolvent-spec =
+pub resolvent-cells-spec : {M : Type 1} → statement M
+resolvent-cells-spec =
     tie.close
     (tie.spec
     returns

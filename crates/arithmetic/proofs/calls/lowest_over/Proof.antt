@@ -1,9 +1,9 @@
--- `arithmetic::calls::lowest` meets its contract. Assumes nothing.
+-- `arithmetic::calls::lowest_over` meets its contract. Assumes nothing.
 use borrow.Author.Needs.{needs}
 use mathlib.Core.Path.{refl}
 use Rattle.linear.proofs.Tests.{said-yes}
-use Rattle.arithmetic.proofs.calls.lowest.Statement.{statement}
-use Rattle.arithmetic.proofs.calls.lowest.Tie as tie
+use Rattle.arithmetic.proofs.calls.lowest_over.Statement.{statement}
+use Rattle.arithmetic.proofs.calls.lowest_over.Tie as tie
 
 is-measurable-requires : tie.Need-is-measurable-requires
 is-measurable-requires c κs = search needs
@@ -17,5 +17,5 @@ min-activity-requires c κs = c .before .is-measurable .ensures (said-yes refl r
 returns-2 : tie.Need-returns-2
 returns-2 c = search needs
 
-pub lowest-spec : {M : Type 1} → statement M
-lowest-spec = tie.close (tie.spec is-measurable-requires returns min-activity-requires returns-2)
+pub lowest-over-spec : {M : Type 1} → statement M
+lowest-over-spec = tie.close (tie.spec is-measurable-requires returns min-activity-requires returns-2)
