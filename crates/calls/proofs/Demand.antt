@@ -17,7 +17,7 @@ use Rattle.model.specs.Demand.{stateAfter, answerAt, journal, verdictWith, Deci
 use Rattle.problem.specs.declared.Answer.{Answer}
 use Rattle.problem.specs.declared.Answer.the-variants.{Done, Truncated, BadChecksum, BadMagic, SizeRange, DomainRange, CoefficientRange, NonzeroPadding, ShortBuffer, InvalidSearch}
 use Rattle.problem.specs.Answer.{number}
-use Rattle.problem.specs.View.{zeros}
+use Rattle.fields.specs.Fields.{zeros}
 use Rattle.state.specs.View.{view}
 use Rattle.state.specs.declared.Search.{Search}
 use Rattle.validity.proofs.Steps.{impossible}

@@ -10,7 +10,7 @@ use Rattle.model.specs.File.{problemIn}
 use Rattle.model.specs.Search.{openFile}
 use Rattle.model.specs.Points.{Point, points, Solution, First}
 use Rattle.model.specs.Demand.{Accepted, SameSolutions, MeetsCuts, withBudget}
-use Rattle.problem.specs.View.{zeros}
+use Rattle.fields.specs.Fields.{room, zeros}
 use Rattle.problem.specs.declared.Answer.the-variants.{Done}
 use Rattle.state.specs.declared.Search.{Search}
 use Rattle.search.specs.Opening.{seenOpened, opening}
@@ -65,7 +65,7 @@ pub record Turn (p : Problem) (q : Ran) (last : ℕ) (rs : List Stepped) (r : St
 -- 'none' exactly when there is no solution, else the first solution, zeros past its values
 pub record Decided (p : Problem) (q : Ran) : Type 0 where
   pub none-iff : (q .verdict ≡ verdict.NoSolution) ↔ ((x : Point) → Solution p x → ⊥)
-  pub else-first : ¬ (q .verdict ≡ verdict.NoSolution) → (q .verdict ≡ verdict.Solution) × (x : Point) × (q .values ≡ x ++ zeros (32 - length x)) × First p x
+  pub else-first : ¬ (q .verdict ≡ verdict.NoSolution) → (q .verdict ≡ verdict.Solution) × (x : Point) × (q .values ≡ x ++ zeros (room - length x)) × First p x
 
 -- of all turns and the run from one opening
 pub record Opening (f : List ℕ) (o : Opened) (q : Ran) : Type 0 where

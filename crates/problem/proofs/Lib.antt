@@ -1,6 +1,5 @@
 -- Laws of the groups of functions, and the two round trips.
 pub mod Ranges
-pub mod FileTests
 pub mod Arrays
 pub mod Views
 pub mod ReadCascade

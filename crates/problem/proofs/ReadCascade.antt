@@ -15,7 +15,7 @@ use Rattle.problem.specs.declared.Answer.the-variants.{Done, Truncated, 
 use Rattle.problem.specs.declared.Problem.{Problem}
 use Rattle.problem.specs.declared.Reading.{Reading}
 use Rattle.problem.specs.Answer.{answers, answerOf}
-use Rattle.problem.specs.Fields.{sizesMatch, Blocks}
+use Rattle.fields.specs.Fields.{sizesMatch, Blocks}
 use Rattle.problem.specs.View.{problemOf, packed, empty, readingOf}
 use Rattle.problem.proofs.Views.{view-of-file}
 

@@ -19,7 +19,8 @@ use Rattle.lists.proofs.Bools.{true-of}
 use Rattle.lists.proofs.Tab.{getD-tab, tab-is}
 use Rattle.format.proofs.AcceptedShape.{Sizes, sizes, tests, problem-shaped}
 use Rattle.layout.specs.Rows.{rowLength, numberIn, cell, constraintAt, rowAt, boundsAt, boxOf}
-use Rattle.problem.specs.View.{room, cells, problemOf, inRow, inRows, packed}
+use Rattle.fields.specs.Fields.{room, cells, inRow}
+use Rattle.problem.specs.View.{problemOf, inRows, packed}
 
 -- ---- the domain
 module _ (box : Box) (few : length box ≤ room) where

@@ -17,8 +17,8 @@ use Rattle.layout.specs.Rows.{rowAt}
 use Rattle.problem.specs.declared.Answer.the-variants.{Done, SizeRange, DomainRange, CoefficientRange, ShortBuffer}
 use Rattle.problem.specs.declared.Problem.{Problem}
 use Rattle.problem.specs.Answer.{number, written}
-use Rattle.problem.specs.Fields.{Writable}
-use Rattle.problem.specs.Sizes.{SizesTest}
+use Rattle.problem.specs.Writable.{Writable}
+use Rattle.fields.specs.Sizes.{SizesTest}
 use Rattle.problem.specs.View.{problemOf}
 use Rattle.problem.proofs.ReadCascade.{pass, fail}
 

@@ -29,25 +29,12 @@ use Rattle.layout.specs.Rows.{rowLength, numberIn, cell, constraintAt, rowAt, b
 use Rattle.block.proofs.Placing.{then, none-placed, more-placed, part-placed}
 use Rattle.block.proofs.Sealing.{sealed-content}
 use Rattle.block.specs.Placed.{Placed, cleared}
+use Rattle.fields.proofs.Writing.{within-back, moved}
 use Rattle.problem.specs.declared.Problem.{Problem}
 use Rattle.problem.specs.View.{problemOf}
-use Rattle.problem.proofs.FileTests.{magicNumber, magic-bytes}
-use Rattle.problem.proofs.Ranges.{boundsTest, domain-is, cellTest, constraint-is, rowTest, constraints-are}
+use Rattle.problem.proofs.Ranges.{boundsTest, domain-is, rowTest, constraints-are}
 
--- a number that passed its test has room in 32 bits, as the machine reads it back
-within-back : (b : ℕ) (z : ℤ) → b ≤ 2 ^ 30 → SFits w64 z → within b z ≡ true → Within (2 ^ 31) (toZ w64 (ofZ w64 z))
-within-back b z l f e = rw (toZ-ofZ f) (record { within = omega (arith, within-natAbs b z e) })
-
--- a field's place, said otherwise
-moved : {s b t : List ℕ} {i j : ℕ} (i′ j′ : ℕ) → i ≡ i′ → j ≡ j′ → Placed s i j b t → Placed s i′ j′ b t
-moved i′ j′ e h p = record { width = omega (arith, p .width); whole = p .whole ∙ rw (e, h) }
-
--- ---- the head: the letters and the sizes
-pub sizes-placed : {s t u v w : List ℕ} (n m b : ℕ) → Placed s 0 4 (u32Bytes magicNumber) t → Placed t 4 6 (u16Bytes n) u → Placed u 6 8 (u16Bytes m) v → Placed v 8 12 (u32Bytes b) w →
-    Placed s 0 12 (magic ++ (u16Bytes n ++ (u16Bytes m ++ u32Bytes b))) w
-sizes-placed n m b p q r o = rw (← magic-bytes) (then p (then q (then r o)))
-
--- the bounds
+-- ---- the bounds
 module _ (p : Problem) (i : ℕ) (l : i < p .n) where
   bounds-pass : domainInRange (problemOf p) ≡ true → (within maxBound (getD (p .lower) i (pos 0)) ≡ true) × (within maxBound (getD (p .upper) i (pos 0)) ≡ true)
   unfolding boundsInRange all boundsAt numberIn
@@ -89,46 +76,6 @@ unfolding headBytes problemOf variables
 head-sealed p l e x y f =
     rw (length-box (p .n) (p .lower) (p .upper), length-tab (rowAt (p .n) (p .constraints)) 0 (p .m))
     (sealed-content 0 f (simp append-assoc at (then x y)) (omega arith) e)
-
--- ---- a constraint
-module _ (n : ℕ) (rows : List ℤ) (start : ℕ) where
-  pub constant-room : inRange (constraintAt n rows start) ≡ true → SFits w64 (getD rows start (pos 0)) → Within (2 ^ 31) (toZ w64 (ofZ w64 (getD rows start (pos 0))))
-  constant-room r f =
-      within-back maxCoefficient _ (omega arith) f (and-true _ (all (tab (cellTest rows start) 0 n)) (sym (constraint-is n rows start) ∙ r) .0)
-
-  module _ (i : ℕ) (l : i < n) where
-    pub coefficient-room : inRange (constraintAt n rows start) ≡ true → SFits w64 (getD rows (start + 1 + i) (pos 0)) → Within (2 ^ 31) (toZ w64 (ofZ w64 (getD rows (start + 1 + i) (pos 0))))
-    unfolding cell numberIn
-    coefficient-room r f =
-        let c = within maxCoefficient (getD rows start (pos 0)) in
-        within-back maxCoefficient _ (omega arith) f (all-at (cellTest rows start) n i (and-true c _ (sym (constraint-is n rows start) ∙ r) .1) l)
-
-    coefficient-bytes : coefficientBytes (constraintAt n rows start) i ≡ i32Bytes (getD rows (start + 1 + i) (pos 0))
-    unfolding coefficientBytes cell numberIn
-    coefficient-bytes = ap i32Bytes (coefficient-at n rows start i l)
-
-    pub coefficients-more : {s t u : List ℕ} (a : ℕ) → a ≡ 4 * (i + 1) → SFits w64 (getD rows (start + 1 + i) (pos 0)) →
-        Placed s 4 (4 + 4 * i) (parts (coefficientBytes (constraintAt n rows start)) 0 i) t →
-        Placed t a (a + 4) (i32Bytes (toZ w64 (ofZ w64 (getD rows (start + 1 + i) (pos 0))))) u →
-        Placed s 4 (4 + 4 * (i + 1)) (parts (coefficientBytes (constraintAt n rows start)) 0 (i + 1)) u
-    coefficients-more {s} {t} {u} a e f x y =
-        let next : Placed t (4 + 4 * i) (4 + 4 * (i + 1)) (i32Bytes (getD rows (start + 1 + i) (pos 0))) u =
-        rw (toZ-ofZ f) at (moved (4 + 4 * i) (4 + 4 * (i + 1)) (omega arith) (omega arith) y) in
-        more-placed (coefficientBytes (constraintAt n rows start)) i x (rw coefficient-bytes next)
-
-  pub numbers-end : {s t u : List ℕ} (i a : ℕ) → n ≤ i → i ≤ n → a ≡ 4 * 0 → SFits w64 (getD rows start (pos 0)) →
-      Placed s a (a + 4) (i32Bytes (toZ w64 (ofZ w64 (getD rows start (pos 0))))) t →
-      Placed t 4 (4 + 4 * i) (parts (coefficientBytes (constraintAt n rows start)) 0 i) u →
-      Placed s 0 (4 + 4 * n) (constraintBytes n (constraintAt n rows start)) u
-  unfolding constraintBytes constraintAt numberIn
-  numbers-end {s} {t} {u} i a l h e f x y =
-      let z : i ≡ n = omega arith in
-      let first : Placed s 0 4 (i32Bytes (getD rows start (pos 0))) t = rw (toZ-ofZ f) at (moved 0 4 (omega arith) (omega arith) x) in
-      then first (rw z at y)
-
-  pub constraint-sealed : {y s t : List ℕ} (k : ℕ) → n ≤ maxVariables → y ≡ cleared → Placed y 0 (4 + 4 * n) (constraintBytes n (constraintAt n rows start)) s →
-      t ≡ sealed k (take checkOffset s) → t ≡ sealed k (constraintBytes n (constraintAt n rows start))
-  constraint-sealed k l e x f = sealed-content k f x (omega arith) e
 
 -- ---- the file
 placed-length : {s b t : List ℕ} {i j : ℕ} → j ≤ length s → Placed s i j b t → length t ≡ length s

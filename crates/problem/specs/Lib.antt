@@ -1,5 +1,4 @@
--- What the contracts of `problem` cite: document 01's number of each answer, what a problem's arrays say, and the fields of a file.
+-- What the contracts of `problem` cite: document 01's number of each answer, and what a problem's arrays say.
 pub mod Answer
 pub mod View
-pub mod Sizes
-pub mod Fields
+pub mod Writable

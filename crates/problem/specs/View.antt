@@ -1,25 +1,19 @@
 -- What the arrays of a problem say, and the arrays of a problem: the code's `Problem` beside the model's.
-use Prim.Native.Nat.{ℕ, zero, suc, _/_, _%_}
+use Prim.Native.Nat.{ℕ, _/_, _%_}
 use mathlib.Core.List.{List}
-use lib.IntN.{ℤ, pos}
-use lib.ListN.{getD, length, replicate}
-use Rattle.model.specs.Constraint.{Constraint, coefficientAt, lowerAt, upperAt}
+use lib.IntN.{ℤ}
+use lib.ListN.{getD, length}
+use Rattle.model.specs.Constraint.{Constraint, lowerAt, upperAt}
 use Rattle.model.specs.File.{noConstraint}
 use Rattle.model.specs.Lists.{tab}
 use Rattle.model.specs.Problem as model
 use Rattle.model.specs.Problem.{variables, Result, ok, error}
 use Rattle.layout.specs.Rows.{rowLength, rowAt, boxOf}
+use Rattle.fields.specs.Fields.{room, cells, zeros, inRow}
 use Rattle.problem.specs.declared.Answer.the-variants.{Done}
 use Rattle.problem.specs.declared.Problem.{Problem}
 use Rattle.problem.specs.declared.Reading.{Reading}
 use Rattle.problem.specs.Answer.{answerOf}
-
--- the variables that the arrays have room for, and the numbers of their rows
-abbrev pub room : ℕ
-room = 32
-
-abbrev pub cells : ℕ
-cells = 2112
 
 -- What a problem's arrays say. Its n and m stay visible as lengths, whatever they are.
 unfoldable pub problemOf : Problem → model.Problem
@@ -31,11 +25,6 @@ problemOf p =
     }
 
 -- ---- and the arrays of a problem: zeros past its last variable and its last constraint
--- number i of a row
-unfoldable pub inRow : Constraint → ℕ → ℤ
-inRow k zero = k .constant
-inRow k (suc i) = coefficientAt k i
-
 unfoldable pub inRows : List Constraint → ℕ → ℤ
 inRows ks c = inRow (getD ks (c / rowLength) noConstraint) (c % rowLength)
 
@@ -51,9 +40,6 @@ packed p =
     }
 
 -- ---- what reading gives
-unfoldable pub zeros : ℕ → List ℤ
-zeros n = replicate n (pos 0)
-
 -- what an error shows of the problem
 unfoldable pub empty : Problem
 empty = record { n = 0; m = 0; budget = 0; lower = zeros room; upper = zeros room; constraints = zeros cells }

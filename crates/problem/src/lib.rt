@@ -1,9 +1,14 @@
 // Reading and writing problem files, document 01's 'plan files'.
-mod offsets;
 mod range;
 mod reader;
 mod writer;
 
+use fields::range::sizes_in_range;
+use fields::reader::checks_match;
+use fields::reader::is_whole;
+use fields::reader::magic_matches;
+use fields::reader::padding_zero;
+use fields::reader::sizes_match;
 ghost use mathlib.Core.Path.{_≡_};
 ghost use Rattle.model.specs.File.{readFile, writeFile};
 ghost use Rattle.problem.specs.Answer.{written};
@@ -63,16 +68,16 @@ fn refused(answer: Answer) -> Reading
 pub fn read(file: &[u8]) -> Reading
     ensures { λ r. ⌜ r ≡ readingOf (readFile (now (file .entry))) ⌝ }
 {
-    if !reader::is_whole(file) {
+    if !is_whole(file) {
         return refused(Answer::Truncated);
     }
-    if !reader::checks_match(file) {
+    if !checks_match(file) {
         return refused(Answer::BadChecksum);
     }
-    if !reader::magic_matches(file) {
+    if !magic_matches(file) {
         return refused(Answer::BadMagic);
     }
-    if !reader::sizes_match(file) {
+    if !sizes_match(file) {
         return refused(Answer::SizeRange);
     }
     let found = reader::problem_in(file);
@@ -82,7 +87,7 @@ pub fn read(file: &[u8]) -> Reading
     if !range::constraints_in_range(found) {
         return refused(Answer::CoefficientRange);
     }
-    if !reader::padding_zero(file) {
+    if !padding_zero(file) {
         return refused(Answer::NonzeroPadding);
     }
     Reading {
@@ -96,7 +101,7 @@ pub fn write(problem: Problem, buffer: &mut [u8]) -> Answer
     ensures { λ r. ⌜ written r (now (buffer .exit)) ≡ writeFile (problemOf problem) (now (buffer .entry)) ⌝ }
 {
     let m = problem.m;
-    if !range::sizes_in_range(problem.n, m, problem.budget) {
+    if !sizes_in_range(problem.n, m, problem.budget) {
         return Answer::SizeRange;
     }
     if !range::domain_in_range(problem) {

@@ -1,64 +1,13 @@
-// The ranges of document 01, tested on the numbers of a problem: its errors 4 to 6, for reading and for writing.
+// The ranges of document 01, tested on a problem: its errors 5 and 6, for reading and for writing.
 use crate::Problem;
-use crate::offsets;
+use fields::offsets;
+use fields::range::bounds_in_range;
+use fields::range::constraint_in_range;
 ghost use mathlib.Core.Path.{_≡_};
-ghost use Prim.Native.Nat.{_+_, _*_, _<_, _≤_};
-ghost use lib.ListN.{length};
-ghost use Rattle.model.specs.Ranges.{within, maxVariables, maxConstraints};
-ghost use Rattle.model.specs.Constraint.{inRange};
-ghost use Rattle.model.specs.Problem.{boundsInRange, domainInRange, constraintsInRange};
-ghost use Rattle.layout.specs.Rows.{constraintAt};
-ghost use Rattle.problem.specs.View.{cells, problemOf};
-ghost use Rattle.problem.specs.Sizes.{SizesTest};
-
-const MAX_VARIABLES: usize = 32;
-
-const MAX_CONSTRAINTS: usize = 64;
-
-const MAX_BUDGET: usize = 1_000_000_000;
-
-const MAX_BOUND: u32 = 1_048_576;
-
-const MAX_COEFFICIENT: u32 = 1_073_741_824;
-
-// 4, 'size': whether n, m and the budget are within their limits.
-pub(crate) fn sizes_in_range(n: usize, m: usize, budget: usize) -> bool
-    ensures { λ r. ⌜ SizesTest n m budget r ⌝ }
-{
-    if n < 1 {
-        return false;
-    }
-    if MAX_VARIABLES < n {
-        return false;
-    }
-    if MAX_CONSTRAINTS < m {
-        return false;
-    }
-    budget <= MAX_BUDGET
-}
-
-// Whether a number is from −limit to limit.
-fn is_within(limit: u32, number: i64) -> bool
-    ensures { λ r. ⌜ r ≡ within limit number ⌝ }
-{
-    let most = limit as i64;
-    if number < -most {
-        return false;
-    }
-    number <= most
-}
-
-fn bounds_in_range(lower: i64, upper: i64) -> bool
-    ensures { λ r. ⌜ r ≡ boundsInRange (record { lower = lower; upper = upper }) ⌝ }
-{
-    if !is_within(MAX_BOUND, lower) {
-        return false;
-    }
-    if !is_within(MAX_BOUND, upper) {
-        return false;
-    }
-    lower <= upper
-}
+ghost use Prim.Native.Nat.{_≤_};
+ghost use Rattle.model.specs.Ranges.{maxVariables, maxConstraints};
+ghost use Rattle.model.specs.Problem.{domainInRange, constraintsInRange};
+ghost use Rattle.problem.specs.View.{problemOf};
 
 // 5, 'limits': whether every variable's bounds are in range, the lower not above the upper.
 pub(crate) fn domain_in_range(problem: Problem) -> bool
@@ -69,24 +18,6 @@ pub(crate) fn domain_in_range(problem: Problem) -> bool
     let mut i: usize = 0;
     while i < n {
         if !bounds_in_range(problem.lower[i], problem.upper[i]) {
-            return false;
-        }
-        i += 1;
-    }
-    true
-}
-
-// Whether the constant and the coefficients of the constraint whose row starts at `start` are in range.
-fn constraint_in_range(n: usize, rows: &[i64], start: usize) -> bool
-    requires { ⌜ (n ≤ maxVariables) × (start + 1 + n ≤ length (now rows)) ⌝ }
-    ensures { λ r. ⌜ r ≡ inRange (constraintAt n (now (rows .entry)) start) ⌝ }
-{
-    if !is_within(MAX_COEFFICIENT, rows[start]) {
-        return false;
-    }
-    let mut i: usize = 0;
-    while i < n {
-        if !is_within(MAX_COEFFICIENT, rows[start + 1 + i]) {
             return false;
         }
         i += 1;

@@ -19,8 +19,7 @@ use Rattle.model.specs.Validity.{valid}
 use Rattle.layout.specs.Rows.{numberIn, boundsAt, boxOf}
 use Rattle.lists.proofs.Bools.{T-of}
 use Rattle.lists.proofs.Tab.{length-tab, tab-map}
-use Rattle.problem.specs.Fields.{filled}
-use Rattle.problem.specs.View.{zeros}
+use Rattle.fields.specs.Fields.{zeros, filled}
 use Rattle.state.specs.View.{noLevel, levelOf, levelAt, coreWith, coreOf, view}
 use Rattle.state.specs.declared.Level.{Level}
 use Rattle.state.specs.declared.Search.{Search}

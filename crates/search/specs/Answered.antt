@@ -3,8 +3,7 @@ use mathlib.Core.List.{List}
 use lib.IntN.{ℤ}
 use lib.ListN.{getD}
 use Rattle.layout.specs.Rows.{numberIn}
-use Rattle.problem.specs.Fields.{filled}
-use Rattle.problem.specs.View.{zeros}
+use Rattle.fields.specs.Fields.{room, zeros, filled}
 use Rattle.state.specs.View.{noLevel}
 use Rattle.state.specs.declared.Search.{Search}
 use Rattle.turns.specs.declared.Advanced.{Advanced}
@@ -23,17 +22,17 @@ caseOf ending.Solution = Solution
 
 -- the lower bounds of the deepest level where it is a solution
 unfoldable pub valuesAt : Ending → Search → List ℤ
-valuesAt ending.GoOn s = zeros 32
-valuesAt ending.NoSolution s = zeros 32
-valuesAt ending.OutOfBudget s = zeros 32
-valuesAt ending.Solution s = filled (numberIn (getD (s .levels) (s .depth) noLevel .lower)) (s .n) 32
+valuesAt ending.GoOn s = zeros room
+valuesAt ending.NoSolution s = zeros room
+valuesAt ending.OutOfBudget s = zeros room
+valuesAt ending.Solution s = filled (numberIn (getD (s .levels) (s .depth) noLevel .lower)) (s .n) room
 
 unfoldable pub answered : Advanced → Traced
 answered a =
     record { verdict = caseOf (a .ending); values = valuesAt (a .ending) (a .state); count = a .state .conflicts; blocks = a .blocks; state = a .state }
 
 unfoldable pub refusal : Search → Traced
-refusal s = record { verdict = Invalid; values = zeros 32; count = 0; blocks = 0; state = s }
+refusal s = record { verdict = Invalid; values = zeros room; count = 0; blocks = 0; state = s }
 
 -- a run's answer: that of a trace, without its blocks
 unfoldable pub ranOf : Traced → Ran

@@ -6,7 +6,7 @@ use lib.ListN.{replicate}
 use Rattle.model.specs.Problem.{Result, ok, error}
 use Rattle.model.specs.Search as model
 use Rattle.problem.specs.Answer.{number}
-use Rattle.problem.specs.View.{zeros}
+use Rattle.fields.specs.Fields.{zeros}
 use Rattle.state.specs.View.{view}
 use Rattle.state.specs.declared.Level.{Level}
 use Rattle.state.specs.declared.Search.{Search}

@@ -10,7 +10,7 @@ use Rattle.model.specs.Problem.{Result, ok, error}
 use Rattle.model.specs.Search as model
 use Rattle.model.specs.Step.{Verdict as ModelVerdict, Outcome, goOn, noSolution, outOfBudget, solution, stepCall, runCall}
 use Rattle.model.specs.Trace.{Trace, lastTurn, traceCall}
-use Rattle.problem.specs.View.{zeros}
+use Rattle.fields.specs.Fields.{room, zeros}
 use Rattle.state.specs.View.{view}
 use Rattle.state.specs.declared.Search.{Search}
 use Rattle.search.specs.declared.Verdict.{Verdict}
@@ -71,10 +71,10 @@ seenRan r = seenTraced (record { verdict = r .verdict; values = r .values; count
 -- ---- what document 01's answer shows
 -- the array of 32 numbers: the values, and zeros past them or where there are none
 unfoldable pub valuesOf : ModelVerdict → List ℤ
-valuesOf goOn = zeros 32
-valuesOf noSolution = zeros 32
-valuesOf outOfBudget = zeros 32
-valuesOf (solution v) = v ++ zeros (32 - length v)
+valuesOf goOn = zeros room
+valuesOf noSolution = zeros room
+valuesOf outOfBudget = zeros room
+valuesOf (solution v) = v ++ zeros (room - length v)
 
 -- a block that is not given: zeros
 unfoldable pub noBlock : List ℕ
@@ -97,7 +97,7 @@ shown given (ok t) bytes =
       refused = none;
     }
 shown given (error e) bytes =
-    record { verdict = error e; values = zeros 32; count = 0; blocks = 0; bytes = bytes; state = view given; refused = some given }
+    record { verdict = error e; values = zeros room; count = 0; blocks = 0; bytes = bytes; state = view given; refused = some given }
 
 unfoldable pub turn : Result Outcome → Result Trace
 turn (ok o) = ok (lastTurn o)

@@ -14,7 +14,7 @@ ghost use mathlib.Core.Path.{_≡_};
 ghost use lib.ListN.{length};
 ghost use Rattle.model.specs.Bytes.{blockLength};
 ghost use Rattle.layout.specs.Rows.{numberIn};
-ghost use Rattle.problem.specs.Fields.{filled};
+ghost use Rattle.fields.specs.Fields.{filled};
 ghost use Rattle.state.specs.View.{view};
 ghost use Rattle.turns.specs.Advancing.{Advances};
 ghost use Rattle.validity.proofs.Steps.{Valid};

@@ -1,5 +1,6 @@
 use borrow.Author.Needs.{needs}
-use Rattle.problem.specs.View.{zeros, empty}
+use Rattle.fields.specs.Fields.{zeros}
+use Rattle.problem.specs.View.{empty}
 use Rattle.problem.proofs.refused.Statement.{statement}
 use Rattle.problem.proofs.refused.Tie as tie
 

@@ -1,6 +1,6 @@
 -- `search::answers::blank` meets its contract. Assumes nothing.
 use mathlib.Core.Path.{refl}
-use Rattle.problem.specs.View.{zeros}
+use Rattle.fields.specs.Fields.{zeros}
 use Rattle.search.specs.Opening.{blankLevel, blank}
 use Rattle.search.proofs.answers.blank.Statement.{statement}
 use Rattle.search.proofs.answers.blank.Tie as tie

@@ -4,9 +4,8 @@ use native.Mathlib.Omega.{arith}
 use mathlib.Core.Path.{_≡_, refl}
 use borrow.Author.Needs.{sfits-of, needs}
 use Rattle.layout.specs.Rows.{numberIn}
-use Rattle.problem.specs.Fields.{filled}
-use Rattle.problem.specs.View.{zeros}
-use Rattle.problem.proofs.Arrays.{filled-none, filled-more, filled-end}
+use Rattle.fields.specs.Fields.{zeros, filled}
+use Rattle.fields.proofs.Arrays.{filled-none, filled-more, filled-end}
 use Rattle.search.proofs.answers.lowers.Statement.{statement}
 use Rattle.search.proofs.answers.lowers.Tie as tie
 

@@ -1,6 +1,6 @@
 -- `search::answers::refused` meets its contract. Assumes nothing.
 use mathlib.Core.Path.{refl}
-use Rattle.problem.specs.View.{zeros}
+use Rattle.fields.specs.Fields.{zeros}
 use Rattle.search.specs.Answered.{refusal}
 use Rattle.search.proofs.answers.refused.Statement.{statement}
 use Rattle.search.proofs.answers.refused.Tie as tie

@@ -1,0 +1,116 @@
+use Prim.Native.Nat.{_-_, _≤_}
+use mathlib.Core.Bool.{true}
+use mathlib.Core.Path.{_≡_}
+use borrow.Author.Needs.{needs}
+use Rattle.model.specs.File.{constraintPadded}
+use Rattle.model.specs.Lists.{tab, all}
+use Rattle.lists.proofs.All.{all-none}
+use Rattle.fields.proofs.FileTests.{head-stray, padding-end, padding-more, padding-stray}
+use Rattle.fields.proofs.reader.padding_zero.Statement.{statement}
+use Rattle.fields.proofs.reader.padding_zero.Tie as tie
+
+-- The head and the constraints before j have no stray byte.
+abbrev Inv-loop : tie.InvT-loop
+Inv-loop file n m j₀ j = (j ≤ m) × (all (tab (constraintPadded file) 0 j) ≡ true)
+
+abbrev μ-loop : tie.MeasureT-loop
+μ-loop file n m j₀ j = m - j
+
+variables-in-requires : tie.Need-variables-in-requires Inv-loop μ-loop
+variables-in-requires c κs = search needs
+
+constraints-in-requires : tie.Need-constraints-in-requires Inv-loop μ-loop
+constraints-in-requires c κs = search needs
+
+sub-is-zero-from : tie.Need-sub-is-zero-from Inv-loop μ-loop
+sub-is-zero-from c = search needs
+
+part-is-zero-from-start : tie.Need-part-is-zero-from-start Inv-loop μ-loop
+part-is-zero-from-start c = search needs
+
+part-is-zero-from-end : tie.Need-part-is-zero-from-end Inv-loop μ-loop
+part-is-zero-from-end c = search needs
+
+bounds-offset-requires : tie.Need-bounds-offset-requires Inv-loop μ-loop
+bounds-offset-requires c κs = search needs
+
+is-zero-from-requires : tie.Need-is-zero-from-requires Inv-loop μ-loop
+is-zero-from-requires c κs = search needs
+
+returns : tie.Need-returns Inv-loop μ-loop
+returns c = search (needs, head-stray)
+
+loop-holds : tie.Need-loop-holds Inv-loop μ-loop
+loop-holds c = search (needs, all-none)
+
+add-start : tie.Need-add-start Inv-loop μ-loop
+add-start c = search needs
+
+mul-start : tie.Need-mul-start Inv-loop μ-loop
+mul-start c = search needs
+
+add-end : tie.Need-add-end Inv-loop μ-loop
+add-end c = search needs
+
+sub-is-zero-from-2 : tie.Need-sub-is-zero-from-2 Inv-loop μ-loop
+sub-is-zero-from-2 c = search needs
+
+part-is-zero-from-start-2 : tie.Need-part-is-zero-from-start-2 Inv-loop μ-loop
+part-is-zero-from-start-2 c = search needs
+
+part-is-zero-from-end-2 : tie.Need-part-is-zero-from-end-2 Inv-loop μ-loop
+part-is-zero-from-end-2 c = search needs
+
+add-number-offset : tie.Need-add-number-offset Inv-loop μ-loop
+add-number-offset c = search needs
+
+number-offset-requires : tie.Need-number-offset-requires Inv-loop μ-loop
+number-offset-requires c κs = search needs
+
+is-zero-from-requires-2 : tie.Need-is-zero-from-requires-2 Inv-loop μ-loop
+is-zero-from-requires-2 c κs = search needs
+
+returns-2 : tie.Need-returns-2 Inv-loop μ-loop
+returns-2 c = search (needs, padding-stray)
+
+add-j : tie.Need-add-j Inv-loop μ-loop
+add-j c = search needs
+
+loop-less : tie.Need-loop-less Inv-loop μ-loop
+loop-less c = search needs
+
+loop-again : tie.Need-loop-again Inv-loop μ-loop
+loop-again c = search (needs, padding-more)
+
+returns-3 : tie.Need-returns-3 Inv-loop μ-loop
+returns-3 c = search (needs, padding-end)
+
+pub padding-zero-spec : {M : Type 1} → statement M
+padding-zero-spec =
+    tie.close
+    (tie.spec
+    Inv-loop
+    μ-loop
+    variables-in-requires
+    constraints-in-requires
+    sub-is-zero-from
+    part-is-zero-from-start
+    part-is-zero-from-end
+    bounds-offset-requires
+    is-zero-from-requires
+    returns
+    loop-holds
+    add-start
+    mul-start
+    add-end
+    sub-is-zero-from-2
+    part-is-zero-from-start-2
+    part-is-zero-from-end-2
+    add-number-offset
+    number-offset-requires
+    is-zero-from-requires-2
+    returns-2
+    add-j
+    loop-less
+    loop-again
+    returns-3)

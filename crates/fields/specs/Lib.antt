@@ -1,0 +1,3 @@
+-- What the contracts of `fields` cite.
+pub mod Sizes
+pub mod Fields

@@ -1,0 +1,41 @@
+// Where the fields of a file stand, document 01's 'plan file': one description for reading and for writing.
+ghost use mathlib.Core.Path.{_≡_};
+ghost use Prim.Native.Nat.{_*_, _≤_};
+ghost use Rattle.model.specs.Ranges.{maxVariables};
+ghost use Rattle.model.specs.File.{boundsOffset};
+ghost use Rattle.layout.specs.Rows.{rowLength};
+
+// The letters BLUE, as a number of four bytes at the head's start.
+pub const MAGIC: usize = 0x4555_4C42;
+
+pub const MAGIC_OFFSET: usize = 0;
+
+// 'n', 'm' and 'B' in the head.
+pub const VARIABLES_OFFSET: usize = 4;
+
+pub const CONSTRAINTS_OFFSET: usize = 6;
+
+pub const BUDGET_OFFSET: usize = 8;
+
+// The lower bound of variable i in the head; its upper bound stands UPPER bytes further.
+pub const LOWER: usize = 0;
+
+pub const UPPER: usize = 4;
+
+pub fn bounds_offset(i: usize) -> usize
+    requires { ⌜ i ≤ maxVariables ⌝ }
+    ensures { λ r. ⌜ (r ≡ boundsOffset i) × (r ≤ 268) ⌝ }
+{
+    12 + 8 * i
+}
+
+// The numbers of a constraint: its constant, then a coefficient for each of 32 variables.
+pub const ROW_LENGTH: usize = 33;
+
+// Number i of a constraint in its block: the constant, then the coefficients.
+pub fn number_offset(i: usize) -> usize
+    requires { ⌜ i ≤ rowLength ⌝ }
+    ensures { λ r. ⌜ r ≡ 4 * i ⌝ }
+{
+    4 * i
+}

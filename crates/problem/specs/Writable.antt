@@ -1,0 +1,17 @@
+-- What is known of a problem that is written.
+use Prim.Native.Nat.{ℕ, suc, _*_, _≤_}
+use mathlib.Core.Bool.{true}
+use mathlib.Core.Path.{_≡_}
+use Rattle.model.specs.Bytes.{blockLength}
+use Rattle.model.specs.Problem.{domainInRange, constraintsInRange}
+use Rattle.model.specs.Ranges.{maxVariables, maxConstraints}
+use Rattle.problem.specs.declared.Problem.{Problem}
+use Rattle.problem.specs.View.{problemOf}
+
+-- nothing is wrong with the problem, and there is room for its blocks
+pub record Writable (p : Problem) (space : ℕ) : Type 0 where
+  pub few-variables : p .n ≤ maxVariables
+  pub few-constraints : p .m ≤ maxConstraints
+  pub bounded : domainInRange (problemOf p) ≡ true
+  pub light : constraintsInRange (problemOf p) ≡ true
+  pub long : blockLength * suc (p .m) ≤ space
