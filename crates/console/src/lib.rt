@@ -1,0 +1,119 @@
+// What the programs do with the bytes of a problem file: print its verdict, or write its journal.
+use libc::STDOUT_FILENO;
+use problem::Answer;
+use search::Verdict;
+use state::Search;
+ghost use Rattle.io.specs.Counts.{Counts};
+
+mod text;
+
+pub use text::print_ending;
+
+// One byte more than the longest input. Of a longer one this many bytes are read, which is no whole number of blocks: so it counts as truncated.
+pub const INPUT_LENGTH: usize = 65537;
+
+// More turns than any budget has conflicts: a turn that does not end the search counts one.
+pub const MAX_TURNS: usize = 2_000_000_000;
+
+// How many journal blocks a call of `trace` may give, and their bytes.
+const BLOCKS: usize = 256;
+
+const BLOCKS_LENGTH: usize = BLOCKS * block::LENGTH;
+
+// How many bytes of text are gathered before they are written.
+const TEXT_LENGTH: usize = 65536;
+
+// An error's number in document 01's table, 0 where there is none.
+pub fn error_number(answer: Answer) -> usize {
+    match answer {
+        Answer::Done => 0,
+        Answer::Truncated => 1,
+        Answer::BadChecksum => 2,
+        Answer::BadMagic => 3,
+        Answer::SizeRange => 4,
+        Answer::DomainRange => 5,
+        Answer::CoefficientRange => 6,
+        Answer::NonzeroPadding => 7,
+        Answer::ShortBuffer => 8,
+        Answer::InvalidSearch => 9,
+    }
+}
+
+// Whether turns are left to take.
+pub fn goes_on(verdict: Verdict) -> bool {
+    match verdict {
+        Verdict::GoOn => true,
+        _ => false,
+    }
+}
+
+// How many bytes the first blocks of a buffer have. `trace` gives no more blocks than the buffer holds.
+fn blocks_end(buffer: &[u8], blocks: usize) -> usize
+    ensures { λ r. ⌜ Counts r (now (buffer .entry)) ⌝ }
+{
+    if buffer.len() / block::LENGTH < blocks {
+        return buffer.len();
+    }
+    blocks * block::LENGTH
+}
+
+// Runs an opened search to its verdict and prints it, with a line for each conflict on the way.
+fn print_search(opened: Search) {
+    let n = opened.n;
+    let m = opened.m;
+    let budget = opened.budget;
+    let mut s = opened;
+    let mut blocks = [0u8; BLOCKS_LENGTH];
+    let mut out = [0u8; TEXT_LENGTH];
+    let mut at = report::plan_line(&mut out, 0, n, m, budget);
+    let mut calls: usize = 0;
+    while calls < MAX_TURNS {
+        let traced = search::trace(s, &mut blocks);
+        let end = blocks_end(&blocks, traced.blocks);
+        at = text::put_ends(&mut out, at, &blocks[..end]);
+        let verdict = traced.verdict;
+        if !goes_on(verdict) {
+            let values = traced.values;
+            text::finish(&mut out, at, verdict, &values, n, traced.count);
+            return;
+        }
+        s = traced.state;
+        calls += 1;
+    }
+}
+
+// Prints the verdict of a file, document 01's 'Writer and program'.
+pub fn print_verdict(file: &[u8]) {
+    let opened = search::open(file);
+    let answer = opened.answer;
+    let error = error_number(answer);
+    if error != 0 {
+        text::print_refused(error);
+        return;
+    }
+    let state = opened.state;
+    print_search(state);
+}
+
+// Writes the journal of a file to standard output; that of a file with an error is empty.
+pub fn write_journal(file: &[u8]) {
+    let opened = search::open(file);
+    let answer = opened.answer;
+    if error_number(answer) != 0 {
+        return;
+    }
+    let mut s = opened.state;
+    let mut blocks = [0u8; BLOCKS_LENGTH];
+    let mut calls: usize = 0;
+    while calls < MAX_TURNS {
+        let traced = search::trace(s, &mut blocks);
+        let end = blocks_end(&blocks, traced.blocks);
+        io::write_all(STDOUT_FILENO, &blocks[..end]);
+        let verdict = traced.verdict;
+        if !goes_on(verdict) {
+            return;
+        }
+        s = traced.state;
+        calls += 1;
+    }
+}
