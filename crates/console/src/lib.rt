@@ -1,6 +1,5 @@
 // What the programs do with the bytes of a problem file: print its verdict, or write its journal.
 use libc::STDOUT_FILENO;
-use problem::Answer;
 use search::Verdict;
 use state::Search;
 ghost use Rattle.io.specs.Counts.{Counts};
@@ -22,22 +21,6 @@ const BLOCKS_LENGTH: usize = BLOCKS * block::LENGTH;
 
 // How many bytes of text are gathered before they are written.
 const TEXT_LENGTH: usize = 65536;
-
-// An error's number in document 01's table, 0 where there is none.
-pub fn error_number(answer: Answer) -> usize {
-    match answer {
-        Answer::Done => 0,
-        Answer::Truncated => 1,
-        Answer::BadChecksum => 2,
-        Answer::BadMagic => 3,
-        Answer::SizeRange => 4,
-        Answer::DomainRange => 5,
-        Answer::CoefficientRange => 6,
-        Answer::NonzeroPadding => 7,
-        Answer::ShortBuffer => 8,
-        Answer::InvalidSearch => 9,
-    }
-}
 
 // Whether turns are left to take.
 pub fn goes_on(verdict: Verdict) -> bool {
@@ -86,7 +69,7 @@ fn print_search(opened: Search) {
 pub fn print_verdict(file: &[u8]) {
     let opened = search::open(file);
     let answer = opened.answer;
-    let error = error_number(answer);
+    let error = problem::error_number(answer);
     if error != 0 {
         text::print_refused(error);
         return;
@@ -99,7 +82,7 @@ pub fn print_verdict(file: &[u8]) {
 pub fn write_journal(file: &[u8]) {
     let opened = search::open(file);
     let answer = opened.answer;
-    if error_number(answer) != 0 {
+    if problem::error_number(answer) != 0 {
         return;
     }
     let mut s = opened.state;

@@ -33,7 +33,7 @@ fn is_empty(problem: Problem) -> bool {
 fn read(label: &[u8], file: &[u8]) {
     let reading = problem::read(file);
     let answer = reading.answer;
-    let number = print::number(answer);
+    let number = problem::error_number(answer);
     let problem = reading.problem;
     print::show(b"read ", label, number, b"");
     if number != 0 {
@@ -64,7 +64,7 @@ fn read_back(label: &[u8], problem: Problem, file: &[u8]) {
     let reading = problem::read(file);
     let answer = reading.answer;
     let back = reading.problem;
-    if print::number(answer) != 0 {
+    if problem::error_number(answer) != 0 {
         print::fail(label);
         return;
     }
@@ -77,7 +77,7 @@ fn read_back(label: &[u8], problem: Problem, file: &[u8]) {
 fn written(problem: Problem, buffer: &mut [u8]) -> usize {
     compare::fill(buffer);
     let answer = problem::write(problem, buffer);
-    print::number(answer)
+    problem::error_number(answer)
 }
 
 // Prints the answer's number of a written problem, and whether all of the buffer but the file is kept. The file must be whole.
@@ -114,7 +114,7 @@ fn write_into(label: &[u8], problem: Problem, end: usize)
 fn file_trip(label: &[u8], problem: Problem, file: &[u8]) {
     let reading = problem::read(file);
     let answer = reading.answer;
-    let number = print::number(answer);
+    let number = problem::error_number(answer);
     let read = reading.problem;
     let same = compare::problems_agree(problem, read);
     print::expect(b"problem of a file, ", label, number, same);
@@ -126,7 +126,7 @@ fn file_trip(label: &[u8], problem: Problem, file: &[u8]) {
 fn trip_back(label: &[u8], problem: Problem, file: &[u8]) {
     let reading = problem::read(file);
     let answer = reading.answer;
-    let number = print::number(answer);
+    let number = problem::error_number(answer);
     let back = reading.problem;
     let same = compare::problems_agree(problem, back);
     print::expect(b"problem written and read, ", label, number, same);

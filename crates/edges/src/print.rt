@@ -1,6 +1,5 @@
 // What the program prints.
 use libc::STDOUT_FILENO;
-use problem::Answer;
 
 // A line: what was done, the case, a number and a note.
 pub(crate) fn show(verb: &[u8], label: &[u8], number: usize, note: &[u8]) {
@@ -26,20 +25,4 @@ pub(crate) fn expect(verb: &[u8], label: &[u8], number: usize, holds: bool) {
         return;
     }
     fail(label);
-}
-
-// Document 01's number of an answer.
-pub(crate) fn number(answer: Answer) -> usize {
-    match answer {
-        Answer::Done => 0,
-        Answer::Truncated => 1,
-        Answer::BadChecksum => 2,
-        Answer::BadMagic => 3,
-        Answer::SizeRange => 4,
-        Answer::DomainRange => 5,
-        Answer::CoefficientRange => 6,
-        Answer::NonzeroPadding => 7,
-        Answer::ShortBuffer => 8,
-        Answer::InvalidSearch => 9,
-    }
 }

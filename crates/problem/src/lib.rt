@@ -11,7 +11,7 @@ use fields::reader::padding_zero;
 use fields::reader::sizes_match;
 ghost use mathlib.Core.Path.{_≡_};
 ghost use Rattle.model.specs.File.{readFile, writeFile};
-ghost use Rattle.problem.specs.Answer.{written};
+ghost use Rattle.problem.specs.Answer.{number, written};
 ghost use Rattle.problem.specs.View.{problemOf, empty, readingOf};
 
 // A problem, document 01's 'plan'. Its constraints lie in 64 rows of 33 numbers: the constant, then a coefficient for each of 32 variables. What stands
@@ -41,6 +41,24 @@ pub enum Answer {
     NonzeroPadding,
     ShortBuffer,
     InvalidSearch,
+}
+
+// An answer's number in document 01's table, 0 where there is no error.
+pub fn error_number(answer: Answer) -> usize
+    ensures { λ r. ⌜ r ≡ number answer ⌝ }
+{
+    match answer {
+        Answer::Done => 0,
+        Answer::Truncated => 1,
+        Answer::BadChecksum => 2,
+        Answer::BadMagic => 3,
+        Answer::SizeRange => 4,
+        Answer::DomainRange => 5,
+        Answer::CoefficientRange => 6,
+        Answer::NonzeroPadding => 7,
+        Answer::ShortBuffer => 8,
+        Answer::InvalidSearch => 9,
+    }
 }
 
 // What reading gives: the problem, or an error and a problem of zeros.

@@ -51,7 +51,7 @@ fn print_file(file: &[u8]) {
     console::print_verdict(file);
     let opened = search::open(file);
     let answer = opened.answer;
-    if console::error_number(answer) != 0 {
+    if problem::error_number(answer) != 0 {
         return;
     }
     let state = opened.state;
