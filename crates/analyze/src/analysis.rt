@@ -3,8 +3,8 @@
 use crate::ROW;
 use crate::lookup::ABSENT;
 use crate::lookup::position_of;
+use compare::is_in_range;
 use linear::activity::is_falsified;
-use linear::compare::is_in_range;
 use linear::resolving::is_opposite;
 use linear::resolving::resolve;
 ghost use mathlib.Core.Bool.{true};

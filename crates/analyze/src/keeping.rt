@@ -1,7 +1,7 @@
 // Keeping a cut: 'input lines and the 64 newest cuts are kept', in the rows after the inputs, oldest first.
 use crate::MAX_CUTS;
 use crate::ROW;
-use linear::compare::is_equal;
+use compare::is_equal;
 ghost use mathlib.Core.Path.{_≡_};
 ghost use Prim.Native.Nat.{_+_, _*_, _≤_, _<_};
 ghost use lib.IntN.{pos};

@@ -12,7 +12,6 @@ use crate::command::Command;
 use crate::make;
 use problem::Problem;
 ghost use mathlib.Core.Path.{_≡_};
-ghost use Prim.Native.Nat.{_≤_};
 ghost use lib.ListN.{length};
 ghost use Rattle.edges.specs.Space.{space};
 

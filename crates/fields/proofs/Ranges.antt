@@ -1,26 +1,20 @@
 -- What the tests of the ranges say, in the model's words. The premises of a law are the facts that stand where the code returns.
 use Prim.Native.Nat.{ℕ, _+_, _<_, _≤_}
 use native.Mathlib.Omega.{arith}
-use mathlib.Core.Bool.{Bool, true, false, _&&_, not, and-true, and-false}
-use mathlib.Core.Path.{_≡_, sym, ap, _∙_}
-use mathlib.Core.List.{List}
+use mathlib.Core.Bool.{Bool, true, false, not, and-true}
+use mathlib.Core.Path.{_≡_, ap, _∙_}
 use lib.IntN.{ℤ, pos, negℤ, _-ℤ_, +ℤ-idl}
 use lib.Dec.{leb}
 use lib.Signed.{leZ, ltZ}
-use lib.ListN.{getD}
 use mir.Syntax.{w32, w64}
 use mir.Val.{Fits, SFits, toZ, ofZ}
 use mir.Facts.{toZ-ofZ, toZ-pos}
 use borrow.Author.Tests.{le-leb, lt-leb, not-true, not-false}
-use Rattle.model.specs.Constraint.{inRange}
-use Rattle.model.specs.Lists.{tab, all}
+use Rattle.model.specs.Lists.{all}
 use Rattle.model.specs.Problem.{sizesInRange, boundsInRange}
-use Rattle.model.specs.Ranges.{within, maxVariables, maxConstraints, maxBudget, maxBound, maxCoefficient}
+use Rattle.model.specs.Ranges.{within, maxVariables, maxConstraints, maxBudget, maxBound}
 use Rattle.integer.specs.Size.{fits, size, neg-within}
 use Rattle.integer.specs.Tests.{ltZ-true, ltZ-false, lt-leZ, le-leZ}
-use Rattle.lists.proofs.All.{all-more, all-end, all-fails}
-use Rattle.lists.proofs.AllOf.{allOf-tab}
-use Rattle.layout.specs.Rows.{numberIn, cell, constraintAt}
 use Rattle.fields.specs.Sizes.{SizesTest}
 
 -- ---- 4: the sizes
@@ -87,36 +81,3 @@ module _ (lower upper : ℤ) (f : SFits w64 lower) (r : Bool) (e : r ≡ within 
     pub in-order : not q ≡ false → leZ (toZ w64 (ofZ w64 lower)) (toZ w64 (ofZ w64 upper)) ≡ boundsInRange (record { lower = lower; upper = upper })
     unfolding boundsInRange all
     in-order k = rw (toZ-ofZ f, toZ-ofZ g, ← e′, ← d′, not-false r h, not-false q k, and-true (leZ lower upper))
-
--- ---- 6: the numbers of one constraint
-abbrev pub cellTest : List ℤ → ℕ → ℕ → Bool
-cellTest rows start i = within maxCoefficient (cell rows start i)
-
-pub constraint-is : (n : ℕ) (rows : List ℤ) (start : ℕ) → inRange (constraintAt n rows start) ≡ (within maxCoefficient (getD rows start (pos 0)) && all (tab (cellTest rows start) 0 n))
-unfolding inRange constraintAt numberIn
-constraint-is n rows start = rw (allOf-tab (within maxCoefficient) (cell rows start) 0 n)
-
-module _ (rows : List ℤ) (start i : ℕ) (f : SFits w64 (getD rows (start + 1 + i) (pos 0))) (q : Bool)
-    (d : q ≡ within maxCoefficient (toZ w64 (ofZ w64 (getD rows (start + 1 + i) (pos 0))))) where
-  cell-test : cellTest rows start i ≡ q
-  unfolding cell numberIn
-  cell-test = sym (rw (toZ-ofZ f) at d)
-
-  pub cells-more : all (tab (cellTest rows start) 0 i) ≡ true → not q ≡ false → all (tab (cellTest rows start) 0 (i + 1)) ≡ true
-  cells-more a h = all-more (cellTest rows start) i a (cell-test ∙ not-false q h)
-
-  pub cell-beyond : (n : ℕ) → i < n → not q ≡ true → false ≡ inRange (constraintAt n rows start)
-  cell-beyond n l h =
-      let c = within maxCoefficient (getD rows start (pos 0)) in
-      rw (constraint-is n rows start, all-fails (cellTest rows start) n i l (cell-test ∙ not-true q h)) (sym (and-false c))
-
-module _ (n : ℕ) (rows : List ℤ) (start : ℕ) (f : SFits w64 (getD rows start (pos 0))) (r : Bool)
-    (e : r ≡ within maxCoefficient (toZ w64 (ofZ w64 (getD rows start (pos 0))))) where
-  constant-test : within maxCoefficient (getD rows start (pos 0)) ≡ r
-  constant-test = sym (rw (toZ-ofZ f) at e)
-
-  pub constant-beyond : not r ≡ true → false ≡ inRange (constraintAt n rows start)
-  constant-beyond h = rw (constraint-is n rows start, constant-test, not-true r h)
-
-  pub constraint-end : (i : ℕ) → not r ≡ false → n ≤ i → i ≤ n → all (tab (cellTest rows start) 0 i) ≡ true → true ≡ inRange (constraintAt n rows start)
-  constraint-end i h l k a = rw (constraint-is n rows start, constant-test, not-false r h) (sym (all-end (cellTest rows start) n i l k a))

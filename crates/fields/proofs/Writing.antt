@@ -23,8 +23,8 @@ use Rattle.layout.specs.Rows.{numberIn, cell, constraintAt}
 use Rattle.block.proofs.Placing.{then, more-placed}
 use Rattle.block.proofs.Sealing.{sealed-content}
 use Rattle.block.specs.Placed.{Placed, cleared}
+use Rattle.compare.proofs.Tests.{smallAt, range-tests}
 use Rattle.fields.proofs.FileTests.{magicNumber, magic-bytes}
-use Rattle.fields.proofs.Ranges.{cellTest, constraint-is}
 
 -- a number that passed its test has room in 32 bits, as the machine reads it back
 pub within-back : (b : ℕ) (z : ℤ) → b ≤ 2 ^ 30 → SFits w64 z → within b z ≡ true → Within (2 ^ 31) (toZ w64 (ofZ w64 z))
@@ -42,15 +42,16 @@ sizes-placed n m b p q r o = rw (← magic-bytes) (then p (then q (then r o)))
 -- ---- a constraint
 module _ (n : ℕ) (rows : List ℤ) (start : ℕ) where
   pub constant-room : inRange (constraintAt n rows start) ≡ true → SFits w64 (getD rows start (pos 0)) → Within (2 ^ 31) (toZ w64 (ofZ w64 (getD rows start (pos 0))))
+  unfolding numberIn
   constant-room r f =
-      within-back maxCoefficient _ (omega arith) f (and-true _ (all (tab (cellTest rows start) 0 n)) (sym (constraint-is n rows start) ∙ r) .0)
+      within-back maxCoefficient _ (omega arith) f (and-true _ (all (tab (smallAt rows start) 0 n)) (sym (range-tests n rows start) ∙ r) .0)
 
   module _ (i : ℕ) (l : i < n) where
     pub coefficient-room : inRange (constraintAt n rows start) ≡ true → SFits w64 (getD rows (start + 1 + i) (pos 0)) → Within (2 ^ 31) (toZ w64 (ofZ w64 (getD rows (start + 1 + i) (pos 0))))
-    unfolding cell numberIn
+    unfolding smallAt cell numberIn
     coefficient-room r f =
-        let c = within maxCoefficient (getD rows start (pos 0)) in
-        within-back maxCoefficient _ (omega arith) f (all-at (cellTest rows start) n i (and-true c _ (sym (constraint-is n rows start) ∙ r) .1) l)
+        let c = within maxCoefficient (numberIn rows start) in
+        within-back maxCoefficient _ (omega arith) f (all-at (smallAt rows start) n i (and-true c _ (sym (range-tests n rows start) ∙ r) .1) l)
 
     coefficient-bytes : coefficientBytes (constraintAt n rows start) i ≡ i32Bytes (getD rows (start + 1 + i) (pos 0))
     unfolding coefficientBytes cell numberIn

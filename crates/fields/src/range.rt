@@ -1,11 +1,7 @@
-// The ranges of document 01, tested on numbers: the sizes, the bounds of one variable, and one constraint.
+// The ranges of document 01, tested on numbers: the sizes, and the bounds of one variable.
 ghost use mathlib.Core.Path.{_≡_};
-ghost use Prim.Native.Nat.{_+_, _≤_};
-ghost use lib.ListN.{length};
-ghost use Rattle.model.specs.Ranges.{within, maxVariables};
-ghost use Rattle.model.specs.Constraint.{inRange};
+ghost use Rattle.model.specs.Ranges.{within};
 ghost use Rattle.model.specs.Problem.{boundsInRange};
-ghost use Rattle.layout.specs.Rows.{constraintAt};
 ghost use Rattle.fields.specs.Sizes.{SizesTest};
 
 const MAX_VARIABLES: usize = 32;
@@ -15,8 +11,6 @@ const MAX_CONSTRAINTS: usize = 64;
 const MAX_BUDGET: usize = 1_000_000_000;
 
 const MAX_BOUND: u32 = 1_048_576;
-
-const MAX_COEFFICIENT: u32 = 1_073_741_824;
 
 // 4, 'size': whether n, m and the budget are within their limits.
 pub fn sizes_in_range(n: usize, m: usize, budget: usize) -> bool
@@ -55,22 +49,4 @@ pub fn bounds_in_range(lower: i64, upper: i64) -> bool
         return false;
     }
     lower <= upper
-}
-
-// Whether the constant and the coefficients of the constraint whose row starts at `start` are in range.
-pub fn constraint_in_range(n: usize, rows: &[i64], start: usize) -> bool
-    requires { ⌜ (n ≤ maxVariables) × (start + 1 + n ≤ length (now rows)) ⌝ }
-    ensures { λ r. ⌜ r ≡ inRange (constraintAt n (now (rows .entry)) start) ⌝ }
-{
-    if !is_within(MAX_COEFFICIENT, rows[start]) {
-        return false;
-    }
-    let mut i: usize = 0;
-    while i < n {
-        if !is_within(MAX_COEFFICIENT, rows[start + 1 + i]) {
-            return false;
-        }
-        i += 1;
-    }
-    true
 }

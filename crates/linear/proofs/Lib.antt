@@ -2,7 +2,6 @@
 pub mod Ranges
 pub mod Terms
 pub mod Implied
-pub mod Tests
 pub mod Sizes
 pub mod RoundingLaws
 pub mod ResolvingLaws

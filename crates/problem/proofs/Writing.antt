@@ -5,7 +5,7 @@ use native.Mathlib.Numerals.{add-one}
 use mathlib.Core.Bool.{true}
 use mathlib.Core.Path.{_≡_, refl, sym, ap, _∙_}
 use mathlib.Core.List.{List, _++_, append-assoc, append-nil}
-use lib.IntN.{ℤ, pos}
+use lib.IntN.{pos}
 use lib.ListN.{getD, take, drop, length, length-append, length-drop}
 use lib.Seq.{length-take-le}
 use mir.Syntax.{w64}
@@ -14,18 +14,17 @@ use mir.Facts.{toZ-ofZ}
 use borrow.Rule.Slice.PartMut.{putMid}
 use Rattle.model.specs.Bytes.{u16Bytes, u32Bytes, i32Bytes, blockLength, checkOffset, sealed}
 use Rattle.model.specs.Constraint.{inRange}
-use Rattle.model.specs.File.{magic, boundsOffset, boundsBytes, headBytes, coefficientBytes, constraintBytes, noConstraint, blockOf, fileOf, fileLength}
-use Rattle.model.specs.Lists.{tab, parts, all}
+use Rattle.model.specs.File.{magic, boundsOffset, boundsBytes, headBytes, constraintBytes, noConstraint, blockOf, fileOf, fileLength}
+use Rattle.model.specs.Lists.{parts, all}
 use Rattle.model.specs.Problem.{variables, boundsInRange, domainInRange, constraintsInRange}
-use Rattle.model.specs.Ranges.{within, maxVariables, maxBound, maxCoefficient}
+use Rattle.model.specs.Ranges.{within, maxVariables, maxBound}
 use Rattle.integer.specs.Size.{Within}
 use Rattle.lists.proofs.All.{all-at}
 use Rattle.lists.proofs.Bools.{and-true}
 use Rattle.lists.proofs.Parts.{parts-append}
 use Rattle.lists.proofs.Tab.{length-tab, getD-tab}
-use Rattle.format.proofs.Within.{within-natAbs}
-use Rattle.layout.proofs.Rows.{length-box, lower-at, upper-at, coefficient-at}
-use Rattle.layout.specs.Rows.{rowLength, numberIn, cell, constraintAt, rowAt, boundsAt}
+use Rattle.layout.proofs.Rows.{length-box, lower-at, upper-at}
+use Rattle.layout.specs.Rows.{rowLength, numberIn, constraintAt, rowAt, boundsAt}
 use Rattle.block.proofs.Placing.{then, none-placed, more-placed, part-placed}
 use Rattle.block.proofs.Sealing.{sealed-content}
 use Rattle.block.specs.Placed.{Placed, cleared}

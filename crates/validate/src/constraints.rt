@@ -19,7 +19,7 @@ pub fn are_constraints_valid(rows: &[i64], count: usize, n: usize) -> bool
 {
     let mut j: usize = 0;
     while j < count {
-        if !linear::compare::is_in_range(rows, ROW_LENGTH * j, n) {
+        if !compare::is_in_range(rows, ROW_LENGTH * j, n) {
             return false;
         }
         j += 1;

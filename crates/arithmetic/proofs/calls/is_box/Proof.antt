@@ -14,7 +14,7 @@ use Rattle.integer.specs.Size.{Within}
 use Rattle.lists.proofs.Bools.{clash}
 use Rattle.layout.specs.Rows.{numberIn}
 use Rattle.linear.specs.Ranges.{widestBound}
-use Rattle.linear.proofs.Tests.{said-yes}
+use Rattle.compare.proofs.Tests.{said-yes}
 use Rattle.arithmetic.proofs.Bounds.{bound-in}
 use Rattle.arithmetic.proofs.calls.is_box.Statement.{statement}
 use Rattle.arithmetic.proofs.calls.is_box.Tie as tie

@@ -5,7 +5,7 @@ use mathlib.Core.Path.{refl}
 use denote.Ref.{now}
 use Rattle.lists.proofs.Bools.{clash}
 use Rattle.linear.proofs.Ranges.{row-fits}
-use Rattle.linear.proofs.Tests.{said-yes}
+use Rattle.compare.proofs.Tests.{said-yes}
 use Rattle.arithmetic.proofs.calls.is_measurable.Statement.{statement}
 use Rattle.arithmetic.proofs.calls.is_measurable.Tie as tie
 

@@ -1,7 +1,7 @@
 -- `arithmetic::calls::lowest_over` meets its contract. Assumes nothing.
 use borrow.Author.Needs.{needs}
 use mathlib.Core.Path.{refl}
-use Rattle.linear.proofs.Tests.{said-yes}
+use Rattle.compare.proofs.Tests.{said-yes}
 use Rattle.arithmetic.proofs.calls.lowest_over.Statement.{statement}
 use Rattle.arithmetic.proofs.calls.lowest_over.Tie as tie
 

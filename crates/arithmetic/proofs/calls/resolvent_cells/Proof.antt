@@ -8,7 +8,7 @@ use lib.Dec.{lit≤}
 use Rattle.model.specs.Constraint.{opposite}
 use Rattle.layout.proofs.Rows.{coefficient-at}
 use Rattle.layout.proofs.Elements.{cell-read}
-use Rattle.linear.proofs.Tests.{said-yes}
+use Rattle.compare.proofs.Tests.{said-yes}
 use Rattle.arithmetic.proofs.calls.resolvent_cells.Statement.{statement}
 use Rattle.arithmetic.proofs.calls.resolvent_cells.Tie as tie
 

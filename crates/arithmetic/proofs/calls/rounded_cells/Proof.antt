@@ -3,7 +3,7 @@ use borrow.Author.Needs.{needs}
 use mathlib.Core.Path.{refl}
 use lib.Dec.{lit≤}
 use Rattle.linear.proofs.Sizes.{range-sized}
-use Rattle.linear.proofs.Tests.{said-yes}
+use Rattle.compare.proofs.Tests.{said-yes}
 use Rattle.arithmetic.proofs.Bounds.{sized-combined}
 use Rattle.arithmetic.proofs.calls.rounded_cells.Statement.{statement}
 use Rattle.arithmetic.proofs.calls.rounded_cells.Tie as tie

@@ -18,11 +18,11 @@ abbrev μ-loop : tie.MeasureT-loop
 loop-holds : tie.Need-loop-holds Inv-loop μ-loop
 loop-holds c = search (needs, all-none)
 
-mul-constraint-in-range : tie.Need-mul-constraint-in-range Inv-loop μ-loop
-mul-constraint-in-range c = search needs
+mul-is-in-range : tie.Need-mul-is-in-range Inv-loop μ-loop
+mul-is-in-range c = search needs
 
-constraint-in-range-requires : tie.Need-constraint-in-range-requires Inv-loop μ-loop
-constraint-in-range-requires c κs = search needs
+is-in-range-requires : tie.Need-is-in-range-requires Inv-loop μ-loop
+is-in-range-requires c κs = search needs
 
 returns : tie.Need-returns Inv-loop μ-loop
 returns c = search (needs, row-beyond)
@@ -46,8 +46,8 @@ constraints-in-range-spec =
     Inv-loop
     μ-loop
     loop-holds
-    mul-constraint-in-range
-    constraint-in-range-requires
+    mul-is-in-range
+    is-in-range-requires
     returns
     add-j
     loop-less

@@ -1,12 +1,12 @@
--- `linear::compare::is_small` meets its contract. Assumes nothing.
+-- `compare::is_small` meets its contract. Assumes nothing.
 use borrow.Author.Needs.{needs}
 use lib.IntN.{pos, negℤ}
 use lib.Signed.{_≤ℤ_, _<ℤ_}
 use mir.Facts.{toZ-ofZ}
 use Rattle.model.specs.Ranges.{within, maxCoefficient}
 use Rattle.integer.specs.Tests.{ltZ-true, ltZ-false, le-leZ, lt-leZ}
-use Rattle.linear.proofs.compare.is_small.Statement.{statement}
-use Rattle.linear.proofs.compare.is_small.Tie as tie
+use Rattle.compare.proofs.is_small.Statement.{statement}
+use Rattle.compare.proofs.is_small.Tie as tie
 
 sub-if1 : tie.Need-sub-if1
 sub-if1 c = search needs

@@ -45,7 +45,7 @@ unfoldable pub smallAt : List ℤ → ℕ → ℕ → Bool
 smallAt rows start i = within maxCoefficient (cell rows start i)
 
 module _ (n : ℕ) (rows : List ℤ) (start : ℕ) where
-  range-tests : inRange (constraintAt n rows start) ≡ (within maxCoefficient (numberIn rows start) && all (tab (smallAt rows start) 0 n))
+  pub range-tests : inRange (constraintAt n rows start) ≡ (within maxCoefficient (numberIn rows start) && all (tab (smallAt rows start) 0 n))
   unfolding inRange constraintAt smallAt
   range-tests = rw (allOf-tab (within maxCoefficient) (cell rows start) 0 n)
 

@@ -1,4 +1,4 @@
--- `linear::compare::is_equal` meets its contract: the constants and the coefficients below k are the same. Assumes nothing.
+-- `compare::is_equal` meets its contract: the constants and the coefficients below k are the same. Assumes nothing.
 use Prim.Native.Nat.{_≤_, _-_}
 use native.Mathlib.Omega.{arith}
 use mathlib.Core.Bool.{true, false}
@@ -10,9 +10,9 @@ use Rattle.model.specs.Lists.{tab, all}
 use Rattle.model.specs.Constraint.{equalℤ}
 use Rattle.lists.proofs.All.{all-none, all-more}
 use Rattle.layout.specs.Rows.{numberIn, cell}
-use Rattle.linear.proofs.Tests.{said-no, said-yes, sameAt, differ-first, differ-at, all-same}
-use Rattle.linear.proofs.compare.is_equal.Statement.{statement}
-use Rattle.linear.proofs.compare.is_equal.Tie as tie
+use Rattle.compare.proofs.Tests.{said-no, said-yes, sameAt, differ-first, differ-at, all-same}
+use Rattle.compare.proofs.is_equal.Statement.{statement}
+use Rattle.compare.proofs.is_equal.Tie as tie
 
 abbrev Inv-loop : tie.InvT-loop
 Inv-loop a at b bt n k₀ k =

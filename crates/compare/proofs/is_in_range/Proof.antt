@@ -1,4 +1,4 @@
--- `linear::compare::is_in_range` meets its contract: the constant and the coefficients below i have passed. Assumes nothing.
+-- `compare::is_in_range` meets its contract: the constant and the coefficients below i have passed. Assumes nothing.
 use Prim.Native.Nat.{_≤_, _-_}
 use native.Mathlib.Omega.{arith}
 use mathlib.Core.Bool.{true, false}
@@ -10,9 +10,9 @@ use Rattle.model.specs.Ranges.{within, maxCoefficient}
 use Rattle.model.specs.Lists.{tab, all}
 use Rattle.lists.proofs.All.{all-none, all-more}
 use Rattle.layout.specs.Rows.{numberIn, cell}
-use Rattle.linear.proofs.Tests.{said-no, said-yes, smallAt, out-first, out-at, all-in}
-use Rattle.linear.proofs.compare.is_in_range.Statement.{statement}
-use Rattle.linear.proofs.compare.is_in_range.Tie as tie
+use Rattle.compare.proofs.Tests.{said-no, said-yes, smallAt, out-first, out-at, all-in}
+use Rattle.compare.proofs.is_in_range.Statement.{statement}
+use Rattle.compare.proofs.is_in_range.Tie as tie
 
 abbrev Inv-loop : tie.InvT-loop
 Inv-loop rows start n i₀ i =

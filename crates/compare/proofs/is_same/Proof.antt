@@ -1,12 +1,12 @@
--- `linear::compare::is_same` meets its contract. Assumes nothing.
+-- `compare::is_same` meets its contract. Assumes nothing.
 use mathlib.Core.Path.{ap, sym, _∙_}
 use mir.Syntax.{w64}
 use mir.Val.{ofZ}
 use Rattle.model.specs.Constraint.{equalℤ}
 use Rattle.integer.specs.Tests.{same}
-use Rattle.linear.proofs.Tests.{equal-refl, equal-not}
-use Rattle.linear.proofs.compare.is_same.Statement.{statement}
-use Rattle.linear.proofs.compare.is_same.Tie as tie
+use Rattle.compare.proofs.Tests.{equal-refl, equal-not}
+use Rattle.compare.proofs.is_same.Statement.{statement}
+use Rattle.compare.proofs.is_same.Tie as tie
 
 returns : tie.Need-returns
 returns c =
