@@ -14,13 +14,13 @@ pub const INPUT_LENGTH: usize = 65537;
 // More turns than any budget has conflicts: a turn that does not end the search counts one.
 pub const MAX_TURNS: usize = 2_000_000_000;
 
-// How many journal blocks a call of `trace` may give, and their bytes.
-const BLOCKS: usize = 256;
+// How many journal blocks a call of `trace` may give, and their bytes: enough that the call's own cost does not show, few enough to touch little memory.
+const BLOCKS: usize = 128;
 
 const BLOCKS_LENGTH: usize = BLOCKS * block::LENGTH;
 
 // How many bytes of text are gathered before they are written.
-const TEXT_LENGTH: usize = 65536;
+const TEXT_LENGTH: usize = 16384;
 
 // Whether turns are left to take.
 pub fn goes_on(verdict: Verdict) -> bool {

@@ -7,7 +7,7 @@ use Rattle.console.proofs.print_search.Tie as tie
 
 abbrev Inv-loop : tie.InvT-loop
 Inv-loop n m budget s₀ blocks₀ out₀ at₀ calls₀ s blocks out at calls =
-    (calls ≤ 2000000000) × (length blocks ≡ 131072) × (length out ≡ 65536) × (at ≤ 65536)
+    (calls ≤ 2000000000) × (length blocks ≡ 65536) × (length out ≡ 16384) × (at ≤ 16384)
 
 abbrev μ-loop : tie.MeasureT-loop
 μ-loop n m budget s₀ blocks₀ out₀ at₀ calls₀ s blocks out at calls = 2000000000 - calls

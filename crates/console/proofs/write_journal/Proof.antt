@@ -6,7 +6,7 @@ use Rattle.console.proofs.write_journal.Statement.{statement}
 use Rattle.console.proofs.write_journal.Tie as tie
 
 abbrev Inv-loop : tie.InvT-loop
-Inv-loop file s₀ blocks₀ calls₀ s blocks calls = (calls ≤ 2000000000) × (length blocks ≡ 131072)
+Inv-loop file s₀ blocks₀ calls₀ s blocks calls = (calls ≤ 2000000000) × (length blocks ≡ 65536)
 
 abbrev μ-loop : tie.MeasureT-loop
 μ-loop file s₀ blocks₀ calls₀ s blocks calls = 2000000000 - calls
