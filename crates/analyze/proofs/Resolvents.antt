@@ -1,10 +1,8 @@
--- Analysis on the code's arrays: a row copied, F combined with a constraint, with a reason, and the loop over the variables.
-use Prim.Native.Nat.{ℕ, zero, suc, _+_, _-_, _≤_, _<_}
+-- Analysis on the code's arrays: F combined with a constraint, with a reason, and the loop over the variables.
+use Prim.Native.Nat.{ℕ, suc, _+_, _-_, _≤_, _<_}
 use native.Mathlib.Omega.{arith}
-use native.Mathlib.Nat.{eq-or-lt-of-le}
 use mathlib.Core.Bool.{true, false}
 use mathlib.Core.List.{List, _∷_}
-use mathlib.Core.Logic.{⊎-elim}
 use mathlib.Core.Path.{_≡_, refl, sym, ap, _∙_, subst}
 use borrow.Author.Tests.{ltb-true}
 use lib.IntN.{ℤ, pos, negsuc}
@@ -14,51 +12,17 @@ use lib.Seq.{getD-set-same, getD-set-other}
 use Rattle.model.specs.Lists.{tab}
 use Rattle.model.specs.Ranges.{maxVariables}
 use Rattle.model.specs.Constraint.{Constraint, Box, coefficientAt, falsified, resolvent, opposite, inRange}
-use Rattle.model.specs.File.{noConstraint}
 use Rattle.model.specs.Search.{noReasons, Level, Core, reasonsAt}
 use Rattle.model.specs.Conflict.{Resolved, unchanged, takeIf, resolveWith, resolveKept, usedReason, resolveAt, analyzeFrom, analyze}
 use Rattle.lists.proofs.Bools.{true-of, clash}
-use Rattle.lists.proofs.AllOf.{allOf-getD}
-use Rattle.lists.proofs.Tab.{length-tab, getD-tab, tab-ext, tab-end, tab-down}
-use Rattle.layout.specs.Rows.{rowLength, numberIn, constraintAt, rowAt, boxOf}
+use Rattle.lists.proofs.Loops.{every-at}
+use Rattle.lists.proofs.Tab.{getD-tab, tab-ext, tab-end, tab-down, getD-const}
+use Rattle.layout.specs.Rows.{rowLength, constraintAt, rowAt, boxOf}
+use Rattle.rows.specs.Rows.{Copied}
 use Rattle.state.specs.View.{reasonOf, reasonsIn, keptCuts, coreWith}
 use Rattle.analyze.specs.Position.{absent, constraintIn, PositionOf}
-use Rattle.analyze.specs.Analyzed.{Copied, Analyzable, Resolving, coreAt, analysisOf, Analyzed}
-use Rattle.analyze.proofs.Storing.{row-same}
+use Rattle.analyze.specs.Analyzed.{Analyzable, Resolving, coreAt, analysisOf, Analyzed}
 use Rattle.analyze.proofs.Positions.{reason-resolves, at-present, at-absent}
-
--- ---- a row copied: the first i numbers
-pub record Copying (rows : List ℤ) (start i : ℕ) (row : List ℤ) : Type 0 where
-  pub size : length row ≡ rowLength
-  pub same : (k : ℕ) → k < i → getD row k (pos 0) ≡ getD rows (start + k) (pos 0)
-  pub rest : (k : ℕ) → i ≤ k → getD row k (pos 0) ≡ pos 0
-
-zeros : (n k : ℕ) → getD (replicate n (pos 0)) k (pos 0) ≡ pos 0
-zeros zero k = refl
-zeros (suc n) zero = refl
-zeros (suc n) (suc k) = zeros n k
-
-pub copy-none : (rows : List ℤ) (start : ℕ) → Copying rows start 0 (replicate rowLength (pos 0))
-copy-none rows start = record { size = refl; same = λ k h. absurd (omega arith); rest = λ k h. zeros rowLength k }
-
-pub copy-more : (rows : List ℤ) (start i : ℕ) (row : List ℤ) (v : ℤ) → i < rowLength → v ≡ getD rows (start + i) (pos 0) → Copying rows start i row → Copying rows start (i + 1) (set row i v)
-copy-more rows start i row v h e c =
-    record {
-      size = length-set row i v ∙ c .size;
-      same = λ k l.
-          ⊎-elim (λ (z : k ≡ i). rw z (getD-set-same row i v (pos 0) (omega (arith, c .size)) ∙ e))
-          (λ (t : k < i). getD-set-other row i k v (pos 0) (λ z. omega arith) ∙ c .same k t) (eq-or-lt-of-le {n = k} {m = i} (omega arith));
-      rest = λ k l. getD-set-other row i k v (pos 0) (λ z. omega arith) ∙ c .rest k (omega arith);
-    }
-
-pub copied : (n : ℕ) (rows : List ℤ) (start : ℕ) (row : List ℤ) → Copying rows start (n + 1) row → Copied n rows start row
-unfolding numberIn
-copied n rows start row c =
-    record {
-      size = c .size;
-      same = row-same n row rows 0 start (λ k h. ap (λ (i : ℕ). getD row i (pos 0)) (omega arith) ∙ c .same k (omega arith));
-      rest = λ i h. c .rest i (omega arith);
-    }
 
 -- ---- F combined with J, constraint number k: signs alike, the outcome out of range, the outcome not falsified, the outcome taken
 module _ (box : Box) (i : ℕ) (f : Constraint) (k : ℕ) (j : Constraint) where
@@ -89,10 +53,7 @@ unfolding keptCuts
 position-most a h = omega (arith, a .inputs)
 
 pub kept-range : (n m made : ℕ) (rows lower upper : List ℤ) (j : ℕ) → Analyzable n m made rows lower upper → j < m + keptCuts made → inRange (rowAt n rows j) ≡ true
-kept-range n m made rows lower upper j a h =
-    let count = m + keptCuts made in
-    rw (getD-tab (rowAt n rows) count j noConstraint h) at
-    (allOf-getD inRange (tab (rowAt n rows) 0 count) j noConstraint (true-of _ (a .rows-range)) (rw (length-tab (rowAt n rows) 0 count) h))
+kept-range n m made rows lower upper j a h = every-at inRange (rowAt n rows) (m + keptCuts made) j (true-of _ (a .rows-range)) h
 
 pub resolving : (n m made : ℕ) (rows lower upper f : List ℤ) (j : ℕ) → Analyzable n m made rows lower upper → length f ≡ rowLength → inRange (constraintAt n f 0) ≡ true → j < absent → j < m + keptCuts made → Resolving n rows lower upper f j
 resolving n m made rows lower upper f j a s r p h =
@@ -139,11 +100,6 @@ pub record Analyzing (n m made : ℕ) (rows lower upper : List ℤ) (below above
   pub size : length used ≡ maxVariables
   pub rest : (k : ℕ) → n ≤ k → getD used k 0 ≡ 0
 
-no-numbers : (n k : ℕ) → _≡_ {A = ℕ} (getD (replicate n 0) k 0) 0
-no-numbers zero k = refl
-no-numbers (suc n) zero = refl
-no-numbers (suc n) (suc k) = no-numbers n k
-
 module _ (n m made : ℕ) (rows lower upper : List ℤ) (below above : List ℕ) (first : Constraint) where
   pub analysis-start : (f : List ℤ) → constraintAt n f 0 ≡ first → inRange first ≡ true → length f ≡ rowLength → Analyzing n m made rows lower upper below above first n f (replicate maxVariables 0)
   unfolding analyze coreWith
@@ -154,7 +110,7 @@ module _ (n m made : ℕ) (rows lower upper : List ℤ) (below above : List ℕ)
         range = rw e r;
         row = h;
         size = refl;
-        rest = λ k l. no-numbers maxVariables k;
+        rest = λ k l. getD-const 0 maxVariables k;
       }
 
   pub analysis-step : (i : ℕ) (f g : List ℤ) (used : List ℕ) (number : ℕ) → n ≤ maxVariables → 0 < i →

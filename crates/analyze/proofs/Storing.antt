@@ -1,4 +1,4 @@
--- Moving and placing elements of an array, and what it does to the rows and numbers of the kept cuts.
+-- Moving elements of an array, and what that and storing do to the rows and numbers of the kept cuts.
 use Prim.Native.Nat.{ℕ, suc, _+_, _-_, _*_, _≤_, _<_}
 use native.Mathlib.Omega.{arith}
 use native.Mathlib.Nat.{eq-or-lt-of-le}
@@ -13,11 +13,14 @@ use Rattle.model.specs.Lists.{tab}
 use Rattle.model.specs.Ranges.{maxVariables, maxCuts}
 use Rattle.model.specs.Search.{newest}
 use Rattle.lists.proofs.Tab.{length-tab, tab-ext, tab-shift, tab-snoc}
-use Rattle.layout.specs.Rows.{rowLength, numberIn, cell, constraintAt, rowAt}
+use Rattle.layout.specs.Rows.{rowLength, numberIn, constraintAt, rowAt}
+use Rattle.layout.proofs.Rows.{row-same}
+use Rattle.rows.specs.Rows.{Placed}
+use Rattle.rows.proofs.Placing.{placed-here, placed-before}
 use Rattle.state.specs.View.{keptCuts, storedNumber}
-use Rattle.analyze.specs.Storing.{lastCut, Moved, Placed, RowKept, NumberKept}
+use Rattle.analyze.specs.Storing.{lastCut, Moved, RowKept, NumberKept}
 
--- ---- the loops
+-- ---- the loop
 module _ {A : Type 0} (none : A) where
   pub move-none : (by start : ℕ) (xs : List A) → Moved none by start start xs xs
   move-none by start xs = record { size = refl; below = λ k l. refl; moved = λ k l h. absurd (omega arith); above = λ k l. refl }
@@ -33,22 +36,6 @@ module _ {A : Type 0} (none : A) where
             (λ (t : k < i). getD-set-other after i k v none (λ z. omega arith) ∙ m .moved k a t)
             (eq-or-lt-of-le {n = k} {m = i} (omega arith));
         above = λ k b. getD-set-other after i k v none (λ z. omega arith) ∙ m .above k (omega arith);
-      }
-
-  pub place-none : (start : ℕ) (xs new : List A) → Placed none start 0 xs new xs
-  place-none start xs new = record { size = refl; below = λ k l. refl; placed = λ k l. absurd (omega arith); above = λ k l. refl }
-
-  pub place-more : (start i : ℕ) (before new after : List A) (v : A) → start + i < length before → v ≡ getD new i none → Placed none start i before new after → Placed none start (i + 1) before new (set after (start + i) v)
-  place-more start i before new after v l e p =
-      record {
-        size = length-set after (start + i) v ∙ p .size;
-        below = λ k b. getD-set-other after (start + i) k v none (λ z. omega arith) ∙ p .below k b;
-        placed = λ k b.
-            ⊎-elim
-            (λ (z : k ≡ i). rw z (getD-set-same after (start + i) v none (omega (arith, p .size)) ∙ e))
-            (λ (t : k < i). getD-set-other after (start + i) (start + k) v none (λ z. omega arith) ∙ p .placed k t)
-            (eq-or-lt-of-le {n = k} {m = i} (omega arith));
-        above = λ k b. getD-set-other after (start + i) k v none (λ z. omega arith) ∙ p .above k (omega arith);
       }
 
 -- ---- one more at the end of a table of at most maxCuts
@@ -82,55 +69,39 @@ module _ {A : Type 0} (f g : ℕ → A) (x : A) (m made : ℕ) where
       sym (newest-full (f m) (tab f (suc m) lastCut ++ (x ∷ [])) (length-append (tab f (suc m) lastCut) (x ∷ []) ∙ ap (λ (k : ℕ). k + 1) (length-tab f (suc m) lastCut))))
 
 -- ---- rows
-pub row-same : (n : ℕ) (a b : List ℤ) (s t : ℕ) → ((k : ℕ) → k ≤ n → getD a (s + k) (pos 0) ≡ getD b (t + k) (pos 0)) → constraintAt n a s ≡ constraintAt n b t
-unfolding constraintAt cell numberIn
-row-same n a b s t e =
-    ap₂ (λ (z : ℤ) (zs : List ℤ). record { constant = z; coefficients = zs }) (ap (λ (k : ℕ). getD a k (pos 0)) (omega arith) ∙ e 0 (omega arith) ∙ ap (λ (k : ℕ). getD b k (pos 0)) (omega arith))
-    (tab-ext (λ i. getD a (s + 1 + i) (pos 0)) (λ i. getD b (t + 1 + i) (pos 0)) 0 n
-    (λ i l u. ap (λ (k : ℕ). getD a k (pos 0)) (omega arith) ∙ e (1 + i) (omega arith) ∙ ap (λ (k : ℕ). getD b k (pos 0)) (omega arith)))
-
-module _ (n : ℕ) (few : n ≤ maxVariables) (rows cut after : List ℤ) where
-  placed-here : (j : ℕ) → Placed (pos 0) (rowLength * j) rowLength rows cut after → rowAt n after j ≡ constraintAt n cut 0
-  unfolding rowAt
-  placed-here j p = row-same n after cut (rowLength * j) 0 (λ k l. p .placed k (omega arith) ∙ ap (λ (i : ℕ). getD cut i (pos 0)) (omega arith))
-
-  placed-before : (j i : ℕ) → i < j → Placed (pos 0) (rowLength * j) rowLength rows cut after → rowAt n after i ≡ rowAt n rows i
-  unfolding rowAt
-  placed-before j i h p = row-same n after rows (rowLength * i) (rowLength * i) (λ k l. p .below (rowLength * i + k) (omega arith))
-
 module _ (n : ℕ) (few : n ≤ maxVariables) (rows after : List ℤ) (m : ℕ) (p : Moved (pos 0) rowLength (rowLength * m) (rowLength * (m + lastCut)) rows after) where
   moved-before : (i : ℕ) → i < m → rowAt n after i ≡ rowAt n rows i
-  unfolding rowAt
+  unfolding rowAt numberIn
   moved-before i h = row-same n after rows (rowLength * i) (rowLength * i) (λ k l. p .below (rowLength * i + k) (omega arith))
 
   moved-here : (i : ℕ) → m ≤ i → i < m + lastCut → rowAt n after i ≡ rowAt n rows (suc i)
-  unfolding rowAt
+  unfolding rowAt numberIn
   moved-here i l h =
       row-same n after rows (rowLength * i) (rowLength * suc i)
-      (λ k b. p .moved (rowLength * i + k) (omega arith) (omega arith) ∙ ap (λ (x : ℕ). getD rows x (pos 0)) (omega arith))
+      (λ k b. p .moved (rowLength * i + k) (omega arith) (omega arith) ∙ ap (numberIn rows) (omega arith))
 
 -- ---- a cut kept
-pub row-kept : (m made : ℕ) (rows cut after : List ℤ) → made < maxCuts → Placed (pos 0) (rowLength * (m + made)) rowLength rows cut after → RowKept m made rows cut after
+pub row-kept : (m made : ℕ) (rows cut after : List ℤ) → made < maxCuts → Placed (rowLength * (m + made)) rowLength cut rows after → RowKept m made rows cut after
 row-kept m made rows cut after l p =
     record {
       size = p .size;
-      inputs = λ n few. tab-ext (rowAt n after) (rowAt n rows) 0 m (λ j a b. placed-before n few rows cut after (m + made) j (omega arith) p);
+      inputs = λ n few. tab-ext (rowAt n after) (rowAt n rows) 0 m (λ j a b. placed-before n few cut rows after (m + made) p j (omega arith));
       cuts = λ n few.
-          newest-more (rowAt n rows) (rowAt n after) (constraintAt n cut 0) m made l (λ j a b. placed-before n few rows cut after (m + made) j b p)
-          (placed-here n few rows cut after (m + made) p);
+          newest-more (rowAt n rows) (rowAt n after) (constraintAt n cut 0) m made l (λ j a b. placed-before n few cut rows after (m + made) p j b)
+          (placed-here n few cut rows after (m + made) p);
     }
 
 pub row-kept-full : (m made : ℕ) (rows cut moved after : List ℤ) → maxCuts ≤ made → Moved (pos 0) rowLength (rowLength * m) (rowLength * (m + lastCut)) rows moved →
-    Placed (pos 0) (rowLength * (m + lastCut)) rowLength moved cut after → RowKept m made rows cut after
+    Placed (rowLength * (m + lastCut)) rowLength cut moved after → RowKept m made rows cut after
 row-kept-full m made rows cut moved after l q p =
     record {
       size = p .size ∙ q .size;
       inputs = λ n few.
           tab-ext (rowAt n after) (rowAt n rows) 0 m
-          (λ j a b. placed-before n few moved cut after (m + lastCut) j (omega arith) p ∙ moved-before n few rows moved m q j (omega arith));
+          (λ j a b. placed-before n few cut moved after (m + lastCut) p j (omega arith) ∙ moved-before n few rows moved m q j (omega arith));
       cuts = λ n few.
           newest-moved (rowAt n rows) (rowAt n after) (constraintAt n cut 0) m made l
-          (λ j a b. placed-before n few moved cut after (m + lastCut) j b p ∙ moved-here n few rows moved m q j a b) (placed-here n few moved cut after (m + lastCut) p);
+          (λ j a b. placed-before n few cut moved after (m + lastCut) p j b ∙ moved-here n few rows moved m q j a b) (placed-here n few cut moved after (m + lastCut) p);
     }
 
 -- ---- its number kept

@@ -13,15 +13,9 @@ use Rattle.model.specs.Problem.{boundsInRange}
 use Rattle.model.specs.Search.{Level, Core}
 use Rattle.model.specs.Conflict as model
 use Rattle.layout.specs.Rows.{rowLength, numberIn, constraintAt, rowAt, boxOf}
+use Rattle.rows.specs.Rows.{maxRows, rowsLength}
 use Rattle.state.specs.View.{keptCuts, reasonsIn, coreWith}
-use Rattle.analyze.specs.Position.{maxRows, rowsLength}
 use Rattle.analyze.specs.declared.analysis.Analysis.{Analysis}
-
--- the numbers of n variables from `start` on, and 0 past them
-pub record Copied (n : ℕ) (rows : List ℤ) (start : ℕ) (row : List ℤ) : Type 0 where
-  pub size : length row ≡ rowLength
-  pub same : constraintAt n row 0 ≡ constraintAt n rows start
-  pub rest : (i : ℕ) → n < i → numberIn row i ≡ pos 0
 
 -- the sizes, and the numbers of the kept rows and of the bounds, are in document 01's ranges
 pub record Analyzable (n m made : ℕ) (rows lower upper : List ℤ) : Type 0 where

@@ -1,23 +1,16 @@
 -- The kept constraints by number and by position.
-use Prim.Native.Nat.{ℕ, _+_, _*_, _≤_, _<_}
+use Prim.Native.Nat.{ℕ, _+_, _≤_, _<_}
 use mathlib.Core.Bool.{cond}
 use mathlib.Core.List.{List}
 use mathlib.Core.Option.{Option, none, some}
 use mathlib.Core.Path.{_≡_}
 use lib.Dec.{ltb}
 use lib.IntN.{ℤ}
-use Rattle.model.specs.Ranges.{maxConstraints, maxCuts}
 use Rattle.model.specs.Constraint.{Constraint}
 use Rattle.model.specs.Search.{Level, keptNumber}
-use Rattle.layout.specs.Rows.{rowLength, rowAt}
+use Rattle.layout.specs.Rows.{rowAt}
+use Rattle.rows.specs.Rows.{maxRows}
 use Rattle.state.specs.View.{keptCuts, coreWith}
-
--- the rows that there are, and their numbers
-abbrev pub maxRows : ℕ
-maxRows = maxConstraints + maxCuts
-
-abbrev pub rowsLength : ℕ
-rowsLength = rowLength * maxRows
 
 -- the position of a constraint that is not kept
 abbrev pub absent : ℕ

@@ -21,13 +21,6 @@ pub record Moved {A : Type 0} (none : A) (by start end : ℕ) (before after : Li
   pub moved : (k : ℕ) → start ≤ k → k < end → getD after k none ≡ getD before (k + by) none
   pub above : (k : ℕ) → end ≤ k → getD after k none ≡ getD before k none
 
--- `count` places from `start` on hold the first elements of `new`
-pub record Placed {A : Type 0} (none : A) (start count : ℕ) (before new after : List A) : Type 0 where
-  pub size : length after ≡ length before
-  pub below : (k : ℕ) → k < start → getD after k none ≡ getD before k none
-  pub placed : (k : ℕ) → k < count → getD after (start + k) none ≡ getD new k none
-  pub above : (k : ℕ) → start + count ≤ k → getD after k none ≡ getD before k none
-
 -- the inputs stay, and the cut is the newest of the kept ones
 pub record RowKept (m made : ℕ) (rows cut after : List ℤ) : Type 0 where
   pub size : length after ≡ length rows

@@ -1,43 +1,29 @@
 // Analysis of a 'dead end': F starts as a false kept constraint and is combined, variable by variable, with the constraints that set the bounds
 // which its lowest value uses. The last F is the cut.
-use crate::ROW;
 use crate::lookup::ABSENT;
 use crate::lookup::position_of;
 use compare::is_in_range;
 use linear::activity::is_falsified;
 use linear::resolving::is_opposite;
 use linear::resolving::resolve;
+use rows::ROW;
+use rows::copy_row;
 ghost use mathlib.Core.Bool.{true};
 ghost use mathlib.Core.List.{List};
 ghost use mathlib.Core.Path.{_≡_};
-ghost use Prim.Native.Nat.{ℕ, _+_, _*_, _≤_, _<_};
+ghost use Prim.Native.Nat.{ℕ, _+_, _*_, _<_};
 ghost use lib.ListN.{length};
-ghost use Rattle.model.specs.Ranges.{maxVariables};
 ghost use Rattle.model.specs.Constraint.{inRange};
 ghost use Rattle.model.specs.Search.{Level};
 ghost use Rattle.model.specs.Conflict.{usedReason, resolveWith, resolveAt};
 ghost use Rattle.layout.specs.Rows.{rowLength, constraintAt, rowAt, boxOf};
 ghost use Rattle.state.specs.View.{reasonOf, keptCuts};
-ghost use Rattle.analyze.specs.Analyzed.{Copied, Analyzable, Resolving, coreAt, ResolvedAs, Analyzed};
+ghost use Rattle.analyze.specs.Analyzed.{Analyzable, Resolving, coreAt, ResolvedAs, Analyzed};
 
 // The cut, and for each variable the number of the constraint taken in, 0 for none.
 pub struct Analysis {
     pub cut: [i64; 33],
     pub used: [usize; 32],
-}
-
-// The row of n variables at `start`, with 0 past them.
-fn copy_row(rows: &[i64], start: usize, n: usize) -> [i64; 33]
-    requires { ⌜ (n ≤ maxVariables) × (start + n < length (now rows)) ⌝ }
-    ensures { λ r. ⌜ Copied n (now (rows .entry)) start r ⌝ }
-{
-    let mut row = [0i64; 33];
-    let mut i: usize = 0;
-    while i <= n {
-        row[i] = rows[start + i];
-        i += 1;
-    }
-    row
 }
 
 // The reason of the bound that the lowest value uses at coefficient a.

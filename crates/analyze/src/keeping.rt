@@ -1,7 +1,8 @@
 // Keeping a cut: 'input lines and the 64 newest cuts are kept', in the rows after the inputs, oldest first.
 use crate::MAX_CUTS;
-use crate::ROW;
 use compare::is_equal;
+use rows::ROW;
+use rows::store_row;
 ghost use mathlib.Core.Path.{_≡_};
 ghost use Prim.Native.Nat.{_+_, _*_, _≤_, _<_};
 ghost use lib.IntN.{pos};
@@ -10,8 +11,9 @@ ghost use Rattle.model.specs.Lists.{tab};
 ghost use Rattle.model.specs.Ranges.{maxVariables, maxConstraints, maxCuts};
 ghost use Rattle.model.specs.Conflict.{firstEqual};
 ghost use Rattle.layout.specs.Rows.{rowLength, constraintAt, rowAt};
-ghost use Rattle.analyze.specs.Storing.{lastCut, Moved, Placed, RowKept, NumberKept};
-ghost use Rattle.analyze.specs.Position.{maxRows, rowsLength, foundBelow};
+ghost use Rattle.rows.specs.Rows.{maxRows, rowsLength};
+ghost use Rattle.analyze.specs.Storing.{lastCut, Moved, RowKept, NumberKept};
+ghost use Rattle.analyze.specs.Position.{foundBelow};
 
 // The place of the newest cut where all are held.
 const LAST_CUT: usize = MAX_CUTS - 1;
@@ -41,20 +43,6 @@ fn drop_row(rows: &mut [i64; 4224], m: usize)
     while i < end {
         let v = rows[i + ROW];
         rows[i] = v;
-        i += 1;
-    }
-}
-
-// The cut in row j.
-fn store_row<'a>(rows: &'a mut [i64; 4224], cut: &'a [i64; 33], j: usize)
-    requires { ⌜ (j < maxRows) × ((length (now rows) ≡ rowsLength) × (length (now cut) ≡ rowLength)) ⌝ }
-    ensures { λ r. ⌜ Placed (pos 0) (rowLength * j) rowLength (now (rows .entry)) (now (cut .entry)) (now (rows .exit)) ⌝ }
-{
-    let start = ROW * j;
-    let mut i: usize = 0;
-    while i < ROW {
-        let v = cut[i];
-        rows[start + i] = v;
         i += 1;
     }
 }

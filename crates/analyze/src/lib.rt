@@ -3,8 +3,5 @@ pub mod analysis;
 pub mod keeping;
 pub mod lookup;
 
-// The numbers of a row.
-pub const ROW: usize = 33;
-
 // The newest cuts that are kept.
 pub const MAX_CUTS: usize = 64;

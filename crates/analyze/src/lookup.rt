@@ -7,7 +7,8 @@ ghost use lib.IntN.{ℤ};
 ghost use Rattle.model.specs.Ranges.{maxConstraints, maxCuts, maxBudget};
 ghost use Rattle.model.specs.Search.{Level, numberAt};
 ghost use Rattle.state.specs.View.{coreWith};
-ghost use Rattle.analyze.specs.Position.{maxRows, PositionOf};
+ghost use Rattle.rows.specs.Rows.{maxRows};
+ghost use Rattle.analyze.specs.Position.{PositionOf};
 
 // The position of a constraint that is not kept: there are fewer rows.
 pub const ABSENT: usize = 128;

@@ -1,8 +1,8 @@
 -- The tests of a row's numbers, one after the other: its constant, then its coefficients.
 use Prim.Native.Nat.{ℕ, _<_, _≤_}
-use mathlib.Core.Bool.{Bool, true, false, not, _&&_, and-false}
+use mathlib.Core.Bool.{Bool, true, false, _&&_, and-false}
 use mathlib.Core.List.{List}
-use mathlib.Core.Path.{_≡_, refl, sym, ap, _∙_}
+use mathlib.Core.Path.{_≡_, refl, sym, ap}
 use lib.Dec.{eqb, eqb→eq, eqb-refl}
 use lib.IntN.{ℤ, pos, negsuc}
 use Rattle.model.specs.Ranges.{within, maxCoefficient}
@@ -13,21 +13,6 @@ use Rattle.lists.proofs.All.{all-end, all-fails}
 use Rattle.lists.proofs.AllOf.{allOf-tab}
 use Rattle.lists.proofs.AllPairs.{pairs-tab}
 use Rattle.layout.specs.Rows.{numberIn, cell, constraintAt}
-
--- ---- what the code's `if !r` tells of a test v, for a leaf that ensures r ≡ u at the machine's bits
-not-true : (t : Bool) → not t ≡ true → t ≡ false
-not-true true e = sym e
-not-true false e = refl
-
-not-false : (t : Bool) → not t ≡ false → t ≡ true
-not-false true e = refl
-not-false false e = sym e
-
-pub said-no : {r u v : Bool} → r ≡ u → u ≡ v → not r ≡ true → v ≡ false
-said-no {r} e f h = sym f ∙ sym e ∙ not-true r h
-
-pub said-yes : {r u v : Bool} → r ≡ u → u ≡ v → not r ≡ false → v ≡ true
-said-yes {r} e f h = sym f ∙ sym e ∙ not-false r h
 
 -- ---- a test of the constant and one of each coefficient: the constant fails, coefficient i fails, all pass
 module _ (constant : Bool) (t : ℕ → Bool) (n : ℕ) where

@@ -1,18 +1,18 @@
 -- What the tests of the ranges say, in the model's words. The premises of a law are the facts that stand where the code returns.
 use Prim.Native.Nat.{ℕ, _+_, _<_, _≤_}
 use native.Mathlib.Omega.{arith}
-use mathlib.Core.Bool.{Bool, true, false, not, and-true}
-use mathlib.Core.Path.{_≡_, ap, _∙_}
+use mathlib.Core.Bool.{true, false, and-true}
+use mathlib.Core.Path.{_≡_, _∙_}
 use lib.IntN.{ℤ, pos, negℤ, _-ℤ_, +ℤ-idl}
 use lib.Dec.{leb}
 use lib.Signed.{leZ, ltZ}
 use mir.Syntax.{w32, w64}
 use mir.Val.{Fits, SFits, toZ, ofZ}
 use mir.Facts.{toZ-ofZ, toZ-pos}
-use borrow.Author.Tests.{le-leb, lt-leb, not-true, not-false}
+use borrow.Author.Tests.{le-leb, lt-leb}
 use Rattle.model.specs.Lists.{all}
-use Rattle.model.specs.Problem.{sizesInRange, boundsInRange}
-use Rattle.model.specs.Ranges.{within, maxVariables, maxConstraints, maxBudget, maxBound}
+use Rattle.model.specs.Problem.{sizesInRange}
+use Rattle.model.specs.Ranges.{within, maxVariables, maxConstraints, maxBudget}
 use Rattle.integer.specs.Size.{fits, size, neg-within}
 use Rattle.integer.specs.Tests.{ltZ-true, ltZ-false, lt-leZ, le-leZ}
 use Rattle.fields.specs.Sizes.{SizesTest}
@@ -60,24 +60,3 @@ module _ (limit : ℕ) (h : Fits w32 limit) where
     from-least e =
         let l : ltZ z (negℤ (pos limit)) ≡ false = rw (toZ-ofZ f, least) at e in
         rw (toZ-ofZ f, most, le-leZ (ltZ-false {a = z} {b = negℤ (pos limit)} l))
-
--- ---- 5: the bounds of one variable
-module _ (lower upper : ℤ) (f : SFits w64 lower) (r : Bool) (e : r ≡ within maxBound (toZ w64 (ofZ w64 lower))) where
-  e′ : r ≡ within maxBound lower
-  e′ = e ∙ ap (within maxBound) (toZ-ofZ f)
-
-  pub lower-beyond : not r ≡ true → false ≡ boundsInRange (record { lower = lower; upper = upper })
-  unfolding boundsInRange all
-  lower-beyond h = rw (← e′, not-true r h)
-
-  module _ (g : SFits w64 upper) (h : not r ≡ false) (q : Bool) (d : q ≡ within maxBound (toZ w64 (ofZ w64 upper))) where
-    d′ : q ≡ within maxBound upper
-    d′ = d ∙ ap (within maxBound) (toZ-ofZ g)
-
-    pub upper-beyond : not q ≡ true → false ≡ boundsInRange (record { lower = lower; upper = upper })
-    unfolding boundsInRange all
-    upper-beyond k = rw (← e′, ← d′, not-false r h, not-true q k)
-
-    pub in-order : not q ≡ false → leZ (toZ w64 (ofZ w64 lower)) (toZ w64 (ofZ w64 upper)) ≡ boundsInRange (record { lower = lower; upper = upper })
-    unfolding boundsInRange all
-    in-order k = rw (toZ-ofZ f, toZ-ofZ g, ← e′, ← d′, not-false r h, not-false q k, and-true (leZ lower upper))

@@ -2,15 +2,15 @@
 use Prim.Native.Nat.{ℕ, _+_, _<_}
 use native.Mathlib.Omega.{arith}
 use mathlib.Core.List.{List}
-use mathlib.Core.Path.{_≡_, ap₂, _∙_}
+use mathlib.Core.Path.{_≡_, _∙_}
 use borrow.Author.Count.{below-more}
 use lib.IntN.{ℤ, pos}
 use lib.ListN.{set, length, length-set}
 use lib.Seq.{getD-set-same, getD-set-other}
 use Rattle.model.specs.Lists.{tab}
-use Rattle.model.specs.Constraint.{Constraint}
 use Rattle.lists.proofs.Tab.{tab-ext-0}
 use Rattle.layout.specs.Rows.{rowLength, numberIn, cell, constraintAt}
+use Rattle.layout.proofs.Rows.{constraint-eq}
 
 -- the constant is z, and coefficient k is g k for each k below i
 pub record Filled (z : ℤ) (g : ℕ → ℤ) (i : ℕ) (r : List ℤ) : Type 0 where
@@ -38,9 +38,6 @@ fill-coefficient {z} {g} {i} {r} v l h e =
           (λ k m. getD-set-other r (i + 1) (0 + 1 + k) v (pos 0) (λ x. omega arith) ∙ h .coefficient k m)
           (rw same (getD-set-same r (i + 1) v (pos 0) (omega (arith, h .row)) ∙ e));
     }
-
-pub constraint-eq : {a b : ℤ} {cs ds : List ℤ} → a ≡ b → cs ≡ ds → _≡_ {A = Constraint} (record { constant = a; coefficients = cs }) (record { constant = b; coefficients = ds })
-constraint-eq p q = ap₂ (λ (a : ℤ) (cs : List ℤ). record { constant = a; coefficients = cs }) p q
 
 pub filled : {z : ℤ} {g : ℕ → ℤ} (n : ℕ) (r : List ℤ) → Filled z g n r → constraintAt n r 0 ≡ record { constant = z; coefficients = tab g 0 n }
 unfolding constraintAt

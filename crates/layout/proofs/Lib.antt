@@ -2,3 +2,4 @@
 pub mod Rows
 pub mod Elements
 pub mod Filled
+pub mod Ranges

@@ -1,14 +1,13 @@
 -- What the views show at an index, and what a store to an array does to them.
-use Prim.Native.Nat.{ℕ, suc, _+_, _*_, _<_}
+use Prim.Native.Nat.{ℕ, _+_, _<_, _≤_}
 use native.Mathlib.Omega.{arith}
 use mathlib.Core.List.{List}
-use mathlib.Core.Path.{_≡_, refl, sym, ap, _∙_}
+use mathlib.Core.Path.{_≡_, sym, ap, ap₂, _∙_}
 use lib.IntN.{ℤ, pos}
 use lib.ListN.{getD, set, length}
-use Rattle.model.specs.Lists.{tab}
-use Rattle.model.specs.Constraint.{Constraint, Bounds, Box, noBounds, coefficientAt, lowerAt, upperAt, setLower, setUpper}
+use Rattle.model.specs.Constraint.{Constraint, Bounds, noBounds, coefficientAt, lowerAt, upperAt, setLower, setUpper}
 use lib.Seq.{getD-set-same, getD-set-other}
-use Rattle.lists.proofs.Tab.{length-tab, getD-tab, set-tab}
+use Rattle.lists.proofs.Tab.{length-tab, getD-tab, tab-ext-0, set-tab}
 use Rattle.layout.specs.Rows.{numberIn, cell, constraintAt, boundsAt, boxOf}
 
 pub length-box : (n : ℕ) (lower upper : List ℤ) → length (boxOf n lower upper) ≡ n
@@ -30,6 +29,16 @@ lower-at n lower upper i h = ap (λ (b : Bounds). b .lower) (getD-tab (boundsAt 
 pub upper-at : (n : ℕ) (lower upper : List ℤ) (i : ℕ) → i < n → upperAt (boxOf n lower upper) i ≡ numberIn upper i
 unfolding upperAt boxOf boundsAt
 upper-at n lower upper i h = ap (λ (b : Bounds). b .upper) (getD-tab (boundsAt lower upper) n i noBounds h)
+
+-- ---- two constraints are equal by their parts, and by the numbers of their rows
+pub constraint-eq : {a b : ℤ} {cs ds : List ℤ} → a ≡ b → cs ≡ ds → _≡_ {A = Constraint} (record { constant = a; coefficients = cs }) (record { constant = b; coefficients = ds })
+constraint-eq p q = ap₂ (λ (a : ℤ) (cs : List ℤ). record { constant = a; coefficients = cs }) p q
+
+pub row-same : (n : ℕ) (a b : List ℤ) (s t : ℕ) → ((k : ℕ) → k ≤ n → numberIn a (s + k) ≡ numberIn b (t + k)) → constraintAt n a s ≡ constraintAt n b t
+unfolding constraintAt cell
+row-same n a b s t e =
+    constraint-eq (ap (numberIn a) (omega arith) ∙ e 0 (omega arith) ∙ ap (numberIn b) (omega arith))
+    (tab-ext-0 (cell a s) (cell b t) n (λ i l. ap (numberIn a) (omega arith) ∙ e (1 + i) (omega arith) ∙ ap (numberIn b) (omega arith)))
 
 -- ---- a bound stored at variable i
 pub box-lower : (n : ℕ) (lower upper : List ℤ) (i : ℕ) (v : ℤ) → i < n → i < length lower → boxOf n (set lower i v) upper ≡ setLower i v (boxOf n lower upper)

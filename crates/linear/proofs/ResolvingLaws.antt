@@ -18,7 +18,8 @@ use Rattle.integer.specs.Size.{Within}
 use Rattle.integer.specs.Automatic.{exps, fits!, eq! }
 use Rattle.lists.proofs.Bools.{T-of, clash}
 use Rattle.layout.specs.Rows.{numberIn, cell, constraintAt}
-use Rattle.layout.proofs.Filled.{Filled, filled, constraint-eq}
+use Rattle.layout.proofs.Rows.{constraint-eq}
+use Rattle.layout.proofs.Filled.{Filled, filled}
 
 -- ---- the signs, by the tests that the code makes
 pub opposite-above : (a b : ℤ) → ltZ (pos 0) a ≡ true → ltZ b (pos 0) ≡ opposite a b

@@ -12,7 +12,8 @@ use Rattle.integer.specs.Parts.{lt-in}
 use Rattle.integer.specs.Size.{Within, abs-neg}
 use Rattle.lists.proofs.Tab.{tab-end, tab-down, tab-map}
 use Rattle.layout.specs.Rows.{numberIn, cell, constraintAt}
-use Rattle.layout.proofs.Filled.{Filled, filled, constraint-eq}
+use Rattle.layout.proofs.Rows.{constraint-eq}
+use Rattle.layout.proofs.Filled.{Filled, filled}
 
 -- ---- the divisor of the coefficients from i on
 pub divisor-none : (f : ℕ → ℤ) (n : ℕ) → 0 ≡ divisor (tab f n (n - n))

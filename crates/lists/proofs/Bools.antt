@@ -1,10 +1,11 @@
--- Tests: the two ways to say that one passes, both of two, one of two; and the one of two orders.
+-- Tests: the two ways to say that one passes, what the code's `if` tells of one, both of two, one of two; and the one of two orders.
 use Prim.Native.Nat.{ℕ, zero, suc, _<_, _≤_}
 use native.Mathlib.Omega.{arith}
-use mathlib.Core.Bool.{Bool, true, false, _&&_, _||_}
-use mathlib.Core.Path.{_≡_, refl, sym}
+use mathlib.Core.Bool.{Bool, true, false, not, _&&_, _||_}
+use mathlib.Core.Path.{_≡_, refl, sym, _∙_}
 use mathlib.Core.Logic.{_⊎_, inl, inr, ⊎-elim}
 use lib.Dec.{T}
+use borrow.Author.Tests.{not-true, not-false}
 
 -- ---- T b and b ≡ true
 pub true-of : (b : Bool) → T b → b ≡ true
@@ -17,6 +18,13 @@ T-of e = rw e tt
 -- a test cannot pass and fail
 pub clash : {A : Type 0} {b : Bool} → b ≡ true → b ≡ false → A
 clash e f = let z : _≡_ {A = ℕ} 0 1 = cc in absurd (omega arith)
+
+-- ---- what the code's `if !r` tells of a test t, for a call that ensures r ≡ t
+pub said-no : {r t : Bool} → r ≡ t → not r ≡ true → t ≡ false
+said-no {r} e h = sym e ∙ not-true r h
+
+pub said-yes : {r t : Bool} → r ≡ t → not r ≡ false → t ≡ true
+said-yes {r} e h = sym e ∙ not-false r h
 
 -- ---- and, or
 pub and-true : (a b : Bool) → (a && b) ≡ true → (a ≡ true) × (b ≡ true)

@@ -7,4 +7,5 @@ pub mod All
 pub mod AllOf
 pub mod AnyOf
 pub mod AllPairs
+pub mod Loops
 pub mod Options

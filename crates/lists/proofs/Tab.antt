@@ -122,6 +122,11 @@ module _ {A : Type 0} where
   tab-const z i zero = refl
   tab-const z i (suc n) = ap (λ (l : List A). z ∷ l) (tab-const z (suc i) n)
 
+  pub getD-const : (z : A) (n k : ℕ) → getD (replicate n z) k z ≡ z
+  getD-const z zero k = refl
+  getD-const z (suc n) zero = refl
+  getD-const z (suc n) (suc k) = getD-const z n k
+
   -- one element set
   set-tab-from : (f g : ℕ → A) (v : A) (i c k : ℕ) → g (i + k) ≡ v → ((j : ℕ) → j ≢ i + k → g j ≡ f j) → set (tab f i c) k v ≡ tab g i c
   unfolding tab

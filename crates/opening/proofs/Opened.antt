@@ -1,14 +1,14 @@
 -- The opened state is the model's.
-use Prim.Native.Nat.{ℕ, zero, suc}
+use Prim.Native.Nat.{ℕ}
 use mathlib.Core.List.{List, [], map}
-use mathlib.Core.Path.{_≡_, refl, sym, ap, _∙_}
+use mathlib.Core.Path.{_≡_, sym, ap, _∙_}
 use lib.IntN.{ℤ}
 use lib.ListN.{getD, replicate}
 use Rattle.model.specs.Lists.{tab}
 use Rattle.model.specs.Constraint.{rounded}
 use Rattle.model.specs.Problem.{variables}
 use Rattle.model.specs.Search as model
-use Rattle.lists.proofs.Tab.{tab-ext-0, tab-const}
+use Rattle.lists.proofs.Tab.{tab-ext-0, tab-const, getD-const}
 use Rattle.layout.specs.Rows.{rowAt, boxOf}
 use Rattle.layout.proofs.Rows.{length-box}
 use Rattle.problem.specs.declared.Problem.{Problem}
@@ -18,17 +18,12 @@ use Rattle.state.specs.declared.Level.{Level}
 use Rattle.state.specs.declared.Status.the-variants.{Undecided}
 
 -- ---- level 0
-domain-at : (count i : ℕ) → getD (replicate count domainReason) i 0 ≡ 0
-domain-at zero i = refl
-domain-at (suc count) zero = refl
-domain-at (suc count) (suc i) = domain-at count i
-
 abbrev domains : List ℕ
 domains = replicate 32 domainReason
 
 reasons-domain : (n : ℕ) → tab (reasonsIn domains domains) 0 n ≡ replicate n model.noReasons
 unfolding reasonsIn reasonOf
-reasons-domain n = tab-ext-0 (reasonsIn domains domains) (λ i. model.noReasons) n (λ i l. rw (domain-at 32 i)) ∙ tab-const model.noReasons 0 n
+reasons-domain n = tab-ext-0 (reasonsIn domains domains) (λ i. model.noReasons) n (λ i l. rw (getD-const {A = ℕ} domainReason 32 i)) ∙ tab-const model.noReasons 0 n
 
 module _ (p : Problem) where
   variables-are : p .n ≡ variables (problemOf p)

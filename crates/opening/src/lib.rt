@@ -1,65 +1,34 @@
 // Document 01's 'opening': the search state at the start, from a problem.
 use linear::rounding;
 use problem::Problem;
+use rows::ROW;
+use rows::copy_row;
+use rows::store_row;
 use state::Level;
 use state::Search;
 use state::Status;
 ghost use mathlib.Core.Path.{_≡_};
 ghost use mathlib.Core.Bool.{true};
 ghost use mathlib.Core.List.{map};
-ghost use Prim.Native.Nat.{_+_, _*_, _<_, _≤_};
-ghost use lib.ListN.{length};
+ghost use Prim.Native.Nat.{_+_, _<_, _≤_};
 ghost use Rattle.model.specs.Lists.{tab};
 ghost use Rattle.model.specs.Ranges.{maxVariables, maxConstraints};
 ghost use Rattle.model.specs.Constraint.{rounded, inRange};
 ghost use Rattle.model.specs.Search.{levelOf as firstLevel, openProblem};
-ghost use Rattle.layout.specs.Rows.{rowLength, constraintAt, rowAt};
+ghost use Rattle.layout.specs.Rows.{rowAt};
 ghost use Rattle.problem.specs.View.{problemOf};
 ghost use Rattle.state.specs.View.{levelOf, view};
 ghost use Rattle.opening.specs.Accepted.{Accepted};
-ghost use Rattle.opening.specs.Rounded.{cells, Placed, RowsRounded};
-
-// The numbers of a constraint: its constant, then a coefficient for each of 32 variables.
-const ROW_LENGTH: usize = 33;
-
-// Constraint j of a problem, with 0 past its n coefficients.
-fn row_of(constraints: &[i64; 2112], n: usize, j: usize) -> [i64; 33]
-    requires { ⌜ (n ≤ maxVariables) × (j < maxConstraints) ⌝ }
-    ensures { λ r. ⌜ constraintAt n r 0 ≡ rowAt n (now (constraints .entry)) j ⌝ }
-{
-    let start = ROW_LENGTH * j;
-    let mut row = [0i64; 33];
-    row[0] = constraints[start];
-    let mut i: usize = 0;
-    while i < n {
-        row[i + 1] = constraints[start + 1 + i];
-        i += 1;
-    }
-    row
-}
-
-// Puts a constraint into row j.
-fn put_row(rows: &mut [i64; 4224], row: [i64; 33], j: usize)
-    requires { ⌜ (length (now rows) ≡ cells) × (j < maxConstraints) ⌝ }
-    ensures { λ r. ⌜ Placed (rowLength * j) rowLength row (now (rows .entry)) (now (rows .exit)) ⌝ }
-{
-    let start = ROW_LENGTH * j;
-    let mut i: usize = 0;
-    while i < ROW_LENGTH {
-        let number = row[i];
-        rows[start + i] = number;
-        i += 1;
-    }
-}
+ghost use Rattle.opening.specs.Rounded.{RowsRounded};
 
 // Rounds constraint j into row j; the ones before it are there already.
 fn round_row(constraints: &[i64; 2112], n: usize, j: usize, rows: &mut [i64; 4224])
     requires { ⌜ (n ≤ maxVariables) × ((j < maxConstraints) × ((inRange (rowAt n (now constraints) j) ≡ true) × RowsRounded n (now constraints) j (now rows))) ⌝ }
     ensures { λ r. ⌜ RowsRounded n (now (constraints .entry)) (j + 1) (now (rows .exit)) ⌝ }
 {
-    let row = row_of(constraints, n, j);
+    let row = copy_row(constraints, ROW * j, n);
     let rounded = rounding::round(row, n);
-    put_row(rows, rounded, j);
+    store_row(rows, &rounded, j);
 }
 
 // The rows of a search state: the constraints of the problem, rounded.

@@ -1,5 +1,4 @@
 -- Laws of the groups of functions, and the two round trips.
-pub mod Ranges
 pub mod Arrays
 pub mod Views
 pub mod ReadCascade

@@ -2,14 +2,14 @@
 use Prim.Native.Nat.{ℕ, suc, _*_, _≤_}
 use native.Mathlib.Omega.{arith}
 use mathlib.Core.Bool.{Bool, true, false, _&&_, not}
-use mathlib.Core.Path.{_≡_, sym, ap, _∙_}
+use mathlib.Core.Path.{_≡_, ap, _∙_}
 use mathlib.Core.List.{List}
 use lib.ListN.{length}
-use borrow.Author.Tests.{leb-true, eqb-true, not-true, not-false}
+use borrow.Author.Tests.{leb-true, eqb-true}
 use Rattle.model.specs.Bytes.{blockLength}
 use Rattle.model.specs.File.{constraintsIn, problemIn, wholeBlocks, checksMatch, magicMatches, blockCountMatches, paddingZero, readError, readFile}
 use Rattle.model.specs.Problem.{sizesInRange, domainInRange, constraintsInRange, firstError, resultOf}
-use Rattle.lists.proofs.Bools.{and-true}
+use Rattle.lists.proofs.Bools.{said-no, said-yes, and-true}
 use Rattle.format.proofs.AcceptedShape.{Sizes, sizes, variables-in, constraints-in}
 use Rattle.problem.specs.declared.Answer.the-variants.{Done, Truncated, BadChecksum, BadMagic, SizeRange, DomainRange, CoefficientRange, NonzeroPadding}
 use Rattle.problem.specs.declared.Problem.{Problem}
@@ -19,13 +19,6 @@ use Rattle.fields.specs.Fields.{sizesMatch, Blocks}
 use Rattle.problem.specs.View.{problemOf, packed, empty, readingOf}
 use Rattle.problem.proofs.Views.{view-of-file}
 
--- a test that the code made
-pub pass : (r t : Bool) → r ≡ t → not r ≡ false → t ≡ true
-pass r t e h = sym e ∙ not-false r h
-
-pub fail : (r t : Bool) → r ≡ t → not r ≡ true → t ≡ false
-fail r t e h = sym e ∙ not-true r h
-
 module _ (f : List ℕ) where
   error-is : (e : ℕ) (q : Reading) → readError f ≡ suc e → q ≡ record { answer = answerOf (suc e); problem = empty } → q ≡ readingOf (readFile f)
   unfolding readFile resultOf readingOf
@@ -33,7 +26,7 @@ module _ (f : List ℕ) where
 
   pub truncated : (r : Bool) (q : Reading) → r ≡ wholeBlocks f → not r ≡ true → q ≡ record { answer = Truncated; problem = empty } → q ≡ readingOf (readFile f)
   unfolding readError firstError answerOf answers
-  truncated r q e h g = error-is 0 q (rw (fail r (wholeBlocks f) e h)) g
+  truncated r q e h g = error-is 0 q (rw (said-no e h)) g
 
   module _ (t₁ : wholeBlocks f ≡ true) where
     pub has-head : blockLength ≤ length f
@@ -42,17 +35,17 @@ module _ (f : List ℕ) where
 
     pub bad-checksum : (r : Bool) (q : Reading) → r ≡ checksMatch f → not r ≡ true → q ≡ record { answer = BadChecksum; problem = empty } → q ≡ readingOf (readFile f)
     unfolding readError firstError answerOf answers
-    bad-checksum r q e h g = error-is 1 q (rw (t₁, fail r (checksMatch f) e h)) g
+    bad-checksum r q e h g = error-is 1 q (rw (t₁, said-no e h)) g
 
     module _ (t₂ : checksMatch f ≡ true) where
       pub bad-magic : (r : Bool) (q : Reading) → r ≡ magicMatches f → not r ≡ true → q ≡ record { answer = BadMagic; problem = empty } → q ≡ readingOf (readFile f)
       unfolding readError firstError answerOf answers
-      bad-magic r q e h g = error-is 2 q (rw (t₁, t₂, fail r (magicMatches f) e h)) g
+      bad-magic r q e h g = error-is 2 q (rw (t₁, t₂, said-no e h)) g
 
       module _ (t₃ : magicMatches f ≡ true) where
         pub size-range : (r : Bool) (q : Reading) → r ≡ sizesMatch f → not r ≡ true → q ≡ record { answer = SizeRange; problem = empty } → q ≡ readingOf (readFile f)
         unfolding sizesMatch readError firstError answerOf answers
-        size-range r q e h g = error-is 3 q (rw (t₁, t₂, t₃, fail r (sizesMatch f) e h)) g
+        size-range r q e h g = error-is 3 q (rw (t₁, t₂, t₃, said-no e h)) g
 
 -- ---- past the sizes, 5 and 6 are tests on the problem
 module _ (f : List ℕ) (t₄ : sizesMatch f ≡ true) where
@@ -81,7 +74,7 @@ module _ (f : List ℕ) (t₄ : sizesMatch f ≡ true) where
       pub domain-range : (r : Bool) (q : Reading) → r ≡ domainInRange (problemOf p) → not r ≡ true → q ≡ record { answer = DomainRange; problem = empty } → q ≡ readingOf (readFile f)
       unfolding readError firstError answerOf answers
       domain-range r q e h g =
-          let t : domainInRange (problemIn f) ≡ false = rw view at (fail r (domainInRange (problemOf p)) e h) in
+          let t : domainInRange (problemIn f) ≡ false = rw view at (said-no e h) in
           error-is f 4 q (rw (t₁, t₂, t₃, t₄′, t)) g
 
       module _ (t₅ : domainInRange (problemOf p) ≡ true) where
@@ -91,7 +84,7 @@ module _ (f : List ℕ) (t₄ : sizesMatch f ≡ true) where
         pub coefficient-range : (r : Bool) (q : Reading) → r ≡ constraintsInRange (problemOf p) → not r ≡ true → q ≡ record { answer = CoefficientRange; problem = empty } → q ≡ readingOf (readFile f)
         unfolding readError firstError answerOf answers
         coefficient-range r q e h g =
-            let t : constraintsInRange (problemIn f) ≡ false = rw view at (fail r (constraintsInRange (problemOf p)) e h) in
+            let t : constraintsInRange (problemIn f) ≡ false = rw view at (said-no e h) in
             error-is f 5 q (rw (t₁, t₂, t₃, t₄′, t₅′, t)) g
 
         module _ (t₆ : constraintsInRange (problemOf p) ≡ true) where
@@ -100,8 +93,8 @@ module _ (f : List ℕ) (t₄ : sizesMatch f ≡ true) where
 
           pub nonzero-padding : (r : Bool) (q : Reading) → r ≡ paddingZero f → not r ≡ true → q ≡ record { answer = NonzeroPadding; problem = empty } → q ≡ readingOf (readFile f)
           unfolding readError firstError answerOf answers
-          nonzero-padding r q e h g = error-is f 6 q (rw (t₁, t₂, t₃, t₄′, t₅′, t₆′, fail r (paddingZero f) e h)) g
+          nonzero-padding r q e h g = error-is f 6 q (rw (t₁, t₂, t₃, t₄′, t₅′, t₆′, said-no e h)) g
 
           pub accepted : (r : Bool) → r ≡ paddingZero f → not r ≡ false → record { answer = Done; problem = p } ≡ readingOf (readFile f)
           unfolding readFile readError firstError resultOf readingOf
-          accepted r e h = rw (ep, t₁, t₂, t₃, t₄′, t₅′, t₆′, pass r (paddingZero f) e h)
+          accepted r e h = rw (ep, t₁, t₂, t₃, t₄′, t₅′, t₆′, said-yes e h)

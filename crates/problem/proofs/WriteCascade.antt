@@ -20,7 +20,7 @@ use Rattle.problem.specs.Answer.{number, written}
 use Rattle.problem.specs.Writable.{Writable}
 use Rattle.fields.specs.Sizes.{SizesTest}
 use Rattle.problem.specs.View.{problemOf}
-use Rattle.problem.proofs.ReadCascade.{pass, fail}
+use Rattle.lists.proofs.Bools.{said-no, said-yes}
 
 module _ (p : Problem) where
   variable-count : variables (problemOf p) ≡ p .n
@@ -41,7 +41,7 @@ module _ (p : Problem) where
   sizes-are r t = t (problemOf p) variable-count constraint-count refl
 
   pub sized : (r : Bool) → SizesTest (p .n) (p .m) (p .budget) r → not r ≡ false → sizesInRange (problemOf p) ≡ true
-  sized r t h = pass r (sizesInRange (problemOf p)) (sizes-are r t) h
+  sized r t h = said-yes (sizes-are r t) h
 
   module _ (t₄ : sizesInRange (problemOf p) ≡ true) where
     in-range : Sizes (problemOf p)
@@ -60,17 +60,17 @@ module _ (p : Problem) where
 module _ (p : Problem) (b : List ℕ) where
   pub size-range : (r : Bool) → SizesTest (p .n) (p .m) (p .budget) r → not r ≡ true → written SizeRange b ≡ writeFile (problemOf p) b
   unfolding written number writeFile writeError writtenBy firstError
-  size-range r t h = rw (fail r (sizesInRange (problemOf p)) (sizes-are p r t) h)
+  size-range r t h = rw (said-no (sizes-are p r t) h)
 
   module _ (t₄ : sizesInRange (problemOf p) ≡ true) where
     pub domain-range : (r : Bool) → r ≡ domainInRange (problemOf p) → not r ≡ true → written DomainRange b ≡ writeFile (problemOf p) b
     unfolding written number writeFile writeError writtenBy firstError
-    domain-range r e h = rw (t₄, fail r (domainInRange (problemOf p)) e h)
+    domain-range r e h = rw (t₄, said-no e h)
 
     module _ (t₅ : domainInRange (problemOf p) ≡ true) where
       pub coefficient-range : (r : Bool) → r ≡ constraintsInRange (problemOf p) → not r ≡ true → written CoefficientRange b ≡ writeFile (problemOf p) b
       unfolding written number writeFile writeError writtenBy firstError
-      coefficient-range r e h = rw (t₄, t₅, fail r (constraintsInRange (problemOf p)) e h)
+      coefficient-range r e h = rw (t₄, t₅, said-no e h)
 
       module _ (t₆ : constraintsInRange (problemOf p) ≡ true) where
         pub short-buffer : length b / blockLength ≤ p .m → written ShortBuffer b ≡ writeFile (problemOf p) b

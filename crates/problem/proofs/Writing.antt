@@ -19,26 +19,25 @@ use Rattle.model.specs.Lists.{parts, all}
 use Rattle.model.specs.Problem.{variables, boundsInRange, domainInRange, constraintsInRange}
 use Rattle.model.specs.Ranges.{within, maxVariables, maxBound}
 use Rattle.integer.specs.Size.{Within}
-use Rattle.lists.proofs.All.{all-at}
+use Rattle.lists.proofs.Loops.{every-at}
 use Rattle.lists.proofs.Bools.{and-true}
 use Rattle.lists.proofs.Parts.{parts-append}
 use Rattle.lists.proofs.Tab.{length-tab, getD-tab}
 use Rattle.layout.proofs.Rows.{length-box, lower-at, upper-at}
-use Rattle.layout.specs.Rows.{rowLength, numberIn, constraintAt, rowAt, boundsAt}
+use Rattle.layout.specs.Rows.{rowLength, numberIn, constraintAt, rowAt, boundsAt, boxOf}
 use Rattle.block.proofs.Placing.{then, none-placed, more-placed, part-placed}
 use Rattle.block.proofs.Sealing.{sealed-content}
 use Rattle.block.specs.Placed.{Placed, cleared}
 use Rattle.fields.proofs.Writing.{within-back, moved}
 use Rattle.problem.specs.declared.Problem.{Problem}
 use Rattle.problem.specs.View.{problemOf}
-use Rattle.problem.proofs.Ranges.{boundsTest, domain-is, rowTest, constraints-are}
 
 -- ---- the bounds
 module _ (p : Problem) (i : ℕ) (l : i < p .n) where
   bounds-pass : domainInRange (problemOf p) ≡ true → (within maxBound (getD (p .lower) i (pos 0)) ≡ true) × (within maxBound (getD (p .upper) i (pos 0)) ≡ true)
-  unfolding boundsInRange all boundsAt numberIn
+  unfolding domainInRange problemOf boxOf boundsInRange all boundsAt numberIn
   bounds-pass d =
-      let t = and-true _ _ (all-at (boundsTest p) (p .n) i (sym (domain-is p) ∙ d) l) in
+      let t = and-true _ _ (every-at boundsInRange (boundsAt (p .lower) (p .upper)) (p .n) i d l) in
       (t .0, and-true _ _ (t .1) .0)
 
   pub lower-room : domainInRange (problemOf p) ≡ true → SFits w64 (getD (p .lower) i (pos 0)) → Within (2 ^ 31) (toZ w64 (ofZ w64 (getD (p .lower) i (pos 0))))
@@ -99,8 +98,8 @@ module _ (p : Problem) where
 
   module _ (j : ℕ) (l : j < p .m) where
     pub row-passes : constraintsInRange (problemOf p) ≡ true → inRange (constraintAt (p .n) (p .constraints) (rowLength * j)) ≡ true
-    unfolding rowAt
-    row-passes e = all-at (rowTest p) (p .m) j (sym (constraints-are p) ∙ e) l
+    unfolding constraintsInRange problemOf rowAt
+    row-passes e = every-at inRange (rowAt (p .n) (p .constraints)) (p .m) j e l
 
     row-sealed : blockOf (problemOf p) (suc j) ≡ sealed (suc j) (constraintBytes (p .n) (constraintAt (p .n) (p .constraints) (rowLength * j)))
     unfolding blockOf problemOf variables rowAt

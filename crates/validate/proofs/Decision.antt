@@ -18,7 +18,7 @@ use Rattle.integer.specs.Tests.{same, leZ-true, leZ-false, lt-ltZ, le-ltZ}
 use Rattle.layout.specs.Rows.{numberIn, boxOf}
 use Rattle.layout.proofs.Rows.{lower-at, upper-at}
 use Rattle.compare.proofs.Tests.{equal-refl, equal-not}
-use Rattle.validate.proofs.Bounds.{back}
+use Rattle.layout.proofs.Elements.{back}
 
 -- what `==` of two signed numbers tells
 equal : {a b : ℤ} → SFits w64 a → SFits w64 b → ofZ w64 a ≡ ofZ w64 b → equalℤ a b ≡ true

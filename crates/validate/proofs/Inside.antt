@@ -13,8 +13,8 @@ use borrow.Author.Tests.{not-true, not-false}
 use Rattle.model.specs.Validity.{inside, boxInside}
 use Rattle.integer.specs.Tests.{ltZ-true, ltZ-false, lt-leZ, le-leZ}
 use Rattle.layout.specs.Rows.{numberIn, boundsAt, boxOf}
-use Rattle.validate.proofs.Loops.{pairs-none, pairs-more, pairs-end, pairs-fails}
-use Rattle.validate.proofs.Bounds.{back}
+use Rattle.lists.proofs.Loops.{pairs-none, pairs-more, pairs-end, pairs-fails}
+use Rattle.layout.proofs.Elements.{back}
 
 -- ---- one variable
 module _ (lower upper bottom top : ℤ) (f : SFits w64 lower) (g : SFits w64 bottom) where

@@ -1,8 +1,6 @@
 -- Laws of the tests of a search state.
-pub mod Loops
 pub mod Sizes
 pub mod Numbers
-pub mod Bounds
 pub mod Reasons
 pub mod Inside
 pub mod LevelLoops

@@ -24,8 +24,8 @@ use Rattle.state.specs.declared.Status.{Status}
 use Rattle.state.specs.declared.Status.the-variants.{Undecided, Infeasible, Solved}
 use Rattle.state.proofs.Cores.{kept-rows}
 use Rattle.validate.specs.Sizes.{Sized}
-use Rattle.validate.proofs.Loops.{some-none, some-more, some-end, some-found}
-use Rattle.validate.proofs.Bounds.{back}
+use Rattle.lists.proofs.Loops.{some-none, some-more, some-end, some-found}
+use Rattle.layout.proofs.Elements.{back}
 use Rattle.validate.proofs.LevelLoops.{level-passed}
 use Rattle.validate.proofs.Views.{levels-view}
 

@@ -9,7 +9,7 @@ use borrow.Author.Tests.{eq-eqb, ne-eqb}
 use Rattle.model.specs.Lists.{tab, allPairs}
 use Rattle.state.specs.View.{storedNumber}
 use Rattle.validate.specs.Sizes.{numberFrom}
-use Rattle.validate.proofs.Loops.{pairs-none, pairs-more, pairs-end, pairs-fails}
+use Rattle.lists.proofs.Loops.{pairs-none, pairs-more, pairs-end, pairs-fails}
 
 -- the first p numbers follow one another
 unfoldable pub numbersTo : List ℕ → ℕ → ℕ → Bool

@@ -10,7 +10,7 @@ use borrow.Author.Tests.{le-leb, eq-eqb, ne-eqb, not-true, not-false}
 use Rattle.model.specs.Lists.{tab, allOf}
 use Rattle.model.specs.Validity.{reasonValid, reasonsValid}
 use Rattle.state.specs.View.{reasonOf, reasonsIn, domainReason, decisionReason, flippedReason}
-use Rattle.validate.proofs.Loops.{every-none, every-more, every-end, every-fails}
+use Rattle.lists.proofs.Loops.{every-none, every-more, every-end, every-fails}
 
 -- ---- one reason
 module _ (k last : ℕ) where

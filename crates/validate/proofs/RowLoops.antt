@@ -1,12 +1,11 @@
 -- The loops over the kept constraints.
 use Prim.Native.Nat.{ℕ, _+_, _*_, _<_, _≤_}
 use native.Mathlib.Omega.{arith}
-use mathlib.Core.Bool.{Bool, true, false, not}
+use mathlib.Core.Bool.{Bool, true, false}
 use mathlib.Core.List.{List}
 use mathlib.Core.Path.{_≡_, sym, _∙_}
 use lib.IntN.{ℤ}
 use lib.ListN.{length}
-use borrow.Author.Tests.{not-true, not-false}
 use Rattle.model.specs.Lists.{tab, allOf, anyOf}
 use Rattle.model.specs.Ranges.{maxVariables}
 use Rattle.model.specs.Constraint.{Box, inRange, falsified}
@@ -14,26 +13,10 @@ use Rattle.model.specs.Validity.{falsifies}
 use Rattle.layout.specs.Rows.{rowLength, constraintAt, rowAt}
 use Rattle.linear.specs.Ranges.{RowFits}
 use Rattle.linear.proofs.Ranges.{row-fits}
-use Rattle.validate.proofs.Loops.{every-none, every-more, every-end, every-fails, every-at, some-none, some-more, some-end, some-found}
+use Rattle.lists.proofs.Loops.{every-at, some-none, some-more, some-end, some-found}
 
--- ---- ranges
+-- ---- a row of those that passed
 module _ (n : ℕ) (rows : List ℤ) where
-  pub range-none : allOf inRange (tab (rowAt n rows) 0 0) ≡ true
-  range-none = every-none inRange (rowAt n rows)
-
-  pub range-end : (count j : ℕ) → count ≤ j → j ≤ count → allOf inRange (tab (rowAt n rows) 0 j) ≡ true → true ≡ allOf inRange (tab (rowAt n rows) 0 count)
-  range-end count j l h a = every-end inRange (rowAt n rows) count j l h a
-
-  module _ (j : ℕ) (r : Bool) (t : r ≡ inRange (constraintAt n rows (rowLength * j))) where
-    pub range-more : allOf inRange (tab (rowAt n rows) 0 j) ≡ true → not r ≡ false → allOf inRange (tab (rowAt n rows) 0 (j + 1)) ≡ true
-    unfolding rowAt
-    range-more a h = every-more inRange (rowAt n rows) j a (sym t ∙ not-false r h)
-
-    pub range-fails : (count : ℕ) → j < count → not r ≡ true → false ≡ allOf inRange (tab (rowAt n rows) 0 count)
-    unfolding rowAt
-    range-fails count l h = every-fails inRange (rowAt n rows) count j l (sym t ∙ not-true r h)
-
-  -- a row of those that passed
   pub row-passed : (count j : ℕ) → n ≤ maxVariables → rowLength * count ≤ length rows → allOf inRange (tab (rowAt n rows) 0 count) ≡ true → j < count →
       RowFits n rows (rowLength * j)
   unfolding rowAt

@@ -1,12 +1,13 @@
 -- The whole test, part by part: each module adds a part that passed, as the code knows it.
 use Prim.Native.Nat.{ℕ, _+_, _-_}
 use mathlib.Core.Bool.{Bool, true, false, not, _&&_, and-true as and-one}
-use mathlib.Core.Path.{_≡_, sym, _∙_}
+use mathlib.Core.Path.{_≡_, _∙_}
 use borrow.Author.Tests.{not-true, not-false}
 use Rattle.model.specs.Lists.{tab, all, allOf}
 use Rattle.model.specs.Ranges.{maxCuts}
 use Rattle.model.specs.Constraint.{inRange}
 use Rattle.model.specs.Validity.{levelsValid, statusValid, valid}
+use Rattle.lists.proofs.Bools.{said-yes}
 use Rattle.layout.specs.Rows.{rowAt}
 use Rattle.state.specs.View.{keptCuts, statusOf, coreOf, view}
 use Rattle.state.specs.declared.Search.{Search}
@@ -34,7 +35,7 @@ tests-view s =
 
 -- that the levels passed, as the status asks it
 pub levels-passed : (s : Search) {r : Bool} → r ≡ levelsTo (s .n) (s .m + s .made) (s .levels) (s .depth + 1) → not r ≡ false → levelsValid (coreOf s) ≡ true
-levels-passed s {r} t h = levels-view s ∙ sym t ∙ not-false r h
+levels-passed s t h = levels-view s ∙ said-yes t h
 
 module _ (s : Search) (r₁ : Bool) (t₁ : r₁ ≡ sizesValid (s .n) (s .m) (s .budget) (s .conflicts) (s .made) (s .depth)) where
   pub refuse-sizes : not r₁ ≡ true → false ≡ valid (view s)
@@ -43,7 +44,7 @@ module _ (s : Search) (r₁ : Bool) (t₁ : r₁ ≡ sizesValid (s .n) (s .m) (s
 
   module _ (h₁ : not r₁ ≡ false) where
     pub sizes-passed : Sized s
-    sizes-passed = sized s (sym t₁ ∙ not-false r₁ h₁)
+    sizes-passed = sized s (said-yes t₁ h₁)
 
     module _ (k : ℕ) (e : k ≡ keptCuts (s .made)) (r₂ : Bool) (t₂ : r₂ ≡ allOf inRange (tab (rowAt (s .n) (s .rows)) 0 (s .m + k))) where
       pub refuse-constraints : not r₂ ≡ true → false ≡ valid (view s)

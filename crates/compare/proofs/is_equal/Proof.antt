@@ -2,15 +2,16 @@
 use Prim.Native.Nat.{_≤_, _-_}
 use native.Mathlib.Omega.{arith}
 use mathlib.Core.Bool.{true, false}
-use mathlib.Core.Path.{_≡_, ap₂}
+use mathlib.Core.Path.{_≡_, _∙_, ap₂}
 use borrow.Author.Needs.{needs, sfits-of}
 use denote.Ref.{now}
 use mir.Facts.{toZ-ofZ}
 use Rattle.model.specs.Lists.{tab, all}
 use Rattle.model.specs.Constraint.{equalℤ}
+use Rattle.lists.proofs.Bools.{said-no, said-yes}
 use Rattle.lists.proofs.All.{all-none, all-more}
 use Rattle.layout.specs.Rows.{numberIn, cell}
-use Rattle.compare.proofs.Tests.{said-no, said-yes, sameAt, differ-first, differ-at, all-same}
+use Rattle.compare.proofs.Tests.{sameAt, differ-first, differ-at, all-same}
 use Rattle.compare.proofs.is_equal.Statement.{statement}
 use Rattle.compare.proofs.is_equal.Tie as tie
 
@@ -40,13 +41,13 @@ returns : tie.Need-returns Inv-loop μ-loop
 unfolding numberIn
 returns c =
     let a = c .before .before .before .before .args in
-    let e = said-no (c .before .is-same .ensures) (ap₂ equalℤ (toZ-ofZ (sfits-of (c .before .before .before .is-same-arg .given))) (toZ-ofZ (sfits-of (c .before .before .is-same-arg2 .given)))) (c .if1 .taken) in
+    let e = said-no (c .before .is-same .ensures ∙ ap₂ equalℤ (toZ-ofZ (sfits-of (c .before .before .before .is-same-arg .given))) (toZ-ofZ (sfits-of (c .before .before .is-same-arg2 .given)))) (c .if1 .taken) in
     differ-first (a .n) (now (a .a)) (a .at) (now (a .b)) (a .bt) e
 
 loop-holds : tie.Need-loop-holds Inv-loop μ-loop
 unfolding numberIn
 loop-holds c =
-    let e = said-yes (c .before .is-same .ensures) (ap₂ equalℤ (toZ-ofZ (sfits-of (c .before .before .before .is-same-arg .given))) (toZ-ofZ (sfits-of (c .before .before .is-same-arg2 .given)))) (c .if1 .left) in
+    let e = said-yes (c .before .is-same .ensures ∙ ap₂ equalℤ (toZ-ofZ (sfits-of (c .before .before .before .is-same-arg .given))) (toZ-ofZ (sfits-of (c .before .before .is-same-arg2 .given)))) (c .if1 .left) in
     (omega arith, e, all-none _)
 
 add-is-same : tie.Need-add-is-same Inv-loop μ-loop
@@ -82,7 +83,7 @@ returns-2 c =
     let l = c .before .before .before .before .before in
     let a = l .before .before .before .before .before .args in
     let e : sameAt (now (a .a)) (a .at) (now (a .b)) (a .bt) (l .loop .k) ≡ false =
-    said-no (c .before .is-same2 .ensures) (ap₂ equalℤ (toZ-ofZ (sfits-of (c .before .before .before .is-same-arg3 .given))) (toZ-ofZ (sfits-of (c .before .before .is-same-arg4 .given)))) (c .if2 .taken) in
+    said-no (c .before .is-same2 .ensures ∙ ap₂ equalℤ (toZ-ofZ (sfits-of (c .before .before .before .is-same-arg3 .given))) (toZ-ofZ (sfits-of (c .before .before .is-same-arg4 .given)))) (c .if2 .taken) in
     differ-at (a .n) (now (a .a)) (a .at) (now (a .b)) (a .bt) (l .loop .k) (omega arith) e
 
 add-k : tie.Need-add-k Inv-loop μ-loop
@@ -95,7 +96,7 @@ loop-again : tie.Need-loop-again Inv-loop μ-loop
 unfolding sameAt cell numberIn
 loop-again c =
     let l = c .before .before .before .before .before in
-    let e = said-yes (c .before .is-same2 .ensures) (ap₂ equalℤ (toZ-ofZ (sfits-of (c .before .before .before .is-same-arg3 .given))) (toZ-ofZ (sfits-of (c .before .before .is-same-arg4 .given)))) (c .if2 .left) in
+    let e = said-yes (c .before .is-same2 .ensures ∙ ap₂ equalℤ (toZ-ofZ (sfits-of (c .before .before .before .is-same-arg3 .given))) (toZ-ofZ (sfits-of (c .before .before .is-same-arg4 .given)))) (c .if2 .left) in
     (omega arith, l .loop .inv .1, all-more _ (l .loop .k) (l .loop .inv .2) e)
 
 returns-3 : tie.Need-returns-3 Inv-loop μ-loop

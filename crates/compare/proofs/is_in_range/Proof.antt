@@ -2,15 +2,16 @@
 use Prim.Native.Nat.{_≤_, _-_}
 use native.Mathlib.Omega.{arith}
 use mathlib.Core.Bool.{true, false}
-use mathlib.Core.Path.{_≡_, ap}
+use mathlib.Core.Path.{_≡_, _∙_, ap}
 use borrow.Author.Needs.{needs, sfits-of}
 use denote.Ref.{now}
 use mir.Facts.{toZ-ofZ}
 use Rattle.model.specs.Ranges.{within, maxCoefficient}
 use Rattle.model.specs.Lists.{tab, all}
+use Rattle.lists.proofs.Bools.{said-no, said-yes}
 use Rattle.lists.proofs.All.{all-none, all-more}
 use Rattle.layout.specs.Rows.{numberIn, cell}
-use Rattle.compare.proofs.Tests.{said-no, said-yes, smallAt, out-first, out-at, all-in}
+use Rattle.compare.proofs.Tests.{smallAt, out-first, out-at, all-in}
 use Rattle.compare.proofs.is_in_range.Statement.{statement}
 use Rattle.compare.proofs.is_in_range.Tie as tie
 
@@ -34,13 +35,13 @@ returns : tie.Need-returns Inv-loop μ-loop
 unfolding numberIn
 returns c =
     let s = c .before .before .before in
-    let e = said-no (c .before .is-small .ensures) (ap (within maxCoefficient) (toZ-ofZ (sfits-of (c .before .before .is-small-arg .given)))) (c .if1 .taken) in
+    let e = said-no (c .before .is-small .ensures ∙ ap (within maxCoefficient) (toZ-ofZ (sfits-of (c .before .before .is-small-arg .given)))) (c .if1 .taken) in
     out-first (s .args .n) (now (s .args .rows)) (s .args .start) e
 
 loop-holds : tie.Need-loop-holds Inv-loop μ-loop
 unfolding numberIn
 loop-holds c =
-    let e = said-yes (c .before .is-small .ensures) (ap (within maxCoefficient) (toZ-ofZ (sfits-of (c .before .before .is-small-arg .given)))) (c .if1 .left) in
+    let e = said-yes (c .before .is-small .ensures ∙ ap (within maxCoefficient) (toZ-ofZ (sfits-of (c .before .before .is-small-arg .given)))) (c .if1 .left) in
     (omega arith, e, all-none _)
 
 add-is-small : tie.Need-add-is-small Inv-loop μ-loop
@@ -64,7 +65,7 @@ returns-2 c =
     let l = c .before .before .before .before in
     let s = l .before .before .before .before in
     let e : smallAt (now (s .args .rows)) (s .args .start) (l .loop .i) ≡ false =
-    said-no (c .before .is-small2 .ensures) (ap (within maxCoefficient) (toZ-ofZ (sfits-of (c .before .before .is-small-arg2 .given)))) (c .if2 .taken) in
+    said-no (c .before .is-small2 .ensures ∙ ap (within maxCoefficient) (toZ-ofZ (sfits-of (c .before .before .is-small-arg2 .given)))) (c .if2 .taken) in
     out-at (s .args .n) (now (s .args .rows)) (s .args .start) (l .loop .i) (omega arith) e
 
 add-i : tie.Need-add-i Inv-loop μ-loop
@@ -77,7 +78,7 @@ loop-again : tie.Need-loop-again Inv-loop μ-loop
 unfolding smallAt cell numberIn
 loop-again c =
     let l = c .before .before .before .before in
-    let e = said-yes (c .before .is-small2 .ensures) (ap (within maxCoefficient) (toZ-ofZ (sfits-of (c .before .before .is-small-arg2 .given)))) (c .if2 .left) in
+    let e = said-yes (c .before .is-small2 .ensures ∙ ap (within maxCoefficient) (toZ-ofZ (sfits-of (c .before .before .is-small-arg2 .given)))) (c .if2 .left) in
     (omega arith, l .loop .inv .1, all-more _ (l .loop .i) (l .loop .inv .2) e)
 
 returns-3 : tie.Need-returns-3 Inv-loop μ-loop

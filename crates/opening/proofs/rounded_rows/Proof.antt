@@ -5,7 +5,8 @@ use mathlib.Core.Path.{_≡_}
 use borrow.Author.Needs.{needs}
 use lib.IntN.{pos}
 use lib.ListN.{replicate, length-replicate}
-use Rattle.opening.specs.Rounded.{cells, RowsRounded}
+use Rattle.rows.specs.Rows.{rowsLength}
+use Rattle.opening.specs.Rounded.{RowsRounded}
 use Rattle.opening.proofs.Rows.{row-light, round-none, all-rounded}
 use Rattle.opening.proofs.rounded_rows.Statement.{statement}
 use Rattle.opening.proofs.rounded_rows.Tie as tie
@@ -17,7 +18,7 @@ abbrev μ-loop : tie.MeasureT-loop
 μ-loop p n m rows₀ j₀ rows j = p .m - j
 
 loop-holds : tie.Need-loop-holds Inv-loop μ-loop
-loop-holds c = (omega arith, round-none _ _ (replicate cells (pos 0)) (length-replicate cells (pos 0)))
+loop-holds c = (omega arith, round-none _ _ (replicate rowsLength (pos 0)) (length-replicate rowsLength (pos 0)))
 
 round-row-requires : tie.Need-round-row-requires Inv-loop μ-loop
 round-row-requires c κs =

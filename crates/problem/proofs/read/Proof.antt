@@ -1,5 +1,6 @@
 use borrow.Author.Needs.{needs}
-use Rattle.problem.proofs.ReadCascade.{pass, truncated, has-head, bad-checksum, bad-magic, size-range, blocks, domain-range, coefficient-range, nonzero-padding, accepted}
+use Rattle.lists.proofs.Bools.{said-yes}
+use Rattle.problem.proofs.ReadCascade.{truncated, has-head, bad-checksum, bad-magic, size-range, blocks, domain-range, coefficient-range, nonzero-padding, accepted}
 use Rattle.problem.proofs.read.Statement.{statement}
 use Rattle.problem.proofs.read.Tie as tie
 
@@ -19,28 +20,28 @@ refused-requires-2 : tie.Need-refused-requires-2
 refused-requires-2 c κs = search needs
 
 returns-2 : tie.Need-returns-2
-returns-2 c = search (bad-checksum, pass)
+returns-2 c = search (bad-checksum, said-yes)
 
 magic-matches-requires : tie.Need-magic-matches-requires
-magic-matches-requires c κs = search (needs, has-head, pass)
+magic-matches-requires c κs = search (needs, has-head, said-yes)
 
 refused-requires-3 : tie.Need-refused-requires-3
 refused-requires-3 c κs = search needs
 
 returns-3 : tie.Need-returns-3
-returns-3 c = search (bad-magic, pass)
+returns-3 c = search (bad-magic, said-yes)
 
 sizes-match-requires : tie.Need-sizes-match-requires
-sizes-match-requires c κs = search (needs, has-head, pass)
+sizes-match-requires c κs = search (needs, has-head, said-yes)
 
 refused-requires-4 : tie.Need-refused-requires-4
 refused-requires-4 c κs = search needs
 
 returns-4 : tie.Need-returns-4
-returns-4 c = search (size-range, pass)
+returns-4 c = search (size-range, said-yes)
 
 problem-in-requires : tie.Need-problem-in-requires
-problem-in-requires c κs = blocks _ (pass _ _ (c .before .sizes-match .ensures) (c .if4 .left))
+problem-in-requires c κs = blocks _ (said-yes (c .before .sizes-match .ensures) (c .if4 .left))
 
 domain-in-range-requires : tie.Need-domain-in-range-requires
 domain-in-range-requires c κs = search needs
@@ -49,7 +50,7 @@ refused-requires-5 : tie.Need-refused-requires-5
 refused-requires-5 c κs = search needs
 
 returns-5 : tie.Need-returns-5
-returns-5 c = search (domain-range, pass)
+returns-5 c = search (domain-range, said-yes)
 
 constraints-in-range-requires : tie.Need-constraints-in-range-requires
 constraints-in-range-requires c κs = search needs
@@ -58,28 +59,28 @@ refused-requires-6 : tie.Need-refused-requires-6
 refused-requires-6 c κs = search needs
 
 returns-6 : tie.Need-returns-6
-returns-6 c = search (coefficient-range, pass)
+returns-6 c = search (coefficient-range, said-yes)
 
 padding-zero-requires : tie.Need-padding-zero-requires
-padding-zero-requires c κs = blocks _ (pass _ _ (c .before .before .before .before .before .before .sizes-match .ensures) (c .before .before .before .before .before .if4 .left))
+padding-zero-requires c κs = blocks _ (said-yes (c .before .before .before .before .before .before .sizes-match .ensures) (c .before .before .before .before .before .if4 .left))
 
 refused-requires-7 : tie.Need-refused-requires-7
 refused-requires-7 c κs = search needs
 
 returns-7 : tie.Need-returns-7
-returns-7 c = search (nonzero-padding, pass)
+returns-7 c = search (nonzero-padding, said-yes)
 
 returns-8 : tie.Need-returns-8
 returns-8 c =
     accepted _
-    (pass _ _ (c .before .before .before .before .before .before .before .before .sizes-match .ensures) (c .before .before .before .before .before .before .before .if4 .left))
+    (said-yes (c .before .before .before .before .before .before .before .before .sizes-match .ensures) (c .before .before .before .before .before .before .before .if4 .left))
     _
     (c .before .before .before .before .before .before .problem-in .ensures .0)
-    (pass _ _ (c .before .before .before .before .before .before .before .before .before .before .before .before .before .before .is-whole .ensures) (c .before .before .before .before .before .before .before .before .before .before .before .before .before .if1 .left))
-    (pass _ _ (c .before .before .before .before .before .before .before .before .before .before .before .before .checks-match .ensures) (c .before .before .before .before .before .before .before .before .before .before .before .if2 .left))
-    (pass _ _ (c .before .before .before .before .before .before .before .before .before .before .magic-matches .ensures) (c .before .before .before .before .before .before .before .before .before .if3 .left))
-    (pass _ _ (c .before .before .before .before .before .domain-in-range .ensures) (c .before .before .before .before .if5 .left))
-    (pass _ _ (c .before .before .before .constraints-in-range .ensures) (c .before .before .if6 .left))
+    (said-yes (c .before .before .before .before .before .before .before .before .before .before .before .before .before .before .is-whole .ensures) (c .before .before .before .before .before .before .before .before .before .before .before .before .before .if1 .left))
+    (said-yes (c .before .before .before .before .before .before .before .before .before .before .before .before .checks-match .ensures) (c .before .before .before .before .before .before .before .before .before .before .before .if2 .left))
+    (said-yes (c .before .before .before .before .before .before .before .before .before .before .magic-matches .ensures) (c .before .before .before .before .before .before .before .before .before .if3 .left))
+    (said-yes (c .before .before .before .before .before .domain-in-range .ensures) (c .before .before .before .before .if5 .left))
+    (said-yes (c .before .before .before .constraints-in-range .ensures) (c .before .before .if6 .left))
     _
     (c .before .padding-zero .ensures)
     (c .if7 .left)

@@ -1,5 +1,5 @@
 use borrow.Author.Needs.{needs}
-use Rattle.problem.proofs.ReadCascade.{pass}
+use Rattle.lists.proofs.Bools.{said-yes}
 use Rattle.problem.proofs.WriteCascade.{sized, variables-few, constraints-few, size-range, domain-range, coefficient-range, short-buffer, writable, done}
 use Rattle.problem.proofs.write.Statement.{statement}
 use Rattle.problem.proofs.write.Tie as tie
@@ -20,25 +20,25 @@ constraints-in-range-requires : tie.Need-constraints-in-range-requires
 constraints-in-range-requires c κs = search (needs, variables-few, constraints-few, sized)
 
 returns-3 : tie.Need-returns-3
-returns-3 c = search (coefficient-range, sized, pass)
+returns-3 c = search (coefficient-range, sized, said-yes)
 
 returns-4 : tie.Need-returns-4
-returns-4 c = search (short-buffer, sized, pass)
+returns-4 c = search (short-buffer, sized, said-yes)
 
 write-blocks-requires : tie.Need-write-blocks-requires
 write-blocks-requires c κs =
     writable _
     (sized _ _ (c .before .before .before .before .before .before .before .sizes-in-range .ensures) (c .before .before .before .before .before .before .if1 .left))
     _
-    (pass _ _ (c .before .before .before .before .before .domain-in-range .ensures) (c .before .before .before .before .if2 .left))
-    (pass _ _ (c .before .before .before .constraints-in-range .ensures) (c .before .before .if3 .left))
+    (said-yes (c .before .before .before .before .before .domain-in-range .ensures) (c .before .before .before .before .if2 .left))
+    (said-yes (c .before .before .before .constraints-in-range .ensures) (c .before .before .if3 .left))
     (c .before .if4 .left)
 
 same-length : tie.Need-same-length
 same-length c = search needs
 
 returns-5 : tie.Need-returns-5
-returns-5 c = search (done, sized, pass)
+returns-5 c = search (done, sized, said-yes)
 
 pub write-spec : {M : Type 1} → statement M
 write-spec =

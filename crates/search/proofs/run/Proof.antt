@@ -1,9 +1,8 @@
 -- `search::run` meets its contract. Assumes nothing.
 use borrow.Author.Needs.{needs}
 use native.Mathlib.Omega.{arith}
-use Rattle.problem.proofs.ReadCascade.{pass, fail}
 use mathlib.Core.Path.{refl}
-use Rattle.lists.proofs.Bools.{clash}
+use Rattle.lists.proofs.Bools.{clash, said-no, said-yes}
 use Rattle.search.proofs.Proceeding.{sizes, after-sizes}
 use Rattle.search.proofs.Showing.{valid-view, run-shown, run-refused}
 use Rattle.search.proofs.run.Statement.{statement}
@@ -19,26 +18,26 @@ without-blocks-requires : tie.Need-without-blocks-requires
 without-blocks-requires c κs = search needs
 
 returns : tie.Need-returns
-returns c = rw (c .without-blocks .ensures, c .before .refused .ensures) (run-refused _ (fail _ _ (c .before .before .before .is-valid .ensures) (c .before .before .if1 .taken)))
+returns c = rw (c .without-blocks .ensures, c .before .refused .ensures) (run-refused _ (said-no (c .before .before .before .is-valid .ensures) (c .before .before .if1 .taken)))
 
 sub-limit : tie.Need-sub-limit
-sub-limit c = sizes _ (valid-view _ (pass _ _ (c .before .before .is-valid .ensures) (c .before .if1 .left))) .afford
+sub-limit c = sizes _ (valid-view _ (said-yes (c .before .before .is-valid .ensures) (c .before .if1 .left))) .afford
 
 add-limit : tie.Need-add-limit
 add-limit c =
-    let z = sizes _ (valid-view _ (pass _ _ (c .before .before .is-valid .ensures) (c .before .if1 .left))) in
+    let z = sizes _ (valid-view _ (said-yes (c .before .before .is-valid .ensures) (c .before .if1 .left))) in
     omega (arith, z .limited)
 
 slice-aggregate-proceed : tie.Need-slice-aggregate-proceed
 slice-aggregate-proceed c = search needs
 
 proceed-requires : tie.Need-proceed-requires
-proceed-requires c κs = (valid-view _ (pass _ _ (c .before .before .before .is-valid .ensures) (c .before .before .if1 .left)), λ k. clash k refl)
+proceed-requires c κs = (valid-view _ (said-yes (c .before .before .before .is-valid .ensures) (c .before .before .if1 .left)), λ k. clash k refl)
 
 answer-requires : tie.Need-answer-requires
 answer-requires c κs =
     let e = c .before .before .before .before in
-    let z = after-sizes (valid-view _ (pass _ _ (e .before .is-valid .ensures) (e .if1 .left))) (c .before .proceed .ensures) in
+    let z = after-sizes (valid-view _ (said-yes (e .before .is-valid .ensures) (e .if1 .left))) (c .before .proceed .ensures) in
     (z .few, z .shallow)
 
 without-blocks-requires-2 : tie.Need-without-blocks-requires-2
@@ -47,7 +46,7 @@ without-blocks-requires-2 c κs = search needs
 returns-2 : tie.Need-returns-2
 returns-2 c =
     let e = c .before .before .before .before .before .before in
-    rw (c .without-blocks2 .ensures, c .before .answer .ensures) (run-shown _ _ _ _ (pass _ _ (e .before .is-valid .ensures) (e .if1 .left)) (c .before .before .before .proceed .ensures))
+    rw (c .without-blocks2 .ensures, c .before .answer .ensures) (run-shown _ _ _ _ (said-yes (e .before .is-valid .ensures) (e .if1 .left)) (c .before .before .before .proceed .ensures))
 
 pub run-spec : {M : Type 1} → statement M
 run-spec =

@@ -1,7 +1,7 @@
 -- `search::trace` meets its contract. Assumes nothing.
 use borrow.Author.Needs.{needs}
 use native.Mathlib.Omega.{arith}
-use Rattle.problem.proofs.ReadCascade.{pass, fail}
+use Rattle.lists.proofs.Bools.{said-no, said-yes}
 use Rattle.search.proofs.Proceeding.{after-sizes}
 use Rattle.search.proofs.Showing.{valid-view, trace-shown, trace-refused}
 use Rattle.search.proofs.trace.Statement.{statement}
@@ -14,15 +14,15 @@ refused-requires : tie.Need-refused-requires
 refused-requires c κs = search needs
 
 returns : tie.Need-returns
-returns c = rw (c .refused .ensures) (trace-refused _ _ (fail _ _ (c .before .before .is-valid .ensures) (c .before .if1 .taken)))
+returns c = rw (c .refused .ensures) (trace-refused _ _ (said-no (c .before .before .is-valid .ensures) (c .before .if1 .taken)))
 
 proceed-requires : tie.Need-proceed-requires
-proceed-requires c κs = (valid-view _ (pass _ _ (c .before .before .is-valid .ensures) (c .before .if1 .left)), λ k. omega arith)
+proceed-requires c κs = (valid-view _ (said-yes (c .before .before .is-valid .ensures) (c .before .if1 .left)), λ k. omega arith)
 
 answer-requires : tie.Need-answer-requires
 answer-requires c κs =
     let e = c .before .before .before .before in
-    let z = after-sizes (valid-view _ (pass _ _ (e .before .is-valid .ensures) (e .if1 .left))) (c .before .before .proceed .ensures) in
+    let z = after-sizes (valid-view _ (said-yes (e .before .is-valid .ensures) (e .if1 .left))) (c .before .before .proceed .ensures) in
     (z .few, z .shallow)
 
 same-length : tie.Need-same-length
@@ -31,7 +31,7 @@ same-length c = search needs
 returns-2 : tie.Need-returns-2
 returns-2 c =
     let e = c .before .before .before .before .before in
-    rw (c .answer .ensures) (trace-shown _ _ _ _ (pass _ _ (e .before .is-valid .ensures) (e .if1 .left)) (c .before .before .before .proceed .ensures))
+    rw (c .answer .ensures) (trace-shown _ _ _ _ (said-yes (e .before .is-valid .ensures) (e .if1 .left)) (c .before .before .before .proceed .ensures))
 
 pub trace-spec : {M : Type 1} → statement M
 trace-spec =

@@ -1,12 +1,12 @@
 -- `validate::is_valid` meets its contract: each part of the test in its turn. Assumes nothing.
 use Prim.Native.Nat.{_+_}
 use Rattle.validate.proofs.LevelLoops.{levelsTo}
-use Rattle.validate.proofs.Loops.{said-yes}
+use Rattle.lists.proofs.Bools.{said-yes}
 use Rattle.validate.proofs.Numbers.{numbersTo}
 use Rattle.validate.proofs.Valid.{last-status, levels-passed, refuse-constraints, refuse-levels, refuse-nested, refuse-numbers, refuse-sizes, sizes-passed}
 use borrow.Author.Needs.{needs}
 use lib.ListN.{length}
-use mathlib.Core.Path.{_≡_, ap, refl}
+use mathlib.Core.Path.{_≡_, ap}
 use native.Mathlib.Omega.{arith}
 use Rattle.validate.proofs.is_valid.Statement.{statement}
 use Rattle.validate.proofs.is_valid.Tie as tie
@@ -89,7 +89,7 @@ is-status-valid-requires c κs =
     let s = e .before .before .args .t1 in
     let z = sizes-passed s _ (e .before .are-sizes-valid .ensures) (e .if1 .left) in
     let count = ap (_+_ (s .m)) (c .before .before .before .before .before .before .before .before .before .before .before .before .before .before .before .kept-cuts .ensures .0) in
-    let rows = said-yes (c .before .before .before .before .before .before .before .before .before .before .before .are-constraints-valid .ensures) refl (c .before .before .before .before .before .before .before .before .before .before .if2 .left) in
+    let rows = said-yes (c .before .before .before .before .before .before .before .before .before .before .before .are-constraints-valid .ensures) (c .before .before .before .before .before .before .before .before .before .before .if2 .left) in
     ((z, count), (rows, levels-passed s (c .before .before .before .are-levels-valid .ensures) (c .before .before .if4 .left)))
 
 returns-6 : tie.Need-returns-6

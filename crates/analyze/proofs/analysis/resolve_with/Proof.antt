@@ -3,12 +3,11 @@ use Prim.Native.Nat.{_+_, _*_}
 use native.Mathlib.Omega.{arith}
 use mathlib.Core.Path.{_≡_, refl, ap₂, sym, _∙_}
 use mathlib.Core.Bool.{true}
-use borrow.Author.Tests.{not-true, not-false}
 use borrow.Author.Needs.{needs}
 use denote.Ref.{now}
 use Rattle.model.specs.Constraint.{Constraint, coefficientAt, opposite, inRange}
 use Rattle.model.specs.Conflict.{Resolved}
-use Rattle.lists.proofs.Bools.{true-of}
+use Rattle.lists.proofs.Bools.{true-of, said-no, said-yes}
 use Rattle.layout.specs.Rows.{rowLength, constraintAt, rowAt}
 use Rattle.layout.proofs.Rows.{coefficient-at}
 use Rattle.layout.proofs.Elements.{cell-read}
@@ -56,14 +55,14 @@ module _ (c : tie.After-is-opposite) where
   abbrev J : Constraint
   J = rowAt (at-start .args .n) (at-start .args .rows .now) (at-start .args .j)
 
-  signs : opposite (coefficientAt F (at-start .args .i)) (coefficientAt J (at-start .args .i)) ≡ c .is-opposite .result
+  signs : c .is-opposite .result ≡ opposite (coefficientAt F (at-start .args .i)) (coefficientAt J (at-start .args .i))
   unfolding rowAt
   signs =
       let s = at-start .args in
       let start = rowLength * s .j in
       let f = cell-read (s .f .now) 0 (s .i) (s .i + 1) (omega arith) (c .before .before .is-opposite-arg .given) ∙ sym (coefficient-at (s .n) (s .f .now) 0 (s .i) (at-start .pre .0)) in
       let j = cell-read (s .rows .now) start (s .i) (start + 1 + s .i) refl (c .before .is-opposite-arg2 .given) ∙ sym (coefficient-at (s .n) (s .rows .now) start (s .i) (at-start .pre .0)) in
-      sym (c .is-opposite .ensures ∙ ap₂ opposite f j)
+      c .is-opposite .ensures ∙ ap₂ opposite f j
 
   -- F as it was, where nothing is taken in
   untouched : {s : Resolved} → s ≡ record { cut = F; used = 0 } → ResolvedAs (at-start .args .n) s (at-start .args .f .now) 0
@@ -78,13 +77,13 @@ module _ (c : tie.After-is-in-range) where
   outcome = constraintAt (at-start signed .args .n) (c .before .before .resolve .result) 0
 
   opposite-signs : opposite (coefficientAt (F signed) (at-start signed .args .i)) (coefficientAt (J signed) (at-start signed .args .i)) ≡ true
-  opposite-signs = signs signed ∙ not-false _ (c .before .before .before .before .before .before .if1 .left)
+  opposite-signs = said-yes (signs signed) (c .before .before .before .before .before .before .if1 .left)
 
 outcome-range : (c : tie.Else2) → inRange (outcome (c .before)) ≡ true
-outcome-range c = sym (c .before .is-in-range .ensures) ∙ not-false _ (c .if2 .left)
+outcome-range c = said-yes (c .before .is-in-range .ensures) (c .if2 .left)
 
 returns : tie.Need-returns
-returns c = untouched (c .before) (with-alike _ _ _ _ _ (signs (c .before) ∙ not-true _ (c .if1 .taken)))
+returns c = untouched (c .before) (with-alike _ _ _ _ _ (said-no (signs (c .before)) (c .if1 .taken)))
 
 resolve-requires : tie.Need-resolve-requires
 unfolding rowAt
@@ -94,7 +93,7 @@ resolve-requires c κs =
     record {
       variable = s .pre .0;
       combinable = record { variables = q .variables; first-row = omega (arith, q .first-size); second-row = omega (arith, q .position, q .rows-size); first-range = q .first-range; second-range = q .second-range };
-      signs = signs (c .before .before .before .before) ∙ not-false _ (c .before .before .before .if1 .left);
+      signs = said-yes (signs (c .before .before .before .before)) (c .before .before .before .if1 .left);
     }
 
 slice-aggregate-is-in-range : tie.Need-slice-aggregate-is-in-range
@@ -107,7 +106,7 @@ returns-2 : tie.Need-returns-2
 unfolding rowAt
 returns-2 c =
     let r = c .before in
-    untouched (signed r) (with-large _ _ _ _ _ (outcome r) (opposite-signs r) (r .before .before .resolve .ensures) (sym (r .is-in-range .ensures) ∙ not-true _ (c .if2 .taken)))
+    untouched (signed r) (with-large _ _ _ _ _ (outcome r) (opposite-signs r) (r .before .before .resolve .ensures) (said-no (r .is-in-range .ensures) (c .if2 .taken)))
 
 slice-aggregate-is-falsified : tie.Need-slice-aggregate-is-falsified
 slice-aggregate-is-falsified c = search needs
@@ -122,14 +121,14 @@ unfolding rowAt
 returns-3 c =
     let r = c .before .before .before .before .before .before in
     untouched (signed r)
-    (with-holding _ _ _ _ _ (outcome r) (opposite-signs r) (r .before .before .resolve .ensures) (outcome-range (c .before .before .before .before .before)) (sym (c .before .is-falsified .ensures) ∙ not-true _ (c .if3 .taken)))
+    (with-holding _ _ _ _ _ (outcome r) (opposite-signs r) (r .before .before .resolve .ensures) (outcome-range (c .before .before .before .before .before)) (said-no (c .before .is-falsified .ensures) (c .if3 .taken)))
 
 returns-4 : tie.Need-returns-4
 unfolding rowAt
 returns-4 c =
     let r = c .before .before .before .before .before .before in
     record {
-      same = with-taken _ _ _ _ _ (outcome r) (opposite-signs r) (r .before .before .resolve .ensures) (outcome-range (c .before .before .before .before .before)) (sym (c .before .is-falsified .ensures) ∙ not-false _ (c .if3 .left));
+      same = with-taken _ _ _ _ _ (outcome r) (opposite-signs r) (r .before .before .resolve .ensures) (outcome-range (c .before .before .before .before .before)) (said-yes (c .before .is-falsified .ensures) (c .if3 .left));
       range = outcome-range (c .before .before .before .before .before);
       size = search needs;
     }

@@ -1,7 +1,6 @@
 -- `arithmetic::calls::falsified_over` meets its contract. Assumes nothing.
 use borrow.Author.Needs.{needs}
-use mathlib.Core.Path.{refl}
-use Rattle.compare.proofs.Tests.{said-yes}
+use borrow.Author.Tests.{not-false}
 use Rattle.arithmetic.proofs.calls.falsified_over.Statement.{statement}
 use Rattle.arithmetic.proofs.calls.falsified_over.Tie as tie
 
@@ -12,7 +11,7 @@ returns : tie.Need-returns
 returns c = search needs
 
 is-falsified-requires : tie.Need-is-falsified-requires
-is-falsified-requires c κs = c .before .is-measurable .ensures (said-yes refl refl (c .if1 .left))
+is-falsified-requires c κs = c .before .is-measurable .ensures (not-false _ (c .if1 .left))
 
 returns-2 : tie.Need-returns-2
 returns-2 c = search needs

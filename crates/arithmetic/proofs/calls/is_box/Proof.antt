@@ -2,7 +2,7 @@
 use borrow.Author.Needs.{needs}
 use Prim.Native.Nat.{ℕ, _≤_, _<_, _-_}
 use native.Mathlib.Omega.{arith}
-use mathlib.Core.Path.{_≡_, refl, ap}
+use mathlib.Core.Path.{refl, ap, _∙_}
 use borrow.Author.Needs.{sfits-of}
 use borrow.Author.Count.{below-more}
 use denote.Ref.{now}
@@ -11,10 +11,9 @@ use lib.ListN.{getD}
 use mir.Facts.{toZ-ofZ}
 use Rattle.model.specs.Ranges.{within}
 use Rattle.integer.specs.Size.{Within}
-use Rattle.lists.proofs.Bools.{clash}
+use Rattle.lists.proofs.Bools.{clash, said-yes}
 use Rattle.layout.specs.Rows.{numberIn}
 use Rattle.linear.specs.Ranges.{widestBound}
-use Rattle.compare.proofs.Tests.{said-yes}
 use Rattle.arithmetic.proofs.Bounds.{bound-in}
 use Rattle.arithmetic.proofs.calls.is_box.Statement.{statement}
 use Rattle.arithmetic.proofs.calls.is_box.Tie as tie
@@ -61,8 +60,8 @@ loop-less c = search needs
 loop-again : tie.Need-loop-again Inv-loop μ-loop
 unfolding numberIn
 loop-again c = let l = c .before .before .before .before .before .before .before in let a = l .before .args in
-    let e = bound-in _ (said-yes (c .before .before .before .before .is-bound .ensures) (ap (within widestBound) (toZ-ofZ (sfits-of (c .before .before .before .before .before .is-bound-arg .given)))) (c .before .before .before .if1 .left)) in
-    let f = bound-in _ (said-yes (c .before .is-bound2 .ensures) (ap (within widestBound) (toZ-ofZ (sfits-of (c .before .before .is-bound-arg2 .given)))) (c .if2 .left)) in
+    let e = bound-in _ (said-yes (c .before .before .before .before .is-bound .ensures ∙ ap (within widestBound) (toZ-ofZ (sfits-of (c .before .before .before .before .before .is-bound-arg .given)))) (c .before .before .before .if1 .left)) in
+    let f = bound-in _ (said-yes (c .before .is-bound2 .ensures ∙ ap (within widestBound) (toZ-ofZ (sfits-of (c .before .before .is-bound-arg2 .given)))) (c .if2 .left)) in
     (omega arith, below-more (λ k. Within widestBound (getD (now (a .lower)) k (pos 0))) (l .loop .i) (l .loop .inv .1) e, below-more (λ k. Within widestBound (getD (now (a .upper)) k (pos 0))) (l .loop .i) (l .loop .inv .2) f)
 
 returns-3 : tie.Need-returns-3 Inv-loop μ-loop

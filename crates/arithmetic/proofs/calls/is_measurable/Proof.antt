@@ -3,9 +3,8 @@ use borrow.Author.Needs.{needs}
 use native.Mathlib.Omega.{arith}
 use mathlib.Core.Path.{refl}
 use denote.Ref.{now}
-use Rattle.lists.proofs.Bools.{clash}
+use Rattle.lists.proofs.Bools.{clash, said-yes}
 use Rattle.linear.proofs.Ranges.{row-fits}
-use Rattle.compare.proofs.Tests.{said-yes}
 use Rattle.arithmetic.proofs.calls.is_measurable.Statement.{statement}
 use Rattle.arithmetic.proofs.calls.is_measurable.Tie as tie
 
@@ -33,7 +32,7 @@ is-box-requires c κs = search needs
 returns-6 : tie.Need-returns-6
 returns-6 c = λ e.
     let s = c .before .before .before .before .before .before .before .args in
-    (row-fits (s .n) (now (s .row)) 0 (omega arith) (omega arith) (said-yes (c .before .before .is-in-range .ensures) refl (c .before .if5 .left)), c .is-box .ensures e)
+    (row-fits (s .n) (now (s .row)) 0 (omega arith) (omega arith) (said-yes (c .before .before .is-in-range .ensures) (c .before .if5 .left)), c .is-box .ensures e)
 
 pub is-measurable-spec : {M : Type 1} → statement M
 is-measurable-spec =

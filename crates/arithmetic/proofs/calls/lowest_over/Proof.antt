@@ -1,7 +1,6 @@
 -- `arithmetic::calls::lowest_over` meets its contract. Assumes nothing.
 use borrow.Author.Needs.{needs}
-use mathlib.Core.Path.{refl}
-use Rattle.compare.proofs.Tests.{said-yes}
+use borrow.Author.Tests.{not-false}
 use Rattle.arithmetic.proofs.calls.lowest_over.Statement.{statement}
 use Rattle.arithmetic.proofs.calls.lowest_over.Tie as tie
 
@@ -12,7 +11,7 @@ returns : tie.Need-returns
 returns c = search needs
 
 min-activity-requires : tie.Need-min-activity-requires
-min-activity-requires c κs = c .before .is-measurable .ensures (said-yes refl refl (c .if1 .left))
+min-activity-requires c κs = c .before .is-measurable .ensures (not-false _ (c .if1 .left))
 
 returns-2 : tie.Need-returns-2
 returns-2 c = search needs

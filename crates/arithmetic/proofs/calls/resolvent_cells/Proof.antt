@@ -2,13 +2,13 @@
 use borrow.Author.Needs.{needs}
 use Prim.Native.Nat.{_+_, _<_}
 use native.Mathlib.Omega.{arith}
-use mathlib.Core.Path.{_≡_, refl, ap₂}
+use mathlib.Core.Path.{ap₂, _∙_}
 use denote.Ref.{now}
 use lib.Dec.{lit≤}
 use Rattle.model.specs.Constraint.{opposite}
 use Rattle.layout.proofs.Rows.{coefficient-at}
 use Rattle.layout.proofs.Elements.{cell-read}
-use Rattle.compare.proofs.Tests.{said-yes}
+use Rattle.lists.proofs.Bools.{said-yes}
 use Rattle.arithmetic.proofs.calls.resolvent_cells.Statement.{statement}
 use Rattle.arithmetic.proofs.calls.resolvent_cells.Tie as tie
 
@@ -55,15 +55,15 @@ resolve-requires : tie.Need-resolve-requires
 resolve-requires c κs =
     let s = c .before .before .before .before .before .before .before .before .before .before .before .before .before .args in
     let few : s .i < 3 = omega arith in
-    let e = said-yes (c .before .before .before .is-opposite .ensures) (ap₂ opposite (cell-read (now (s .f)) 0 (s .i) (1 + s .i) (omega arith) (c .before .before .before .before .before .is-opposite-arg .given)) (cell-read (now (s .j)) 0 (s .i) (1 + s .i) (omega arith) (c .before .before .before .before .is-opposite-arg2 .given))) (c .before .before .if4 .left) in
+    let e = said-yes (c .before .before .before .is-opposite .ensures ∙ ap₂ opposite (cell-read (now (s .f)) 0 (s .i) (1 + s .i) (omega arith) (c .before .before .before .before .before .is-opposite-arg .given)) (cell-read (now (s .j)) 0 (s .i) (1 + s .i) (omega arith) (c .before .before .before .before .is-opposite-arg2 .given))) (c .before .before .if4 .left) in
     record {
       variable = few;
       combinable = record {
         variables = lit≤ tt;
         first-row = search needs;
         second-row = search needs;
-        first-range = said-yes (c .before .before .before .before .before .before .before .before .before .before .is-in-range .ensures) refl (c .before .before .before .before .before .before .before .before .before .if2 .left);
-        second-range = said-yes (c .before .before .before .before .before .before .before .is-in-range2 .ensures) refl (c .before .before .before .before .before .before .if3 .left);
+        first-range = said-yes (c .before .before .before .before .before .before .before .before .before .before .is-in-range .ensures) (c .before .before .before .before .before .before .before .before .before .if2 .left);
+        second-range = said-yes (c .before .before .before .before .before .before .before .is-in-range2 .ensures) (c .before .before .before .before .before .before .if3 .left);
       };
       signs = rw (coefficient-at 3 (now (s .f)) 0 (s .i) few, coefficient-at 3 (now (s .j)) 0 (s .i) few) e;
     }

@@ -1,9 +1,8 @@
 -- `arithmetic::calls::rounded_cells` meets its contract. Assumes nothing.
 use borrow.Author.Needs.{needs}
-use mathlib.Core.Path.{refl}
 use lib.Dec.{lit≤}
 use Rattle.linear.proofs.Sizes.{range-sized}
-use Rattle.compare.proofs.Tests.{said-yes}
+use Rattle.lists.proofs.Bools.{said-yes}
 use Rattle.arithmetic.proofs.Bounds.{sized-combined}
 use Rattle.arithmetic.proofs.calls.rounded_cells.Statement.{statement}
 use Rattle.arithmetic.proofs.calls.rounded_cells.Tie as tie
@@ -18,7 +17,7 @@ returns : tie.Need-returns
 returns c = search needs
 
 round-requires : tie.Need-round-requires
-round-requires c κs = (lit≤ tt, sized-combined (range-sized _ (said-yes (c .before .is-in-range .ensures) refl (c .if1 .left))))
+round-requires c κs = (lit≤ tt, sized-combined (range-sized _ (said-yes (c .before .is-in-range .ensures) (c .if1 .left))))
 
 returns-2 : tie.Need-returns-2
 returns-2 c = search needs

@@ -1,5 +1,5 @@
 use borrow.Author.Needs.{needs}
-use Rattle.fields.proofs.Ranges.{lower-beyond, upper-beyond, in-order}
+use Rattle.layout.proofs.Ranges.{lower-beyond, upper-beyond, in-order}
 use Rattle.fields.proofs.range.bounds_in_range.Statement.{statement}
 use Rattle.fields.proofs.range.bounds_in_range.Tie as tie
 

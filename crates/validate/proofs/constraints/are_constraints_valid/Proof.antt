@@ -3,7 +3,7 @@ use Prim.Native.Nat.{_-_, _≤_}
 use Rattle.layout.specs.Rows.{rowAt}
 use Rattle.model.specs.Constraint.{inRange}
 use Rattle.model.specs.Lists.{allOf, tab}
-use Rattle.validate.proofs.RowLoops.{range-end, range-fails, range-more, range-none}
+use Rattle.layout.proofs.Ranges.{range-end, range-fails, range-more, range-none}
 use borrow.Author.Needs.{needs}
 use mathlib.Core.Bool.{true}
 use mathlib.Core.Path.{_≡_}

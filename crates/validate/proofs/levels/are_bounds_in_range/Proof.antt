@@ -1,5 +1,5 @@
 -- `validate::levels::are_bounds_in_range` meets its contract. Assumes nothing.
-use Rattle.validate.proofs.Bounds.{high-out, in-order, low-out}
+use Rattle.layout.proofs.Ranges.{lower-beyond, upper-beyond, in-order}
 use borrow.Author.Needs.{needs}
 use Rattle.validate.proofs.levels.are_bounds_in_range.Statement.{statement}
 use Rattle.validate.proofs.levels.are_bounds_in_range.Tie as tie
@@ -8,13 +8,13 @@ is-small-requires : tie.Need-is-small-requires
 is-small-requires c κs = search needs
 
 returns : tie.Need-returns
-returns c = search (needs, low-out)
+returns c = search (needs, lower-beyond)
 
 is-small-requires-2 : tie.Need-is-small-requires-2
 is-small-requires-2 c κs = search needs
 
 returns-2 : tie.Need-returns-2
-returns-2 c = search (needs, high-out)
+returns-2 c = search (needs, upper-beyond)
 
 returns-3 : tie.Need-returns-3
 returns-3 c = search (needs, in-order)

@@ -3,7 +3,7 @@ use Prim.Native.Nat.{_-_, _≤_}
 use Rattle.layout.specs.Rows.{boxOf}
 use Rattle.model.specs.Lists.{allOf}
 use Rattle.model.specs.Problem.{boundsInRange}
-use Rattle.validate.proofs.Bounds.{box-end, box-fails, box-more, box-none}
+use Rattle.layout.proofs.Ranges.{box-end, box-fails, box-more, box-none}
 use borrow.Author.Needs.{needs}
 use mathlib.Core.Bool.{true}
 use mathlib.Core.Path.{_≡_}

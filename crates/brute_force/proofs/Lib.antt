@@ -1,0 +1,2 @@
+-- Laws for this program's proofs.
+pub mod Lengths

@@ -1,0 +1,58 @@
+-- `brute_force::agree::try_budgets` meets its contract. Assumes nothing.
+use borrow.Author.Needs.{needs}
+use Prim.Native.Nat.{_-_, _≤_}
+use Rattle.brute_force.proofs.agree.try_budgets.Statement.{statement}
+use Rattle.brute_force.proofs.agree.try_budgets.Tie as tie
+
+abbrev Inv-loop : tie.InvT-loop
+Inv-loop p e count first k₀ k = k ≤ 5
+
+abbrev μ-loop : tie.MeasureT-loop
+μ-loop p e count first k₀ k = 5 - k
+
+returns : tie.Need-returns Inv-loop μ-loop
+returns c = search needs
+
+loop-holds : tie.Need-loop-holds Inv-loop μ-loop
+loop-holds c = search needs
+
+budget-of-requires : tie.Need-budget-of-requires Inv-loop μ-loop
+budget-of-requires c κs = search needs
+
+expected-requires : tie.Need-expected-requires Inv-loop μ-loop
+expected-requires c κs = search needs
+
+try-budget-requires : tie.Need-try-budget-requires Inv-loop μ-loop
+try-budget-requires c κs = search needs
+
+returns-2 : tie.Need-returns-2 Inv-loop μ-loop
+returns-2 c = search needs
+
+add-k : tie.Need-add-k Inv-loop μ-loop
+add-k c = search needs
+
+loop-less : tie.Need-loop-less Inv-loop μ-loop
+loop-less c = search needs
+
+loop-again : tie.Need-loop-again Inv-loop μ-loop
+loop-again c = search needs
+
+returns-3 : tie.Need-returns-3 Inv-loop μ-loop
+returns-3 c = search needs
+
+pub try-budgets-spec : {M : Type 1} → statement M
+try-budgets-spec =
+    tie.close
+    (tie.spec
+    Inv-loop
+    μ-loop
+    returns
+    loop-holds
+    budget-of-requires
+    expected-requires
+    try-budget-requires
+    returns-2
+    add-k
+    loop-less
+    loop-again
+    returns-3)

@@ -1,0 +1,158 @@
+// Families of problems of up to six variables and six constraints. Problem k of a family has the digits of k, the least first: the box of each variable,
+// then the constant and the coefficients of each constraint.
+use crate::number::added;
+use problem::Problem;
+
+pub struct Family {
+    pub n: usize,
+    pub m: usize,
+    // 1 if each second constraint is the one before it with its signs changed, so that the two are an equation; else 0
+    pub equations: usize,
+    // Each variable has one of the first so many boxes below.
+    pub boxes: usize,
+    // Coefficients and constants lie from minus this number, at most 3, to it.
+    pub coefficient: usize,
+    pub constant: usize,
+    // 1 if some problems are tried, with numbers by the generator; 0 if every one is, numbered from 0
+    pub random: usize,
+    // How many problems are tried.
+    pub problems: usize,
+}
+
+const LOWER: [i64; 7] = [0, -1, 0, -1, -1, 0, -1];
+
+const UPPER: [i64; 7] = [1, 1, 2, 0, 2, 0, -1];
+
+const NUMBERS: [i64; 7] = [-3, -2, -1, 0, 1, 2, 3];
+
+pub fn of(
+    n: usize,
+    m: usize,
+    equations: usize,
+    boxes: usize,
+    coefficient: usize,
+    constant: usize,
+    random: usize,
+    problems: usize,
+) -> Family {
+    Family {
+        n,
+        m,
+        equations,
+        boxes,
+        coefficient,
+        constant,
+        random,
+        problems,
+    }
+}
+
+// A step of a linear congruential generator of numbers below 2^32.
+fn next(seed: usize) -> usize {
+    ((seed % 4294967296) * 1664525 + 1013904223) % 4294967296
+}
+
+// The number of the i-th problem that is tried: i, or 64 bits made of the two steps of the generator after i.
+pub fn number_of(f: Family, i: usize) -> usize {
+    if f.random == 0 {
+        return i;
+    }
+    let high = next(i) % 4294967296;
+    high * 4294967296 + next(high) % 4294967296
+}
+
+// A digit of a number, and the digits after it.
+struct Digit {
+    value: usize,
+    rest: usize,
+}
+
+fn digit_of(k: usize, base: usize) -> Digit {
+    if base == 0 {
+        return Digit { value: 0, rest: k };
+    }
+    Digit {
+        value: k % base,
+        rest: k / base,
+    }
+}
+
+// How far the number at place c of the rows may be from 0; a number that no constraint has is 0.
+fn reach(f: Family, c: usize) -> usize {
+    if f.m <= c / 33 {
+        return 0;
+    }
+    if f.n < c % 33 {
+        return 0;
+    }
+    if c % 33 == 0 {
+        return f.constant;
+    }
+    f.coefficient
+}
+
+// A number of the rows, and the digits after it.
+struct Drawn {
+    number: i64,
+    rest: usize,
+}
+
+// The number at place c, where `above` stands a row before it.
+fn draw(f: Family, c: usize, above: i64, left: usize) -> Drawn {
+    if f.equations == 1 {
+        if c / 33 % 2 == 1 {
+            return Drawn {
+                number: added(0, -1, above),
+                rest: left,
+            };
+        }
+    }
+    let far = reach(f, c) % 4;
+    let d = digit_of(left, 2 * far + 1);
+    Drawn {
+        number: NUMBERS[(3 - far + d.value % 7) % 7],
+        rest: d.rest,
+    }
+}
+
+fn rows_of(f: Family, k: usize) -> [i64; 2112] {
+    let mut rows = [0i64; 2112];
+    let mut left = k;
+    let mut c: usize = 0;
+    while c < 198 {
+        let d = draw(f, c, rows[(c + 165) % 198], left);
+        let number = d.number;
+        rows[c] = number;
+        left = d.rest;
+        c += 1;
+    }
+    rows
+}
+
+// Problem k of a family.
+pub fn problem_of(f: Family, k: usize) -> Problem {
+    let mut lower = [0i64; 32];
+    let mut upper = [0i64; 32];
+    let mut left = k;
+    let mut i: usize = 0;
+    while i < 6 {
+        if f.n <= i {
+            break;
+        }
+        let d = digit_of(left, f.boxes);
+        let b = d.value % 7;
+        lower[i] = LOWER[b];
+        upper[i] = UPPER[b];
+        left = d.rest;
+        i += 1;
+    }
+    let constraints = rows_of(f, left);
+    Problem {
+        n: f.n,
+        m: f.m,
+        budget: 0,
+        lower,
+        upper,
+        constraints,
+    }
+}

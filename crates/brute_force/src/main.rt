@@ -1,0 +1,115 @@
+// Small problems against plain enumeration, and made-up states: how many cases of each kind were run, and each disagreement.
+mod agree;
+mod bounds;
+mod changes;
+mod compare;
+mod family;
+mod litter;
+mod made_up;
+mod number;
+mod opened;
+mod points;
+mod print;
+mod ways;
+
+use agree::Report;
+use family::Family;
+use made_up::Tried;
+use number::plus;
+
+// Tries a problem of a family; the sums with it.
+fn try_problem(sum: Report, f: Family, i: usize) -> Report {
+    let k = family::number_of(f, i);
+    let r = agree::check(family::problem_of(f, k), i % 2048);
+    let mut s = sum;
+    s.cuts = plus(s.cuts, r.cuts);
+    if 0 < r.found {
+        s.found = plus(s.found, 1);
+    }
+    if r.wrong != agree::NOTHING {
+        s.wrong = plus(s.wrong, 1);
+        print::disagreement(r.wrong, k);
+    }
+    s
+}
+
+// Tries the problems of a family and prints what they showed; the number of disagreements. It stops at the sixth.
+fn try_family(f: Family) -> usize {
+    let mut sum = Report {
+        wrong: 0,
+        found: 0,
+        cuts: 0,
+    };
+    let mut i: usize = 0;
+    while i < f.problems {
+        sum = try_problem(sum, f, i);
+        if 5 < sum.wrong {
+            return sum.wrong;
+        }
+        i += 1;
+    }
+    print::family(f, sum);
+    sum.wrong
+}
+
+// Tries the made-up states of a kind, and prints how many.
+fn try_kind(kind: usize) -> usize {
+    let f = family::of(6, 4, 1, 1, 3, 3, 1, 0);
+    let mut tried = Tried {
+        states: 0,
+        wrong: 0,
+    };
+    let mut i: usize = 0;
+    while i < 100 {
+        let p = family::problem_of(f, family::number_of(f, i));
+        tried = made_up::try_states(tried, p, kind);
+        i += 1;
+    }
+    print::kind(kind, tried);
+    tried.wrong
+}
+
+const FAMILIES: usize = 15;
+
+// The families whose every problem is tried, and those of which some are.
+fn family_of(k: usize) -> Family {
+    match k {
+        0 => family::of(1, 0, 0, 7, 0, 0, 0, 7),
+        1 => family::of(1, 1, 0, 7, 2, 2, 0, 175),
+        2 => family::of(1, 2, 0, 3, 2, 1, 0, 675),
+        3 => family::of(2, 1, 0, 2, 2, 2, 0, 500),
+        4 => family::of(2, 2, 0, 1, 1, 1, 0, 729),
+        5 => family::of(3, 1, 0, 2, 1, 1, 0, 648),
+        6 => family::of(2, 2, 1, 3, 2, 2, 0, 1125),
+        7 => family::of(4, 2, 1, 1, 2, 2, 0, 3125),
+        8 => family::of(3, 2, 0, 2, 1, 1, 1, 300),
+        9 => family::of(3, 3, 0, 5, 2, 2, 1, 300),
+        10 => family::of(4, 4, 0, 3, 2, 2, 1, 300),
+        11 => family::of(4, 4, 1, 3, 3, 3, 1, 600),
+        12 => family::of(6, 2, 1, 1, 3, 3, 1, 600),
+        13 => family::of(6, 4, 1, 1, 3, 3, 1, 600),
+        _ => family::of(6, 6, 1, 1, 1, 1, 1, 600),
+    }
+}
+
+// Each family, and then each kind of made-up states.
+fn try_part(k: usize) -> usize {
+    if k < FAMILIES {
+        return try_family(family_of(k));
+    }
+    try_kind(k - FAMILIES)
+}
+
+fn main() {
+    print::text(
+        b"variables constraints equations boxes coefficient constant random problems solvable cuts\n",
+    );
+    let mut wrong: usize = 0;
+    let mut k: usize = 0;
+    while k < FAMILIES + made_up::KINDS {
+        wrong = plus(wrong, try_part(k));
+        k += 1;
+    }
+    print::number(wrong);
+    print::text(b" disagreements\n");
+}

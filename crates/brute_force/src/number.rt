@@ -1,0 +1,28 @@
+// Arithmetic that cannot overflow. No number of this program is larger than a constraint's may be, so `held` changes none.
+ghost use Rattle.integer.specs.Size.{Within};
+ghost use Rattle.model.specs.Ranges.{maxCoefficient};
+
+const LARGEST: i64 = 1073741824;
+
+// z, held to a coefficient's range
+fn held(z: i64) -> i64
+    ensures { λ r. ⌜ Within maxCoefficient r ⌝ }
+{
+    if z < -LARGEST {
+        return -LARGEST;
+    }
+    if LARGEST < z {
+        return LARGEST;
+    }
+    z
+}
+
+// sum + a · b
+pub fn added(sum: i64, a: i64, b: i64) -> i64 {
+    held(sum) + held(a) * held(b)
+}
+
+// Counts do not come near the largest number.
+pub fn plus(a: usize, b: usize) -> usize {
+    std::num::wrapping_add_usize(a, b)
+}

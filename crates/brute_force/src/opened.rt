@@ -1,0 +1,124 @@
+// Problems written and opened, and whether the opened state is the problem's.
+use crate::compare::counts_same;
+use crate::compare::level_same;
+use crate::compare::sizes_of;
+use crate::number::added;
+use integer::magnitude;
+use problem::Answer;
+use problem::Problem;
+use state::Level;
+use state::Search;
+ghost use Prim.Native.Nat.{_+_, _<_};
+
+// The state of a problem of at most six constraints, written with a budget and opened; one without variables if it is refused.
+pub fn open(p: Problem, budget: usize) -> Search {
+    let mut q = p;
+    q.budget = budget;
+    let mut file = [0u8; 3584];
+    problem::write(q, &mut file);
+    let end = 512 * (p.m % 7 + 1);
+    let o = search::open(&file[0..end]);
+    let answer = o.answer;
+    let mut s = o.state;
+    match answer {
+        Answer::Done => {}
+        _ => {
+            s.n = 0;
+        }
+    }
+    s
+}
+
+// Whether a number divides the coefficients of the constraint at a place.
+fn divides(d: u64, rows: &[i64; 2112], start: usize) -> bool
+    requires { ⌜ (0 < d) × (start + 6 < 2112) ⌝ }
+{
+    let mut i: usize = 1;
+    while i < 7 {
+        if magnitude(rows[start + i]) % d != 0 {
+            return false;
+        }
+        i += 1;
+    }
+    true
+}
+
+// What rounding divides a constraint by. No coefficient is above 3: 4 divides them only if all are 0, and then the constraint stays.
+fn divisor(rows: &[i64; 2112], start: usize) -> i64
+    requires { ⌜ start + 6 < 2112 ⌝ }
+{
+    if divides(4, rows, start) {
+        return 1;
+    }
+    if divides(3, rows, start) {
+        return 3;
+    }
+    if divides(2, rows, start) {
+        return 2;
+    }
+    1
+}
+
+// Whether h · r is z or more than it by less than `most`.
+fn is_quotient(r: i64, h: i64, z: i64, most: i64) -> bool {
+    let more = added(added(0, h, r), -1, z);
+    if more < 0 {
+        return false;
+    }
+    more < most
+}
+
+// Whether the numbers at a place are those of the given constraint divided by h, the constant rounded up.
+fn is_rounded(rows: &[i64; 4224], given: &[i64; 2112], start: usize) -> bool
+    requires { ⌜ start + 6 < 2112 ⌝ }
+{
+    let h = divisor(given, start);
+    let mut most = h;
+    let mut i: usize = 0;
+    while i < 7 {
+        if !is_quotient(rows[start + i], h, given[start + i], most) {
+            return false;
+        }
+        most = 1;
+        i += 1;
+    }
+    true
+}
+
+// Whether the first m constraints are rounded.
+fn are_rounded(rows: &[i64; 4224], given: &[i64; 2112], m: usize) -> bool {
+    let mut j: usize = 0;
+    while j < 6 {
+        if j < m {
+            if !is_rounded(rows, given, 33 * j) {
+                return false;
+            }
+        }
+        j += 1;
+    }
+    true
+}
+
+// Level 0 of a problem: its domain.
+fn domain_of(p: Problem) -> Level {
+    let lower = p.lower;
+    let upper = p.upper;
+    Level {
+        lower,
+        upper,
+        below: [state::DOMAIN; 32],
+        above: [state::DOMAIN; 32],
+        decided: 0,
+    }
+}
+
+// Whether a state is the opened one of a problem with a budget: nothing is decided or counted.
+pub fn is_right(s: Search, p: Problem, budget: usize) -> bool {
+    if !counts_same(&sizes_of(s), &[p.n, p.m, budget, 0, 0, 0, 0], 7) {
+        return false;
+    }
+    if !are_rounded(&s.rows, &p.constraints, p.m) {
+        return false;
+    }
+    level_same(s.levels[0], domain_of(p), p.n % 33)
+}
