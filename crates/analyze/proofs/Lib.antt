@@ -2,4 +2,5 @@
 pub mod Storing
 pub mod Positions
 pub mod Numbering
+pub mod Lowest
 pub mod Resolvents

@@ -3,6 +3,7 @@ use Prim.Native.Nat.{ℕ, suc, _+_, _-_, _≤_, _<_}
 use native.Mathlib.Omega.{arith}
 use mathlib.Core.Bool.{true, false}
 use mathlib.Core.List.{List, _∷_}
+use mathlib.Core.Logic.{⊎-elim}
 use mathlib.Core.Path.{_≡_, refl, sym, ap, _∙_, subst}
 use borrow.Author.Tests.{ltb-true}
 use lib.IntN.{ℤ, pos, negsuc}
@@ -11,17 +12,20 @@ use lib.Signed.{ltZ}
 use lib.Seq.{getD-set-same, getD-set-other}
 use Rattle.model.specs.Lists.{tab}
 use Rattle.model.specs.Ranges.{maxVariables}
-use Rattle.model.specs.Constraint.{Constraint, Box, coefficientAt, falsified, resolvent, opposite, inRange}
+use Rattle.model.specs.Constraint.{Constraint, Box, coefficientAt, falsified, rounded, resolvent, opposite, inRange}
 use Rattle.model.specs.Search.{noReasons, Level, Core, reasonsAt}
 use Rattle.model.specs.Conflict.{Resolved, unchanged, takeIf, resolveWith, resolveKept, usedReason, resolveAt, analyzeFrom, analyze}
 use Rattle.lists.proofs.Bools.{true-of, clash}
 use Rattle.lists.proofs.Loops.{every-at}
 use Rattle.lists.proofs.Tab.{getD-tab, tab-ext, tab-end, tab-down, getD-const}
 use Rattle.layout.specs.Rows.{rowLength, constraintAt, rowAt, boxOf}
+use Rattle.linear.specs.Excess.{RoundedOrOut}
+use Rattle.linear.proofs.Sizes.{rounded-range}
 use Rattle.rows.specs.Rows.{Copied}
 use Rattle.state.specs.View.{reasonOf, reasonsIn, keptCuts, coreWith}
 use Rattle.analyze.specs.Position.{absent, constraintIn, PositionOf}
 use Rattle.analyze.specs.Analyzed.{Analyzable, Resolving, coreAt, analysisOf, Analyzed}
+use Rattle.analyze.proofs.Lowest.{rounded-holds}
 use Rattle.analyze.proofs.Positions.{reason-resolves, at-present, at-absent}
 
 -- ---- F combined with J, constraint number k: signs alike, the outcome out of range, the outcome not falsified, the outcome taken
@@ -30,22 +34,36 @@ module _ (box : Box) (i : ℕ) (f : Constraint) (k : ℕ) (j : Constraint) where
   unfolding resolveWith unchanged
   with-alike o = rw o
 
-  module _ (g : Constraint) (o : opposite (coefficientAt f i) (coefficientAt j i) ≡ true) (e : g ≡ resolvent i f j) where
-    with-outcome : resolveWith box i f k j ≡ takeIf box f k g
+  -- from c, before it is rounded, and g, as the code rounds it
+  module _ (c : Constraint) (o : opposite (coefficientAt f i) (coefficientAt j i) ≡ true) (e : rounded c ≡ resolvent i f j) where
+    with-outcome : resolveWith box i f k j ≡ takeIf box f k (rounded c)
     unfolding resolveWith
     with-outcome = rw (o, e)
 
-    pub with-large : inRange g ≡ false → resolveWith box i f k j ≡ record { cut = f; used = 0 }
+    outcome-large : inRange (rounded c) ≡ false → resolveWith box i f k j ≡ record { cut = f; used = 0 }
     unfolding takeIf unchanged
-    with-large r = with-outcome ∙ rw r
+    outcome-large r = with-outcome ∙ rw r
 
-    pub with-holding : inRange g ≡ true → falsified g box ≡ false → resolveWith box i f k j ≡ record { cut = f; used = 0 }
+    outcome-holding : inRange (rounded c) ≡ true → falsified (rounded c) box ≡ false → resolveWith box i f k j ≡ record { cut = f; used = 0 }
     unfolding takeIf unchanged
-    with-holding r t = with-outcome ∙ rw (r, t)
+    outcome-holding r t = with-outcome ∙ rw (r, t)
 
-    pub with-taken : inRange g ≡ true → falsified g box ≡ true → resolveWith box i f k j ≡ record { cut = g; used = k }
-    unfolding takeIf unchanged
-    with-taken r t = with-outcome ∙ rw (r, t)
+    pub with-combined : inRange c ≡ true → falsified c box ≡ false → resolveWith box i f k j ≡ record { cut = f; used = 0 }
+    with-combined r t = outcome-holding (rounded-range c r) (rounded-holds c box t)
+
+    module _ {g : Constraint} (d : RoundedOrOut c g) where
+      pub with-large : inRange g ≡ false → resolveWith box i f k j ≡ record { cut = f; used = 0 }
+      with-large r = outcome-large (⊎-elim (λ q. rw q at r) (λ q. q .1) d)
+
+      outcome-is : inRange g ≡ true → g ≡ rounded c
+      outcome-is r = ⊎-elim (λ q. q) (λ q. clash r (q .0)) d
+
+      pub with-holding : inRange g ≡ true → falsified g box ≡ false → resolveWith box i f k j ≡ record { cut = f; used = 0 }
+      with-holding r t = let q = outcome-is r in outcome-holding (rw q at r) (rw q at t)
+
+      pub with-taken : inRange g ≡ true → falsified g box ≡ true → resolveWith box i f k j ≡ record { cut = g; used = k }
+      unfolding takeIf
+      with-taken r t = let q = outcome-is r in with-outcome ∙ rw (← q) (rw (r, t))
 
 -- ---- F combined with the reason at variable i
 pub position-most : {n m made : ℕ} {rows lower upper : List ℤ} {j : ℕ} → Analyzable n m made rows lower upper → j < m + keptCuts made → j < absent
@@ -58,15 +76,12 @@ kept-range n m made rows lower upper j a h = every-at inRange (rowAt n rows) (m 
 pub resolving : (n m made : ℕ) (rows lower upper f : List ℤ) (j : ℕ) → Analyzable n m made rows lower upper → length f ≡ rowLength → inRange (constraintAt n f 0) ≡ true → j < absent → j < m + keptCuts made → Resolving n rows lower upper f j
 resolving n m made rows lower upper f j a s r p h =
     record {
-      variables = a .variables;
+      box = record { variables = a .variables; lower-size = a .lower-size; upper-size = a .upper-size; box-range = a .box-range };
       rows-size = a .rows-size;
-      lower-size = a .lower-size;
-      upper-size = a .upper-size;
       position = p;
       first-size = s;
       first-range = r;
       second-range = kept-range n m made rows lower upper j a h;
-      box-range = a .box-range;
     }
 
 module _ (n m made : ℕ) (rows lower upper : List ℤ) (below above numbers : List ℕ) (decided : ℕ) (outer : List Level) where

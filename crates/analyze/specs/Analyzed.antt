@@ -28,17 +28,21 @@ pub record Analyzable (n m made : ℕ) (rows lower upper : List ℤ) : Type 0 wh
   pub rows-range : T (allOf inRange (tab (rowAt n rows) 0 (m + keptCuts made)))
   pub box-range : T (allOf boundsInRange (boxOf n lower upper))
 
--- F, and the constraint in row j to combine it with
-pub record Resolving (n : ℕ) (rows lower upper f : List ℤ) (j : ℕ) : Type 0 where
+-- the bounds of n variables
+pub record Boxed (n : ℕ) (lower upper : List ℤ) : Type 0 where
   pub variables : n ≤ maxVariables
-  pub rows-size : length rows ≡ rowsLength
   pub lower-size : length lower ≡ maxVariables
   pub upper-size : length upper ≡ maxVariables
+  pub box-range : T (allOf boundsInRange (boxOf n lower upper))
+
+-- F, the constraint in row j to combine it with, and the bounds
+pub record Resolving (n : ℕ) (rows lower upper f : List ℤ) (j : ℕ) : Type 0 where
+  pub box : Boxed n lower upper
+  pub rows-size : length rows ≡ rowsLength
   pub position : j < maxRows
   pub first-size : length f ≡ rowLength
   pub first-range : inRange (constraintAt n f 0) ≡ true
   pub second-range : inRange (rowAt n rows j) ≡ true
-  pub box-range : T (allOf boundsInRange (boxOf n lower upper))
 
 -- a state's core with these arrays as its deepest level
 abbrev pub coreAt : (n m made : ℕ) (rows lower upper : List ℤ) (below above numbers : List ℕ) (decided : ℕ) (outer : List Level) → Core

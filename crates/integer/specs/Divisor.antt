@@ -1,4 +1,5 @@
 -- The model's greatest common divisor, and division by a divisor.
+use mathlib.Core.Logic.{_⊎_, inl, inr, ⊎-elim}
 use mathlib.Core.Path.{_≡_, refl, sym, ap}
 use Prim.Native.Nat.{ℕ, zero, suc, _*_, _/_, _%_, _≤_, _<_, _∣_}
 use native.Mathlib.Nat.{mod-lt, zero-lt-suc, mul-div-cancel', dvd-refl, dvd-zero, dvd-mod-iff, le-of-dvd, pos-of-dvd-of-pos}
@@ -63,6 +64,17 @@ gcd-most (suc a) b m h k = omega (arith, le-of-dvd (zero-lt-suc a) (gcd-left (su
 
 pub gcd-pos : (a b : ℕ) → 0 < a → 0 < gcd a b
 gcd-pos a b h = pos-of-dvd-of-pos (gcd-left a b) h
+
+-- ---- r is the divisor d, or 1 where d is at most `least` and not 0
+abbrev pub Above : ℕ → ℕ → ℕ → Type 0
+Above least d r = (r ≡ d) ⊎ ((r ≡ 1) × ((0 < d) × (d ≤ least)))
+
+pub above-none : {d r : ℕ} → Above 0 d r → r ≡ d
+above-none h = ⊎-elim (λ e. e) (λ s. absurd (omega arith)) h
+
+-- a number that is at most `least` has no larger divisor
+pub gcd-small : (a b least : ℕ) → 0 < b → b ≤ least → (0 < gcd a b) × (gcd a b ≤ least)
+gcd-small a b least p h = (pos-of-dvd-of-pos (gcd-right a b) p, omega (arith, le-of-dvd p (gcd-right a b)))
 
 -- ---- division by a divisor gives the number back: `exact h c (gcd-left (natAbs c) n)`
 pub exact : (h : ℕ) (c : ℤ) → h ∣ natAbs c → c ≡ pos h *ℤ exactDiv h c

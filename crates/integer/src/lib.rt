@@ -4,6 +4,7 @@ ghost use Prim.Native.Nat.{_<_, _^_};
 ghost use lib.IntN.{natAbs};
 ghost use Rattle.model.specs.Division.{floorDiv, ceilDiv, exactDiv, gcd as gcdOf};
 ghost use Rattle.integer.specs.Size.{Within};
+ghost use Rattle.integer.specs.Divisor.{Above};
 
 // |z|. The negation of z + 1 fits where that of z need not.
 pub fn magnitude(z: i64) -> u64
@@ -50,16 +51,27 @@ pub fn exact_div(z: i64, d: u64) -> i64
     z / (d as i64)
 }
 
-// The greatest common divisor, by Euclid's algorithm; of 0 and 0 it is 0.
-pub fn gcd(a: u64, b: u64) -> u64
-    ensures { λ r. ⌜ r ≡ gcdOf a b ⌝ }
+// The greatest common divisor, by Euclid's algorithm; of 0 and 0 it is 0. One that is at most `least`, and not 0, may be given as 1: it is no larger
+// than a remainder, so a remainder that small is the end.
+pub fn gcd_above(a: u64, b: u64, least: u64) -> u64
+    ensures { λ r. ⌜ Above least (gcdOf a b) r ⌝ }
 {
     let mut x = a;
     let mut y = b;
     while y != 0 {
+        if y <= least {
+            return 1;
+        }
         let rest = x % y;
         x = y;
         y = rest;
     }
     x
+}
+
+// The greatest common divisor.
+pub fn gcd(a: u64, b: u64) -> u64
+    ensures { λ r. ⌜ r ≡ gcdOf a b ⌝ }
+{
+    gcd_above(a, b, 0)
 }

@@ -2,6 +2,7 @@
 pub mod Ranges
 pub mod Terms
 pub mod Implied
+pub mod Reaching
 pub mod Sizes
 pub mod RoundingLaws
 pub mod ResolvingLaws

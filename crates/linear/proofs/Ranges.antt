@@ -55,13 +55,19 @@ module _ (n : ℕ) (lower upper : List ℤ) (e : allOf boundsInRange (boxOf n lo
       let a = and-true (within maxBound (numberIn lower i)) _ (at-variable i h) in
       (a .0, and-true (within maxBound (numberIn upper i)) _ (a .1) .0)
 
+  pub lower-within : (i : ℕ) → i < n → Within maxBound (numberIn lower i)
+  lower-within i h = within-in maxBound (numberIn lower i) (both i h .0)
+
+  pub upper-within : (i : ℕ) → i < n → Within maxBound (numberIn upper i)
+  upper-within i h = within-in maxBound (numberIn upper i) (both i h .1)
+
   pub box-fits : n ≤ length lower → n ≤ length upper → BoxFits n lower upper
   box-fits l u =
       record {
         lowers = l;
         uppers = u;
-        low = λ i h. weaken (lit≤ tt) (within-in maxBound (numberIn lower i) (both i h .0));
-        high = λ i h. weaken (lit≤ tt) (within-in maxBound (numberIn upper i) (both i h .1));
+        low = λ i h. weaken (lit≤ tt) (lower-within i h);
+        high = λ i h. weaken (lit≤ tt) (upper-within i h);
       }
 
 -- ---- one variable of a row and a box

@@ -6,8 +6,9 @@ use mathlib.Core.List.{List}
 use lib.IntN.{ℤ}
 use lib.ListN.{length}
 use Rattle.model.specs.Ranges.{maxVariables}
-use Rattle.model.specs.Constraint.{coefficientAt, opposite, inRange}
+use Rattle.model.specs.Constraint.{Constraint, coefficientAt, rounded, resolvent, opposite, inRange}
 use Rattle.layout.specs.Rows.{rowLength, constraintAt}
+use Rattle.linear.specs.Sized.{maxCombined, Sized}
 
 -- the rows lie in the arrays, and the numbers in document 01's range
 pub record Combinable (n : ℕ) (f : List ℤ) (at : ℕ) (rows : List ℤ) (start : ℕ) : Type 0 where
@@ -22,3 +23,9 @@ pub record Resolvable (i n : ℕ) (f : List ℤ) (at : ℕ) (rows : List ℤ) (s
   pub variable : i < n
   pub combinable : Combinable n f at rows start
   pub signs : opposite (coefficientAt (constraintAt n f at) i) (coefficientAt (constraintAt n rows start) i) ≡ true
+
+-- the row r holds F and J combined at variable i: rounded, it is their resolvent
+pub record Combined (i : ℕ) (f j : Constraint) (n : ℕ) (r : List ℤ) : Type 0 where
+  pub outcome : rounded (constraintAt n r 0) ≡ resolvent i f j
+  pub sized : Sized maxCombined (constraintAt n r 0)
+  pub size : length r ≡ rowLength

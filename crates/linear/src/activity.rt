@@ -11,6 +11,7 @@ ghost use Rattle.model.specs.Constraint.{term as termOf, activity as activityOf
 ghost use Rattle.model.specs.Move.{improvementAt};
 ghost use Rattle.layout.specs.Rows.{constraintAt, boxOf};
 ghost use Rattle.linear.specs.Ranges.{TermFits, RowFits, BoxFits, ImpliedFits, ImprovementFits, widestTerm, widestActivity};
+ghost use Rattle.linear.specs.Reach.{spanOf, widestSpan, Further};
 ghost use Rattle.linear.specs.Improvement.{moveOf, Improves};
 
 // What a variable with coefficient a and these bounds adds to its constraint's minimum activity.
@@ -60,6 +61,30 @@ pub fn is_falsified<'a>(
     ensures { λ r. ⌜ r ≡ falsified (constraintAt n (now (rows .entry)) start) (boxOf n (now (lower .entry)) (now (upper .entry))) ⌝ }
 {
     0 < min_activity(rows, start, lower, upper, n)
+}
+
+// How far a variable with coefficient a and these bounds can move its constraint: |a| · (U − L).
+pub fn span(a: i64, lower: i64, upper: i64) -> i64
+    requires { ⌜ TermFits a lower upper ⌝ }
+    ensures { λ r. ⌜ r ≡ spanOf a (record { lower = lower; upper = upper }) ⌝ }
+    ensures { λ r. ⌜ Within widestSpan r ⌝ }
+{
+    if 0 <= a {
+        return a * (upper - lower);
+    }
+    a * (lower - upper)
+}
+
+// The larger of `most` and a variable's span: where a constraint's slack is no less than all its spans, it improves no bound.
+pub fn further(most: i64, a: i64, lower: i64, upper: i64) -> i64
+    requires { ⌜ TermFits a lower upper × Within widestSpan most ⌝ }
+    ensures { λ r. ⌜ Further most a (record { lower = lower; upper = upper }) r ⌝ }
+{
+    let s = span(a, lower, upper);
+    if most < s {
+        return s;
+    }
+    most
 }
 
 // 'v ≤ −p/a rounded down': the upper bound that a constraint implies for a variable with coefficient a > 0, p being its minimum activity without the

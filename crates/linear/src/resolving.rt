@@ -5,11 +5,12 @@ use integer::magnitude;
 ghost use mathlib.Core.Path.{_≡_};
 ghost use Prim.Native.Nat.{_≤_};
 ghost use lib.IntN.{pos, _+ℤ_, _*ℤ_};
+ghost use lib.ListN.{length};
 ghost use Rattle.model.specs.Ranges.{maxCoefficient};
 ghost use Rattle.model.specs.Constraint.{combination, resolvent, opposite};
 ghost use Rattle.integer.specs.Size.{Within};
-ghost use Rattle.layout.specs.Rows.{constraintAt};
-ghost use Rattle.linear.specs.Resolvable.{Combinable, Resolvable};
+ghost use Rattle.layout.specs.Rows.{rowLength, constraintAt};
+ghost use Rattle.linear.specs.Resolvable.{Combinable, Resolvable, Combined};
 
 // The coefficients are of opposite sign.
 pub fn is_opposite(a: i64, b: i64) -> bool
@@ -32,7 +33,7 @@ fn mix(s: u64, a: i64, t: u64, b: i64) -> i64
     (s as i64) * a + (t as i64) * b
 }
 
-// s · F + t · J, 0 past the first n coefficients.
+// s · F + t · J, into r. What lies past the first n coefficients stays.
 fn combine<'a>(
     f: &'a [i64],
     at: usize,
@@ -41,19 +42,37 @@ fn combine<'a>(
     s: u64,
     t: u64,
     n: usize,
-) -> [i64; 33]
+    r: &mut [i64; 33],
+)
     requires { ⌜ Combinable n (now f) at (now rows) start ⌝ }
-    requires { ⌜ (s ≤ maxCoefficient) × (t ≤ maxCoefficient) ⌝ }
-    ensures { λ r. ⌜ constraintAt n r 0 ≡ combination s (constraintAt n (now (f .entry)) at) t (constraintAt n (now (rows .entry)) start) ⌝ }
+    requires { ⌜ (s ≤ maxCoefficient) × ((t ≤ maxCoefficient) × (length (now r) ≡ rowLength)) ⌝ }
+    ensures { λ u. ⌜ (constraintAt n (now (r .exit)) 0 ≡ combination s (constraintAt n (now (f .entry)) at) t (constraintAt n (now (rows .entry)) start)) × (length (now (r .exit)) ≡ rowLength) ⌝ }
 {
-    let mut r = [0i64; 33];
     r[0] = mix(s, f[at], t, rows[start]);
     let mut i = 0;
     while i < n {
         r[i + 1] = mix(s, f[at + 1 + i], t, rows[start + 1 + i]);
         i += 1;
     }
-    r
+}
+
+// 'Combining' at variable i, before it is rounded, into r. What lies past the first n coefficients stays.
+pub fn combine_at<'a>(
+    f: &'a [i64],
+    at: usize,
+    rows: &'a [i64],
+    start: usize,
+    i: usize,
+    n: usize,
+    r: &mut [i64; 33],
+)
+    requires { ⌜ Resolvable i n (now f) at (now rows) start × (length (now r) ≡ rowLength) ⌝ }
+    ensures { λ u. ⌜ Combined i (constraintAt n (now (f .entry)) at) (constraintAt n (now (rows .entry)) start) n (now (r .exit)) ⌝ }
+{
+    let a = magnitude(f[at + 1 + i]);
+    let b = magnitude(rows[start + 1 + i]);
+    let g = gcd(a, b);
+    combine(f, at, rows, start, b / g, a / g, n, r);
 }
 
 // 'Combining' at variable i, rounded. 0 past the first n coefficients.
@@ -68,9 +87,7 @@ pub fn resolve<'a>(
     requires { ⌜ Resolvable i n (now f) at (now rows) start ⌝ }
     ensures { λ r. ⌜ constraintAt n r 0 ≡ resolvent i (constraintAt n (now (f .entry)) at) (constraintAt n (now (rows .entry)) start) ⌝ }
 {
-    let a = magnitude(f[at + 1 + i]);
-    let b = magnitude(rows[start + 1 + i]);
-    let g = gcd(a, b);
-    let r = combine(f, at, rows, start, b / g, a / g, n);
+    let mut r = [0i64; 33];
+    combine_at(f, at, rows, start, i, n, &mut r);
     round(r, n)
 }

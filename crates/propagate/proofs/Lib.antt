@@ -1,8 +1,11 @@
 -- Laws of the scans and of propagation. `States` and `Descent` are for callers, the others for this crate's own proofs.
 pub mod Scans
-pub mod Fits
+pub mod Bits
+pub mod Tracking
+pub mod Passed
 pub mod Fuel
 pub mod Numbers
 pub mod Steps
+pub mod Looping
 pub mod Descent
 pub mod States

@@ -1,12 +1,12 @@
 -- The scans as loops that count up: `whole` is the whole scan's answer, and the loop keeps that it is the answer of what is left.
-use Prim.Native.Nat.{ℕ, _+_, _-_, _*_, _≤_, _<_}
+use Prim.Native.Nat.{ℕ, zero, suc, _+_, _-_, _*_, _≤_, _<_}
 use native.Mathlib.Nat.{sub-zero}
 use native.Mathlib.Omega.{arith}
 use native.Mathlib.Numerals.{add-one}
 use mathlib.Core.Bool.{true, false}
 use mathlib.Core.List.{List}
 use mathlib.Core.Option.{Option, none, some}
-use mathlib.Core.Path.{_≡_, sym, _∙_}
+use mathlib.Core.Path.{_≡_, refl, sym, _∙_}
 use borrow.Author.Tests.{lt-ltb, le-ltb}
 use lib.IntN.{ℤ, pos, _-ℤ_}
 use lib.Signed.{ltZ}
@@ -90,25 +90,41 @@ module _ (n kept : ℕ) (rows lower upper : List ℤ) where
     improved-done e h = e ∙ rw (tab-end (rowAt n rows) kept j h)
 
     -- at the first variable of constraint j
-    pub improved-enter : whole ≡ improvedFrom n kept rows lower upper j → j < kept →
+    improved-enter : whole ≡ improvedFrom n kept rows lower upper j → j < kept →
         whole ≡ orElse (improvedAfter n rows lower upper j 0) (improvedFrom n kept rows lower upper (j + 1))
     unfolding improvedFrom firstImprovement improvedAfter rowAt constraintAt boxOf
     improved-enter e h = e ∙ rw (tab-step (rowAt n rows) kept j h, add-one, sub-zero)
 
     module _ (i : ℕ) (e : whole ≡ orElse (improvedAfter n rows lower upper j i) (improvedFrom n kept rows lower upper (j + 1))) where
-      pub improved-hit : (m : Move) → i < n → improvedAt n rows lower upper j i ≡ some m → whole ≡ some m
+      improved-hit : (m : Move) → i < n → improvedAt n rows lower upper j i ≡ some m → whole ≡ some m
       unfolding improvedAfter improvementFrom improvedAt orElse
       improved-hit m h t = e ∙ rw (tab-step (cell rows (rowLength * j)) n i h, tab-step (boundsAt lower upper) n i h, t)
 
-      pub improved-miss : i < n → improvedAt n rows lower upper j i ≡ none →
+      improved-miss : i < n → improvedAt n rows lower upper j i ≡ none →
           whole ≡ orElse (improvedAfter n rows lower upper j (i + 1)) (improvedFrom n kept rows lower upper (j + 1))
       unfolding improvedAfter improvementFrom improvedAt orElse
       improved-miss h t = e ∙ rw (tab-step (cell rows (rowLength * j)) n i h, tab-step (boundsAt lower upper) n i h, t, add-one)
 
-      -- every variable passed
-      pub improved-end : n ≤ i → whole ≡ improvedFrom n kept rows lower upper (j + 1)
-      unfolding improvedAfter improvementFrom orElse
-      improved-end h = e ∙ rw (tab-end (cell rows (rowLength * j)) n i h)
+  -- a constraint that improves no bound
+  after-none : (j i c : ℕ) → ((k : ℕ) → i ≤ k → k < i + c → improvedAt n rows lower upper j k ≡ none) →
+      improvementFrom j i (activity (rowAt n rows j) (boxOf n lower upper)) (tab (cell rows (rowLength * j)) i c) (tab (boundsAt lower upper) i c) ≡ none
+  unfolding tab improvementFrom improvedAt orElse
+  after-none j i zero h = refl
+  after-none j i (suc c) h = rw (h i (omega arith) (omega arith)) (after-none j (suc i) c (λ k l u. h k (omega arith) (omega arith)))
+
+  -- the first variable whose bound constraint j improves
+  pub improved-first : (whole : Option Move) (j i : ℕ) (m : Move) → whole ≡ improvedFrom n kept rows lower upper j → j < kept → i < n →
+      ((k : ℕ) → k < i → improvedAt n rows lower upper j k ≡ none) → improvedAt n rows lower upper j i ≡ some m → whole ≡ some m
+  improved-first whole j i m e h l miss t = improved-hit whole j i (past i (omega arith) miss) m l t
+    where
+      past : (i : ℕ) → i ≤ n → ((k : ℕ) → k < i → improvedAt n rows lower upper j k ≡ none) → whole ≡ orElse (improvedAfter n rows lower upper j i) (improvedFrom n kept rows lower upper (j + 1))
+      past zero l miss = improved-enter whole j e h
+      past (suc i) l miss = rw (← add-one i) (improved-miss whole j i (past i (omega arith) (λ k q. miss k (omega arith))) (omega arith) (miss i (omega arith)))
+
+  pub improved-skip : (whole : Option Move) (j : ℕ) → whole ≡ improvedFrom n kept rows lower upper j → j < kept → ((i : ℕ) → i < n → improvedAt n rows lower upper j i ≡ none) →
+      whole ≡ improvedFrom n kept rows lower upper (j + 1)
+  unfolding improvedAfter orElse
+  improved-skip whole j e h miss = improved-enter whole j e h ∙ rw (after-none j 0 (n - 0) (λ k l u. miss k (omega arith)))
 
 -- ---- the next move, from what the scans found
 module _ (ks : List Constraint) (box : Box) (kept j : ℕ) (e : hitAt conflict kept j ≡ firstFalsified 0 ks box) where
@@ -121,11 +137,6 @@ module _ (ks : List Constraint) (box : Box) (kept j : ℕ) (e : hitAt conflict k
     unfolding nextMove hitAt orElse withDefault
     next-improvement m f = rw (sym e, le-ltb j kept h, sym f)
 
-    module _ (f : none ≡ firstImprovement 0 ks box) (n i : ℕ) (g : hitAt decide n i ≡ firstOpen 0 box) where
-      pub next-decide : i < n → decide i ≡ nextMove ks box
-      unfolding nextMove hitAt orElse withDefault
-      next-decide l = rw (sym e, le-ltb j kept h, sym f, sym g, lt-ltb i n l)
-
-      pub next-finish : n ≤ i → finish ≡ nextMove ks box
-      unfolding nextMove hitAt orElse withDefault
-      next-finish l = rw (sym e, le-ltb j kept h, sym f, sym g, le-ltb i n l)
+    pub next-open : none ≡ firstImprovement 0 ks box → withDefault finish (firstOpen 0 box) ≡ nextMove ks box
+    unfolding nextMove hitAt orElse withDefault
+    next-open f = rw (sym e, le-ltb j kept h, sym f)

@@ -21,7 +21,7 @@ use Rattle.validity.proofs.States.{ConstraintFits, CoreFits}
 use Rattle.propagate.specs.Moves.{stopOf}
 use Rattle.propagate.specs.Propagation.{Propagation, propagation, numberFor, propagationOf}
 use Rattle.propagate.specs.Ready.{keptRows, Ready}
-use Rattle.propagate.specs.declared.propagate.Propagated.{Propagated}
+use Rattle.propagate.specs.declared.propagate.Found.{Found}
 use Rattle.propagate.proofs.Fuel.{Stopped}
 use Rattle.propagate.proofs.Numbers.{number-at}
 use Rattle.propagate.proofs.Descent.{FitsAt, propagated, descent-propagated, propagated-stopped}
@@ -40,30 +40,30 @@ module _ (n m made : ℕ) (rows : List ℤ) (numbers : List ℕ) (l : Level) (ls
   pub state-ready : n ≤ maxVariables → m ≤ maxConstraints → made ≤ maxBudget → Whole l → Ready n m made rows l
   state-ready few inputs cuts w = record { few = few; inputs = inputs; cuts = cuts; whole = w; constraints = state-range; bounds = state-bounds }
 
-  module _ (r : Propagated) (e : propagationOf n r ≡ propagation (keptRows n m made rows) (numberFor m made) (levelOf n l)) where
-    state-propagated : propagated (coreWith n m made rows numbers (levelOf n l) ls) ≡ propagationOf n r
+  module _ (k : Level) (found : Found) (e : propagationOf n k found ≡ propagation (keptRows n m made rows) (numberFor m made) (levelOf n l)) where
+    state-propagated : propagated (coreWith n m made rows numbers (levelOf n l) ls) ≡ propagationOf n k found
     unfolding coreWith
     state-propagated =
         ap₂ (λ (ks : List Constraint) (number : ℕ → ℕ). propagation ks number (levelOf n l))
         (kept-rows n m made rows numbers (levelOf n l) ls) (number-at n m made rows numbers (levelOf n l) ls) ∙ sym e
 
     pub state-descent : descend (coreWith n m made rows numbers (levelOf n l) ls) ≡
-        follow (stopOf (r .found)) (coreWith n m made rows numbers (levelOf n (r .level)) ls) descend
+        follow (stopOf found) (coreWith n m made rows numbers (levelOf n k) ls) descend
     unfolding coreWith model.withDeepest model.withLevels propagationOf
     state-descent =
         let c = coreWith n m made rows numbers (levelOf n l) ls in
         subst (λ (p : Propagation). descend c ≡ follow (p .move) (model.withDeepest c (p .level)) descend) state-propagated (descent-propagated c f)
 
-    state-stopped : Stopped (keptRows n m made rows) (FitsAt (coreWith n m made rows numbers (levelOf n l) ls)) (propagationOf n r)
+    state-stopped : Stopped (keptRows n m made rows) (FitsAt (coreWith n m made rows numbers (levelOf n l) ls)) (propagationOf n k found)
     state-stopped =
         let c = coreWith n m made rows numbers (levelOf n l) ls in
-        subst (λ (ks : List Constraint). Stopped ks (FitsAt c) (propagationOf n r)) (kept-rows n m made rows numbers (levelOf n l) ls)
+        subst (λ (ks : List Constraint). Stopped ks (FitsAt c) (propagationOf n k found)) (kept-rows n m made rows numbers (levelOf n l) ls)
         (subst (Stopped (model.kept c) (FitsAt c)) state-propagated (propagated-stopped c f))
 
-    pub state-fits : CoreFits (coreWith n m made rows numbers (levelOf n (r .level)) ls)
+    pub state-fits : CoreFits (coreWith n m made rows numbers (levelOf n k) ls)
     unfolding coreWith model.withDeepest model.withLevels propagationOf
     state-fits = state-stopped .holds
 
-    pub state-chosen : Chosen (keptRows n m made rows) (boxOf n (r .level .lower) (r .level .upper)) (stopOf (r .found))
+    pub state-chosen : Chosen (keptRows n m made rows) (boxOf n (k .lower) (k .upper)) (stopOf found)
     unfolding propagationOf levelOf
     state-chosen = state-stopped .chosen

@@ -3,14 +3,20 @@ use Prim.Native.Nat.{ℕ, _+_, _<_}
 use native.Mathlib.Omega.{arith}
 use mathlib.Core.List.{List}
 use mathlib.Core.Path.{_≡_, sym, ap, subst, _∙_}
-use lib.IntN.{ℤ}
+use lib.Dec.{lit≤}
+use lib.IntN.{ℤ, _-ℤ_}
 use lib.ListN.{length-set}
 use Rattle.model.specs.Constraint.{Box, setLower, setUpper}
 use Rattle.model.specs.Search as model
 use Rattle.model.specs.Move.{Move, conflict, newLower, newUpper, decide, finish, nextMove, slack}
 use Rattle.lists.proofs.Tab.{length-tab}
-use Rattle.layout.specs.Rows.{rowAt, boxOf}
-use Rattle.layout.proofs.Rows.{length-box, box-lower, box-upper}
+use Rattle.integer.specs.Parts.{_⊑_}
+use Rattle.integer.specs.Size.{Within, weaken}
+use Rattle.lists.proofs.Bools.{true-of}
+use Rattle.linear.specs.Ranges.{widestBound}
+use Rattle.linear.proofs.Ranges.{lower-within, upper-within}
+use Rattle.layout.specs.Rows.{numberIn, rowAt, boxOf}
+use Rattle.layout.proofs.Rows.{length-box, lower-at, upper-at, box-lower, box-upper}
 use Rattle.state.specs.View.{keptCuts, levelOf}
 use Rattle.state.specs.Change.{Whole, raised, lowered}
 use Rattle.state.specs.declared.Level.{Level}
@@ -23,6 +29,9 @@ use Rattle.propagate.specs.Moves.{stopOf}
 use Rattle.propagate.specs.declared.propagate.Found.{Found}
 use Rattle.propagate.specs.declared.propagate.Found.the-variants.{Conflict, Decide, Finish}
 use Rattle.propagate.specs.Ready.{keptRows, Ready}
+use Rattle.propagate.specs.Tracked.{ScanFits}
+use Rattle.propagate.specs.Bounds.{Settable}
+use Rattle.propagate.proofs.Tracking.{number-same, rise-size, fall-size}
 use Rattle.propagate.proofs.Fuel.{propagation-next}
 use Rattle.propagate.proofs.Numbers.{number-reason}
 
@@ -32,6 +41,11 @@ boxAt n l = boxOf n (l .lower) (l .upper)
 
 unfoldable pub answer : ℕ → ℕ → ℕ → List ℤ → Level → Propagation
 answer n m made rows l = propagation (keptRows n m made rows) (numberFor m made) (levelOf n l)
+
+-- what the scans ask
+pub scan-fits : (n m made : ℕ) (rows : List ℤ) (l : Level) → Ready n m made rows l → ScanFits n (m + keptCuts made) rows (l .lower) (l .upper)
+unfolding keptCuts
+scan-fits n m made rows l r = record { few = r .few; count = omega (arith, r .inputs); constraints = r .constraints; bounds = r .bounds }
 
 -- constraint j sets a bound of variable i, which leaves the level k
 pub record Next (n m made : ℕ) (rows : List ℤ) (l : Level) (j i : ℕ) (k : Level) : Type 0 where
@@ -101,6 +115,22 @@ module _ (n m made : ℕ) (rows : List ℤ) (l : Level) (r : Ready n m made rows
         (rw b (set-lower-ordered i v box ordered (raises .fits))) (rw b (set-lower-nested i v box (omega (arith, raises .better))))
         (rw b (set-lower-slack i v box (raises .variable) ordered (raises .better) (raises .fits))) raised-answer
 
+    pub raise-better : numberIn (l .lower) i ⊑ v
+    raise-better = omega (arith, rw (lower-at n (l .lower) (l .upper) i (raise-places .1)) at (raises .better))
+
+    pub raise-rise : Within widestBound (v -ℤ numberIn (l .lower) i)
+    raise-rise =
+        rw (number-same (l .lower) i v (omega (arith, r .whole .lower, r .few, raise-places .1))) at
+        (rise-size (scan-fits n m made rows l r) (scan-fits n m made rows (raised l i v (numberFor m made j)) (raise-next .ready)) i (raise-places .1))
+
+    pub raise-settable : Settable i v (l .lower) (l .below)
+    raise-settable =
+        record {
+          variable = omega (arith, r .few, raise-places .1);
+          old = weaken (lit≤ tt) (lower-within n (l .lower) (l .upper) (true-of _ (r .bounds)) i (raise-places .1));
+          change = raise-rise;
+        }
+
   module _ (j i : ℕ) (v : ℤ) (e : newUpper j i v ≡ nextMove (keptRows n m made rows) (boxAt n l)) where
     lowers : Lowers (keptRows n m made rows) (boxAt n l) j i v
     lowers = chosen (newUpper j i v) e
@@ -127,8 +157,24 @@ module _ (n m made : ℕ) (rows : List ℤ) (l : Level) (r : Ready n m made rows
         (rw b (set-upper-ordered i v box ordered (lowers .fits))) (rw b (set-upper-nested i v box (omega (arith, lowers .better))))
         (rw b (set-upper-slack i v box (lowers .variable) ordered (lowers .fits) (lowers .better))) lowered-answer
 
+    pub lower-better : v ⊑ numberIn (l .upper) i
+    lower-better = omega (arith, rw (upper-at n (l .lower) (l .upper) i (lower-places .1)) at (lowers .better))
+
+    pub lower-fall : Within widestBound (v -ℤ numberIn (l .upper) i)
+    lower-fall =
+        rw (number-same (l .upper) i v (omega (arith, r .whole .upper, r .few, lower-places .1))) at
+        (fall-size (scan-fits n m made rows l r) (scan-fits n m made rows (lowered l i v (numberFor m made j)) (lower-next .ready)) i (lower-places .1))
+
+    pub lower-settable : Settable i v (l .upper) (l .above)
+    lower-settable =
+        record {
+          variable = omega (arith, r .few, lower-places .1);
+          old = weaken (lit≤ tt) (upper-within n (l .lower) (l .upper) (true-of _ (r .bounds)) i (lower-places .1));
+          change = lower-fall;
+        }
+
   -- where the next move sets no bound, it is the answer
-  pub stop-answer : (found : Found) → stopOf found ≡ nextMove (keptRows n m made rows) (boxAt n l) → propagationOf n (record { level = l; found = found }) ≡ answer n m made rows l
+  pub stop-answer : (found : Found) → stopOf found ≡ nextMove (keptRows n m made rows) (boxAt n l) → propagationOf n l found ≡ answer n m made rows l
   unfolding propagateBy propagationOf stopOf
   stop-answer (Conflict j) e = sym (follows (conflict j) e)
   stop-answer (Decide i) e = sym (follows (decide i) e)

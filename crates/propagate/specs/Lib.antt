@@ -1,5 +1,8 @@
 -- What the scans and propagation give, in the model's terms.
 pub mod Moves
-pub mod Stored
+pub mod Tracked
+pub mod Masks
+pub mod Walk
+pub mod Bounds
 pub mod Propagation
 pub mod Ready

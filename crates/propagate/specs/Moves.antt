@@ -5,24 +5,15 @@ use mathlib.Core.Option.{Option, none, some}
 use lib.Dec.{ltb}
 use Rattle.model.specs.Move as model
 use Rattle.propagate.specs.declared.scan.Move.{Move}
-use Rattle.propagate.specs.declared.scan.Move.the-variants.{Conflict, Lower, Upper, Decide, Finish}
+use Rattle.propagate.specs.declared.scan.Move.the-variants.{Lower, Upper, Nothing}
 use Rattle.propagate.specs.declared.propagate.Found.{Found}
 use Rattle.propagate.specs.declared.propagate.Found.the-variants as stop
 
-unfoldable pub moveOf : Move → model.Move
-moveOf (Conflict j) = model.conflict j
-moveOf (Lower j i v) = model.newLower j i v
-moveOf (Upper j i v) = model.newUpper j i v
-moveOf (Decide i) = model.decide i
-moveOf Finish = model.finish
-
--- what a scan found, nothing where it says `Finish`
+-- what the scan for an improvement found
 unfoldable pub foundOf : Move → Option model.Move
-foundOf (Conflict j) = some (model.conflict j)
 foundOf (Lower j i v) = some (model.newLower j i v)
 foundOf (Upper j i v) = some (model.newUpper j i v)
-foundOf (Decide i) = some (model.decide i)
-foundOf Finish = none
+foundOf Nothing = none
 
 -- what a scan of `count` places found that ended at place p: a move there, nothing where p is `count`
 unfoldable pub hitAt : (ℕ → model.Move) → ℕ → ℕ → Option model.Move

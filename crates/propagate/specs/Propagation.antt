@@ -6,31 +6,33 @@ use mathlib.Core.List.{List}
 use lib.Dec.{ltb}
 use Rattle.model.specs.Ranges.{maxCuts}
 use Rattle.model.specs.Constraint.{Constraint}
-use Rattle.model.specs.Search.{Level, constraint, raiseLower, lowerUpper}
+use Rattle.model.specs.Search.{constraint, raiseLower, lowerUpper}
+use Rattle.model.specs.Search as model
 use Rattle.model.specs.Move.{Move, conflict, newLower, newUpper, decide, finish, nextMove, slack}
 use Rattle.state.specs.View as view
-use Rattle.propagate.specs.declared.propagate.Propagated.{Propagated}
+use Rattle.state.specs.declared.Level.{Level}
+use Rattle.propagate.specs.declared.propagate.Found.{Found}
 use Rattle.propagate.specs.Moves.{stopOf}
 
 -- the level where propagation stops, and the next move there
 pub record Propagation : Type 0 where
-  pub level : Level
+  pub level : model.Level
   pub move : Move
 
 -- `number` gives the number of the kept constraint at a position
-unfoldable pub propagateBy : Move → (ℕ → ℕ) → Level → (Level → Propagation) → Propagation
+unfoldable pub propagateBy : Move → (ℕ → ℕ) → model.Level → (model.Level → Propagation) → Propagation
 propagateBy (conflict j) number l go = record { level = l; move = conflict j }
 propagateBy (newLower j i v) number l go = go (raiseLower i v (constraint (number j)) l)
 propagateBy (newUpper j i v) number l go = go (lowerUpper i v (constraint (number j)) l)
 propagateBy (decide i) number l go = record { level = l; move = decide i }
 propagateBy finish number l go = record { level = l; move = finish }
 
-unfoldable pub propagateFor : ℕ → List Constraint → (ℕ → ℕ) → Level → Propagation
+unfoldable pub propagateFor : ℕ → List Constraint → (ℕ → ℕ) → model.Level → Propagation
 propagateFor zero ks number l = record { level = l; move = finish }
 propagateFor (suc fuel) ks number l = propagateBy (nextMove ks (l .box)) number l (propagateFor fuel ks number)
 
 -- every bound that is set lowers the slack, so this fuel does not run out
-unfoldable pub propagation : List Constraint → (ℕ → ℕ) → Level → Propagation
+unfoldable pub propagation : List Constraint → (ℕ → ℕ) → model.Level → Propagation
 propagation ks number l = propagateFor (suc (slack (l .box))) ks number l
 
 -- ---- what the code gives
@@ -38,5 +40,5 @@ propagation ks number l = propagateFor (suc (slack (l .box))) ks number l
 unfoldable pub numberFor : ℕ → ℕ → ℕ → ℕ
 numberFor m made p = cond (ltb p m) (suc p) (suc (p + (made - maxCuts)))
 
-unfoldable pub propagationOf : ℕ → Propagated → Propagation
-propagationOf n r = record { level = view.levelOf n (r .level); move = stopOf (r .found) }
+unfoldable pub propagationOf : ℕ → Level → Found → Propagation
+propagationOf n l found = record { level = view.levelOf n l; move = stopOf found }

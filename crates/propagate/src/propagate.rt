@@ -1,18 +1,23 @@
-// Document 01's move 2, repeated at one level.
+// Propagation: document 01's move 2, repeated at one level.
+use crate::bounds::lower_upper;
+use crate::bounds::raise_lower;
+use crate::masks::open_mask;
 use crate::scan::Move;
-use crate::scan::next_move;
-use state::Level;
+use crate::scan::first_improvement;
+use crate::scan::first_open;
 ghost use mathlib.Core.Path.{_≡_};
-ghost use Prim.Native.Nat.{_+_, _≤_, _<_};
-ghost use lib.Dec.{T};
-ghost use Rattle.model.specs.Lists.{allOf};
-ghost use Rattle.model.specs.Ranges.{maxConstraints, maxCuts, maxBudget};
-ghost use Rattle.model.specs.Problem.{boundsInRange};
+ghost use Prim.Native.Nat.{ℕ, _+_, _≤_, _<_};
+ghost use Rattle.model.specs.Lists.{withDefault};
+ghost use Rattle.model.specs.Ranges.{maxVariables, maxConstraints, maxCuts, maxBudget};
+ghost use Rattle.model.specs.Move.{finish, firstOpen};
 ghost use Rattle.layout.specs.Rows.{boxOf};
 ghost use Rattle.state.specs.View.{keptCuts, levelOf};
-ghost use Rattle.state.specs.Change.{Whole};
+ghost use Rattle.state.specs.Change.{held};
+ghost use Rattle.propagate.specs.Moves.{stopOf};
 ghost use Rattle.propagate.specs.Propagation.{propagation, numberFor, propagationOf};
 ghost use Rattle.propagate.specs.Ready.{keptRows, Ready};
+ghost use Rattle.propagate.specs.Tracked.{Tracked, Told};
+ghost use Rattle.propagate.specs.Masks.{Masked};
 
 const MAX_CUTS: usize = 64;
 
@@ -21,11 +26,6 @@ pub enum Found {
     Conflict(usize),
     Decide(usize),
     Finish,
-}
-
-pub struct Propagated {
-    pub level: Level,
-    pub found: Found,
 }
 
 // How many constraints are kept: the m inputs and the newest cuts.
@@ -53,44 +53,71 @@ pub fn number_at(m: usize, made: usize, j: usize) -> usize
     j + 1 + (made - MAX_CUTS)
 }
 
-// Move 2, repeated on one level until the next move is a conflict, a decision or the end.
-pub fn propagate(rows: &[i64; 4224], level: Level, n: usize, m: usize, made: usize) -> Propagated
-    requires { ⌜ Ready n m made (now rows) level ⌝ }
-    ensures { λ r. ⌜ propagationOf n r ≡ propagation (keptRows n m made (now (rows .entry))) (numberFor m made) (levelOf n level) ⌝ }
-    ensures { λ r. ⌜ Whole (r .level) × T (allOf boundsInRange (boxOf n (r .level .lower) (r .level .upper))) ⌝ }
+// Where no constraint sets a bound: a decision at the first open variable, or the solution.
+fn decide_or_finish<'a>(lower: &'a [i64; 32], upper: &'a [i64; 32], n: usize) -> Found
+    requires { ⌜ n ≤ maxVariables ⌝ }
+    ensures { λ r. ⌜ stopOf r ≡ withDefault finish (firstOpen 0 (boxOf n (now (lower .entry)) (now (upper .entry)))) ⌝ }
+{
+    let i = first_open(lower, upper, n);
+    if i < n {
+        return Found::Decide(i);
+    }
+    Found::Finish
+}
+
+// Move 2, repeated on the level in hand until the next move is a conflict, a decision or the end. `told` is the position of the first constraint that
+// the level falsifies. What is kept of each constraint follows the level; at a conflict it is stale.
+pub fn propagate<'a>(
+    rows: &'a [i64; 4224],
+    n: usize,
+    m: usize,
+    made: usize,
+    inputs: &'a [usize; 64],
+    cuts: &'a [usize; 64],
+    told: usize,
+    lower: &mut [i64; 32],
+    upper: &mut [i64; 32],
+    below: &mut [usize; 32],
+    above: &mut [usize; 32],
+    activities: &mut [i64; 128],
+    reaches: &mut [i64; 128],
+) -> Found
+    requires { ⌜ Ready n m made (now rows) (held (now lower) (now upper) (now below) (now above) 0) ⌝ }
+    requires { ⌜ Told n (now rows) (now lower) (now upper) (now activities) (now reaches) (m + keptCuts made) told × Masked n m (m + keptCuts made) (now rows) (now inputs) (now cuts) ⌝ }
+    ensures { λ r. ⌜ ((d : ℕ) → propagationOf n (held (now (lower .exit)) (now (upper .exit)) (now (below .exit)) (now (above .exit)) d) r ≡ propagation (keptRows n m made (now (rows .entry))) (numberFor m made) (levelOf n (held (now (lower .entry)) (now (upper .entry)) (now (below .entry)) (now (above .entry)) d))) ⌝ }
+    ensures { λ r. ⌜ Ready n m made (now (rows .entry)) (held (now (lower .exit)) (now (upper .exit)) (now (below .exit)) (now (above .exit)) 0) ⌝ }
+    ensures { λ r. ⌜ (Tracked n (now (rows .entry)) (now (lower .exit)) (now (upper .exit)) (now (activities .exit)) (now (reaches .exit)) 0) × ((i : ℕ) → r ≡ Found.Decide i → Tracked n (now (rows .entry)) (now (lower .exit)) (now (upper .exit)) (now (activities .exit)) (now (reaches .exit)) (m + keptCuts made)) ⌝ }
 {
     let kept = kept_count(m, made);
-    let mut activities = [0i64; 128];
-    let mut l = level;
-    loop {
-        let next = next_move(rows, &l.lower, &l.upper, n, kept, &mut activities);
-        match next {
-            Move::Conflict(j) => {
-                return Propagated {
-                    level: l,
-                    found: Found::Conflict(j),
-                };
-            }
+    let open = open_mask(lower, upper, n);
+    let mut falsified = told;
+    while falsified == kept {
+        let better = first_improvement(
+            rows,
+            lower,
+            upper,
+            n,
+            m,
+            kept,
+            inputs,
+            cuts,
+            open,
+            activities,
+            reaches,
+        );
+        match better {
             Move::Lower(j, i, v) => {
-                l.lower[i] = v;
-                l.below[i] = number_at(m, made, j);
+                let number = number_at(m, made, j);
+                falsified = raise_lower(rows, i, v, number, kept, lower, below, activities);
             }
             Move::Upper(j, i, v) => {
-                l.upper[i] = v;
-                l.above[i] = number_at(m, made, j);
+                let number = number_at(m, made, j);
+                falsified = lower_upper(rows, i, v, number, kept, upper, above, activities);
             }
-            Move::Decide(i) => {
-                return Propagated {
-                    level: l,
-                    found: Found::Decide(i),
-                };
-            }
-            Move::Finish => {
-                return Propagated {
-                    level: l,
-                    found: Found::Finish,
-                };
+            Move::Nothing => {
+                return decide_or_finish(lower, upper, n);
             }
         }
     }
+    Found::Conflict(falsified)
 }

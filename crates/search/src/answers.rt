@@ -11,11 +11,11 @@ use turns::advance::advance;
 ghost use Prim.Native.Nat.{_*_, _<_, _≤_};
 ghost use mathlib.Core.Bool.{true};
 ghost use mathlib.Core.Path.{_≡_};
-ghost use lib.ListN.{length};
+ghost use lib.ListN.{getD, length};
 ghost use Rattle.model.specs.Bytes.{blockLength};
 ghost use Rattle.layout.specs.Rows.{numberIn};
 ghost use Rattle.fields.specs.Fields.{filled};
-ghost use Rattle.state.specs.View.{view};
+ghost use Rattle.state.specs.View.{noLevel, view};
 ghost use Rattle.turns.specs.Advancing.{Advances};
 ghost use Rattle.validity.proofs.Steps.{Valid};
 ghost use Rattle.search.specs.Opening.{blank as blankState};
@@ -73,6 +73,15 @@ fn lowers(l: Level, n: usize) -> [i64; 32]
     values
 }
 
+// The values of a solution: the lower bounds of the deepest level. A function of its own, since reading one level of many costs a copy of the state.
+fn deepest_lowers(s: Search) -> [i64; 32]
+    requires { ⌜ (s .n ≤ 32) × (s .depth < 33) ⌝ }
+    ensures { λ r. ⌜ r ≡ filled (numberIn (getD (s .levels) (s .depth) noLevel .lower)) (s .n) 32 ⌝ }
+{
+    let depth = s.depth;
+    lowers(s.levels[depth], s.n)
+}
+
 // At most `limit` turns from a valid state, to a verdict; a marked one gives its verdict again.
 pub fn proceed(s: Search, buffer: &mut [u8], limit: usize, keep: bool) -> Advanced
     requires { ⌜ Valid (view s) × (keep ≡ true → blockLength * limit ≤ length (now buffer)) ⌝ }
@@ -121,9 +130,8 @@ pub fn answer(a: Advanced) -> Traced
             verdict = Verdict::OutOfBudget;
         }
         Ending::Solution => {
-            let depth = state.depth;
             verdict = Verdict::Solution;
-            values = lowers(state.levels[depth], state.n);
+            values = deepest_lowers(state);
         }
     }
     Traced {

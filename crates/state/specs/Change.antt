@@ -15,6 +15,10 @@ pub record Whole (l : Level) : Type 0 where
   pub below : length (l .below) ≡ 32
   pub above : length (l .above) ≡ 32
 
+-- the level of these arrays
+abbrev pub held : List ℤ → List ℤ → List ℕ → List ℕ → ℕ → Level
+held lower upper below above decided = record { lower = lower; upper = upper; below = below; above = above; decided = decided }
+
 abbrev pub raised : Level → ℕ → ℤ → ℕ → Level
 raised l i v reason = record { lower = set (l .lower) i v; upper = l .upper; below = set (l .below) i reason; above = l .above; decided = l .decided }
 

@@ -1,8 +1,7 @@
 // The search state, document 01's 'walk', and its levels.
 
 ghost use mathlib.Core.Path.{_≡_};
-ghost use Prim.Native.Nat.{_<_};
-ghost use Rattle.state.specs.Change.{decidedAt, Whole};
+ghost use Rattle.state.specs.Change.{Whole};
 
 // Why a bound is held: one of these, or the number of a constraint.
 pub const DOMAIN: usize = 0;
@@ -39,19 +38,6 @@ pub struct Search {
     pub rows: [i64; 4224],
     pub numbers: [usize; 64],
     pub levels: [Level; 33],
-}
-
-// The level of a new decision: a copy with the upper bound of variable i at its lower bound.
-pub fn decide(l: Level, i: usize) -> Level
-    requires { ⌜ i < 32 ⌝ }
-    ensures { λ r. ⌜ (r ≡ decidedAt l i) × Whole l ⌝ }
-{
-    let mut k = l;
-    let v = k.lower[i];
-    k.upper[i] = v;
-    k.above[i] = DECISION;
-    k.decided = i;
-    k
 }
 
 // The level itself: it tells that its arrays are as long as they are declared.

@@ -16,6 +16,7 @@ use Rattle.model.specs.Conflict.{analyze, firstEqual}
 use Rattle.lists.proofs.Tab.{getD-tab}
 use Rattle.layout.specs.Rows.{constraintAt, rowAt}
 use Rattle.state.specs.View.{levelOf, keptCuts, coreWith}
+use Rattle.state.specs.Change.{held}
 use Rattle.state.specs.declared.Level.{Level}
 use Rattle.state.proofs.Cores.{kept-rows}
 use Rattle.analyze.specs.Analyzed.{Analyzed, analysisOf}
@@ -23,8 +24,26 @@ use Rattle.analyze.specs.Position.{foundBelow}
 use Rattle.analyze.specs.Storing.{RowKept, NumberKept}
 use Rattle.analyze.specs.declared.analysis.Analysis.{Analysis}
 use Rattle.analyze.proofs.Numbering.{numbered-equal, numbered-kept}
+use Rattle.backtrack.proofs.Saving.{rows-stay}
+use Rattle.turns.proofs.Keeping.{rows-kept}
 use Rattle.turns.specs.Learning.{Learns, Learnable, LearnedFrom}
 use Rattle.turns.specs.declared.learn.Learned.{Learned}
+
+-- whatever the decision variable is
+pub learnable-at : {n m made : ℕ} {rows lower upper : List ℤ} {below above numbers : List ℕ} {j d : ℕ} (e : ℕ) → Learnable n m made rows numbers (held lower upper below above d) j → Learnable n m made rows numbers (held lower upper below above e) j
+learnable-at e l =
+    let w = l .whole in
+    record {
+      variables = l .variables;
+      inputs = l .inputs;
+      cuts = l .cuts;
+      rowsLong = l .rowsLong;
+      numbersLong = l .numbersLong;
+      whole = record { lower = w .lower; upper = w .upper; below = w .below; above = w .above };
+      constraints = l .constraints;
+      bounds = l .bounds;
+      position = l .position;
+    }
 
 module _ (n m made : ℕ) (rows : List ℤ) (numbers : List ℕ) (level : Level) (j : ℕ) (l : Learnable n m made rows numbers level j)
     (a : Analysis) (z : Analyzed n m made rows (level .lower) (level .upper) (level .below) (level .above) j a) where
@@ -58,6 +77,7 @@ module _ (n m made : ℕ) (rows : List ℤ) (numbers : List ℕ) (level : Level)
         rowsLong = l .rowsLong;
         numbersLong = l .numbersLong;
         count = omega arith;
+        moved = rows-stay n m made rows;
       }
 
   pub learned-kept : (p : ℕ) (rows₁ : List ℤ) (numbers₁ : List ℕ) →
@@ -78,4 +98,5 @@ module _ (n m made : ℕ) (rows : List ℤ) (numbers : List ℕ) (level : Level)
         rowsLong = r .size ∙ l .rowsLong;
         numbersLong = k .size ∙ l .numbersLong;
         count = omega arith;
+        moved = rows-kept n m made rows (a .cut) rows₁ (l .variables) r;
       }

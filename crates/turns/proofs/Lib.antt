@@ -1,4 +1,5 @@
 -- The argument for the search's loop.
+pub mod Keeping
 pub mod Learning
 pub mod Turning
 pub mod Calls
@@ -13,3 +14,6 @@ pub mod Starting
 pub mod Rounds
 pub mod Stored
 pub mod Counted
+pub mod Carrying
+pub mod Masking
+pub mod Looping

@@ -28,7 +28,7 @@ use Rattle.state.proofs.Cores.{kept-rows}
 use Rattle.propagate.specs.Moves.{stopOf}
 use Rattle.propagate.specs.Propagation.{Propagation, propagation, numberFor, propagationOf}
 use Rattle.propagate.specs.Ready.{keptRows, Ready}
-use Rattle.propagate.specs.declared.propagate.Propagated.{Propagated}
+use Rattle.propagate.specs.declared.propagate.Found.{Found}
 use Rattle.propagate.proofs.Fuel.{propagation-keeps}
 use Rattle.propagate.proofs.States.{state-ready, state-descent, state-fits, state-chosen}
 use Rattle.turns.specs.Advancing.{Buffered}
@@ -70,50 +70,54 @@ module _ {s : model.Search} {old : List ℕ} {limit : ℕ} {keep : Bool} {n m bu
   unfolding coreWith
   box-ordered = deepest-ordered (coreHere n m rows numbers levels made depth level) (r .fits)
 
-  module _ (p : Propagated) (e : propagationOf n p ≡ propagation (keptRows n m made rows) (numberFor m made) (levelOf n level)) where
-    pub propagates : (q : Move) → stopOf (p .found) ≡ q → Propagates (coreHere n m rows numbers levels made depth level) (coreHere n m rows numbers levels made depth (p .level)) q
+  module _ (here : Level) (found : Found) (e : propagationOf n here found ≡ propagation (keptRows n m made rows) (numberFor m made) (levelOf n level)) where
+    pub propagates : (q : Move) → stopOf found ≡ q → Propagates (coreHere n m rows numbers levels made depth level) (coreHere n m rows numbers levels made depth here) q
     propagates q f =
         let ls = levelsFrom n levels depth in
-        let d = coreHere n m rows numbers levels made depth (p .level) in
-        let chosen : Chosen (model.kept d) (d .deepest .box) (stopOf (p .found)) =
+        let d = coreHere n m rows numbers levels made depth here in
+        let chosen : Chosen (model.kept d) (d .deepest .box) (stopOf found) =
         unfold coreWith levelOf in
-        subst (λ (ks : List Constraint). Chosen ks (boxOf n (p .level .lower) (p .level .upper)) (stopOf (p .found))) (sym (kept-rows n m made rows numbers (levelOf n (p .level)) ls))
-        (state-chosen n m made rows numbers level ls (r .fits) p e) in
+        subst (λ (ks : List Constraint). Chosen ks (boxOf n (here .lower) (here .upper)) (stopOf found)) (sym (kept-rows n m made rows numbers (levelOf n here) ls))
+        (state-chosen n m made rows numbers level ls (r .fits) here found e) in
         subst (Propagates (coreHere n m rows numbers levels made depth level) d) f
-        (record { fits = state-fits n m made rows numbers level ls (r .fits) p e; next = state-descent n m made rows numbers level ls (r .fits) p e; chosen = chosen })
+        (record { fits = state-fits n m made rows numbers level ls (r .fits) here found e; next = state-descent n m made rows numbers level ls (r .fits) here found e; chosen = chosen })
+
+    -- the level where propagation stopped is ready too
+    pub ready-here : (q : Move) → stopOf found ≡ q → Whole here → Ready n m made rows here
+    ready-here q f w = state-ready n m made rows numbers here (levelsFrom n levels depth) (propagates q f .fits) (r .counts .few) (r .counts .inputs) made-small w
 
     -- a decision: its variable, and the measure falls
-    pub decided-here : (i : ℕ) → stopOf (p .found) ≡ decide i → i < n
+    pub decided-here : (i : ℕ) → stopOf found ≡ decide i → i < n
     decided-here i f =
         let q = propagates (decide i) f in
-        unfold coreWith in decided-variable (coreHere n m rows numbers levels made depth (p .level)) i (q .fits) (q .chosen)
+        unfold coreWith in decided-variable (coreHere n m rows numbers levels made depth here) i (q .fits) (q .chosen)
 
-    slack-here : slack (levelOf n (p .level) .box) ≤ slack (levelOf n level .box)
+    slack-here : slack (levelOf n here .box) ≤ slack (levelOf n level .box)
     unfolding propagationOf
     slack-here =
         subst (λ (q : Propagation). slack (q .level .box) ≤ slack (levelOf n level .box)) (sym e) (slack-propagated (keptRows n m made rows) (numberFor m made) (levelOf n level) box-ordered)
 
-    pub decide-less : (i : ℕ) → stopOf (p .found) ≡ decide i → Whole (p .level) →
-        (limit - done) * turnWeight + slack (boxOf n (decidedAt (p .level) i .lower) (decidedAt (p .level) i .upper)) <
+    pub decide-less : (i : ℕ) → stopOf found ≡ decide i → Whole here →
+        (limit - done) * turnWeight + slack (boxOf n (decidedAt here i .lower) (decidedAt here i .upper)) <
         (limit - done) * turnWeight + slack (boxOf n (level .lower) (level .upper))
     decide-less i f w =
         let q = propagates (decide i) f in
-        let c = coreHere n m rows numbers levels made depth (p .level) in
-        let o : Ordered (levelOf n (p .level) .box) = unfold coreWith in deepest-ordered c (q .fits) in
-        let a : OpenAt (levelOf n (p .level) .box) i = unfold coreWith in first-open i (levelOf n (p .level) .box) (q .chosen .first) in
-        let k : levelOf n (decidedAt (p .level) i) .box ≡ lowHalf i (levelOf n (p .level) .box) =
-        unfold model.decideAt lowHalf in ap (λ (x : model.Level). x .box) (level-decided n (p .level) w (r .counts .few) i (decided-here i f)) in
-        let less : slack (levelOf n (decidedAt (p .level) i) .box) < slack (levelOf n level .box) =
-        rw k (omega (arith, low-slack i (levelOf n (p .level) .box) o a, slack-here)) in
-        let small : slack (boxOf n (decidedAt (p .level) i .lower) (decidedAt (p .level) i .upper)) < slack (boxOf n (level .lower) (level .upper)) = unfold levelOf in less in
+        let c = coreHere n m rows numbers levels made depth here in
+        let o : Ordered (levelOf n here .box) = unfold coreWith in deepest-ordered c (q .fits) in
+        let a : OpenAt (levelOf n here .box) i = unfold coreWith in first-open i (levelOf n here .box) (q .chosen .first) in
+        let k : levelOf n (decidedAt here i) .box ≡ lowHalf i (levelOf n here .box) =
+        unfold model.decideAt lowHalf in ap (λ (x : model.Level). x .box) (level-decided n here w (r .counts .few) i (decided-here i f)) in
+        let less : slack (levelOf n (decidedAt here i) .box) < slack (levelOf n level .box) =
+        rw k (omega (arith, low-slack i (levelOf n here .box) o a, slack-here)) in
+        let small : slack (boxOf n (decidedAt here i .lower) (decidedAt here i .upper)) < slack (boxOf n (level .lower) (level .upper)) = unfold levelOf in less in
         omega arith
 
     -- a conflict: what learning from it asks
-    pub learnable : (j : ℕ) → stopOf (p .found) ≡ conflict j → Whole (p .level) × T (allOf boundsInRange (boxOf n (p .level .lower) (p .level .upper))) → Learnable n m made rows numbers (p .level) j
+    pub learnable : (j : ℕ) → stopOf found ≡ conflict j → Whole here × T (allOf boundsInRange (boxOf n (here .lower) (here .upper))) → Learnable n m made rows numbers here j
     learnable j f w =
         let q = propagates (conflict j) f in
         let g = ready in
-        let size = ap length (kept-rows n m made rows numbers (levelOf n (p .level)) (levelsFrom n levels depth)) in
+        let size = ap length (kept-rows n m made rows numbers (levelOf n here) (levelsFrom n levels depth)) in
         record {
           variables = r .counts .few;
           inputs = r .counts .inputs;

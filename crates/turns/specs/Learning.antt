@@ -17,6 +17,7 @@ use Rattle.layout.specs.Rows.{rowLength, numberIn, constraintAt, rowAt, boxOf}
 use Rattle.state.specs.View.{levelOf, keptCuts, coreWith}
 use Rattle.state.specs.Change.{Whole}
 use Rattle.state.specs.declared.Level.{Level}
+use Rattle.backtrack.specs.Saved.{RowsMoved}
 use Rattle.turns.specs.declared.learn.Learned.{Learned}
 
 -- learning from the constraint in position j of a core: the cut, what it used, its number, and the core that keeps it
@@ -46,3 +47,4 @@ pub record LearnedFrom (n m made : ℕ) (rows : List ℤ) (numbers : List ℕ) (
   pub rowsLong : length rows₁ ≡ 4224
   pub numbersLong : length numbers₁ ≡ maxCuts
   pub count : r .made ≤ suc made
+  pub moved : RowsMoved n m made (r .made) rows rows₁

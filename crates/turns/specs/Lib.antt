@@ -1,3 +1,4 @@
 -- What the search's contracts say.
 pub mod Advancing
 pub mod Learning
+pub mod Marking

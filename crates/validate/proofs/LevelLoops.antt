@@ -1,4 +1,4 @@
--- One level's tests, and the loops over the levels from 0 to the depth.
+-- One level's tests, and the loop over the levels from 0 to the depth.
 use Prim.Native.Nat.{ℕ, zero, suc, _+_, _<_, _≤_}
 use native.Mathlib.Omega.{arith}
 use native.Mathlib.Numerals.{add-one}
@@ -6,16 +6,20 @@ use mathlib.Core.Bool.{Bool, true, false, not, _&&_, and-assoc, and-false}
 use mathlib.Core.List.{List}
 use mathlib.Core.Logic.{⊎-elim}
 use mathlib.Core.Path.{_≡_, refl, sym, _∙_}
-use lib.ListN.{getD}
+use lib.ListN.{getD, length}
 use borrow.Author.Tests.{not-true, not-false}
 use Rattle.model.specs.Lists.{tab, allOf}
+use Rattle.model.specs.Ranges.{maxVariables}
 use Rattle.model.specs.Problem.{boundsInRange}
 use Rattle.model.specs.Validity.{reasonsValid, levelValid, boxInside, decisionValid, nestedValid}
-use Rattle.lists.proofs.Bools.{clash, and-true, and-both, lt-or-le}
+use Rattle.lists.proofs.Bools.{said-yes, and-true, and-both, lt-or-le}
 use Rattle.layout.specs.Rows.{boxOf}
+use Rattle.linear.specs.Ranges.{BoxFits}
+use Rattle.linear.proofs.Ranges.{box-fits}
+use Rattle.state.specs.Change.{Whole}
 use Rattle.state.specs.View.{reasonsIn, levelOf, noLevel, levelAt, levelsFrom}
 use Rattle.state.specs.declared.Level.{Level}
-use Rattle.validate.specs.Nested.{nestedIn, nestedTo}
+use Rattle.validate.specs.Nested.{nestedIn}
 
 -- ---- one level: its box, then its reasons
 module _ (n last : ℕ) (l : Level) (r : Bool) (t : r ≡ allOf boundsInRange (boxOf n (l .lower) (l .upper))) where
@@ -27,9 +31,14 @@ module _ (n last : ℕ) (l : Level) (r : Bool) (t : r ≡ allOf boundsInRange (b
   unfolding levelValid levelOf
   level-reasons h q u = rw (← t, not-false r h) u
 
-box-of-level : (n last : ℕ) (l : Level) → levelValid last (levelOf n l) ≡ true → allOf boundsInRange (boxOf n (l .lower) (l .upper)) ≡ true
+-- the bounds of a level that passed
+pub level-fits : (n last : ℕ) (l o : Level) → l ≡ o → Whole o → n ≤ maxVariables → (r : Bool) → r ≡ levelValid last (levelOf n l) → not r ≡ false → BoxFits n (l .lower) (l .upper)
 unfolding levelValid levelOf
-box-of-level n last l e = and-true (allOf boundsInRange (boxOf n (l .lower) (l .upper))) (allOf (reasonsValid last) (tab (reasonsIn (l .below) (l .above)) 0 n)) e .0
+level-fits n last l o w v few r t h =
+    let p = and-true (allOf boundsInRange (boxOf n (l .lower) (l .upper))) (allOf (reasonsValid last) (tab (reasonsIn (l .below) (l .above)) 0 n)) (said-yes t h) .0 in
+    let x : length (l .lower) ≡ 32 = rw w (v .lower) in
+    let y : length (l .upper) ≡ 32 = rw w (v .upper) in
+    box-fits n _ _ p (omega arith) (omega arith)
 
 -- ---- every level
 unfoldable pub levelsTo : ℕ → ℕ → List Level → ℕ → Bool
@@ -39,9 +48,6 @@ module _ (n last : ℕ) (levels : List Level) where
   pub levels-none : levelsTo n last levels 0 ≡ true
   unfolding levelsTo levelsFrom allOf
   levels-none = refl
-
-  pub levels-end : (depth d : ℕ) → depth < d → d ≤ depth + 1 → levelsTo n last levels d ≡ true → true ≡ levelsTo n last levels (depth + 1)
-  levels-end depth d l h a = let z : d ≡ depth + 1 = omega arith in sym (rw z at a)
 
   fails-at : (d k : ℕ) → d < k → levelValid last (levelAt n levels d) ≡ false → levelsTo n last levels k ≡ false
   unfolding levelsTo levelsFrom allOf
@@ -62,15 +68,6 @@ module _ (n last : ℕ) (levels : List Level) where
     pub levels-fail : (depth : ℕ) → d ≤ depth → not r ≡ true → false ≡ levelsTo n last levels (depth + 1)
     levels-fail depth h k = sym (fails-at d (depth + 1) (omega arith) (here ∙ not-true r k))
 
-  -- a level of those that passed: its bounds
-  pub level-passed : (depth d : ℕ) → d ≤ depth → levelsTo n last levels (depth + 1) ≡ true →
-      allOf boundsInRange (boxOf n (getD levels d noLevel .lower) (getD levels d noLevel .upper)) ≡ true
-  level-passed depth d h a = in-range (levelValid last (levelAt n levels d)) refl
-    where
-      in-range : (t : Bool) → levelValid last (levelAt n levels d) ≡ t → allOf boundsInRange (boxOf n (getD levels d noLevel .lower) (getD levels d noLevel .upper)) ≡ true
-      in-range true e = box-of-level n last (getD levels d noLevel) (unfold levelAt in e)
-      in-range false e = clash a (fails-at d (depth + 1) (omega arith) e)
-
 -- ---- one level in the one above it: its box, then its decision
 module _ (n : ℕ) (l o : Level) (r : Bool) (t : r ≡ boxInside (boxOf n (l .lower) (l .upper)) (boxOf n (o .lower) (o .upper))) where
   pub nested-box : not r ≡ true → false ≡ nestedIn n (levelOf n l) (levelOf n o)
@@ -83,13 +80,13 @@ module _ (n : ℕ) (l o : Level) (r : Bool) (t : r ≡ boxInside (boxOf n (l .lo
   nested-decision h q u = rw (← t, not-false r h) u
 
 -- ---- every level in the one above it
+unfoldable pub nestedTo : ℕ → List Level → ℕ → Bool
+nestedTo n levels d = nestedValid n (levelAt n levels d) (levelsFrom n levels d)
+
 module _ (n : ℕ) (levels : List Level) where
   pub nested-none : nestedTo n levels 0 ≡ true
   unfolding nestedTo levelsFrom nestedValid
   nested-none = refl
-
-  pub nested-end : (depth d : ℕ) → depth ≤ d → d ≤ depth → nestedTo n levels d ≡ true → true ≡ nestedTo n levels depth
-  nested-end depth d l h a = let z : d ≡ depth = omega arith in sym (rw z at a)
 
   one-more : (d : ℕ) → nestedTo n levels (suc d) ≡ (nestedIn n (levelAt n levels (suc d)) (levelAt n levels d) && nestedTo n levels d)
   unfolding nestedTo nestedIn levelsFrom nestedValid

@@ -1,6 +1,5 @@
 -- The mark: the loop over a level's open variables, and the test of each mark.
 use Prim.Native.Nat.{ℕ, zero, suc, _+_, _<_, _≤_}
-use native.Mathlib.Omega.{arith}
 use mathlib.Core.Bool.{Bool, true, false, not, _&&_}
 use mathlib.Core.List.{List}
 use mathlib.Core.Path.{_≡_, refl, sym, ap, _∙_}
@@ -12,22 +11,18 @@ use mir.Val.{SFits}
 use mir.Facts.{toZ-ofZ}
 use Rattle.model.specs.Lists.{tab, anyOf}
 use Rattle.model.specs.Search as model
-use Rattle.model.specs.Validity.{levelsValid, isOpen, falsifies, anyFalsified, outermost, statusValid}
+use Rattle.model.specs.Constraint.{Constraint, Box}
+use Rattle.model.specs.Validity.{isOpen, falsifies, anyFalsified, outermost, statusValid}
 use Rattle.layout.specs.Rows.{numberIn, rowAt, boundsAt, boxOf}
-use Rattle.linear.specs.Ranges.{BoxFits}
-use Rattle.linear.proofs.Ranges.{box-fits}
 use Rattle.state.specs.View.{levelOf, noLevel, levelAt, levelsFrom, statusOf, keptCuts, coreWith, coreOf}
-use Rattle.state.specs.Change.{Whole}
 use Rattle.state.specs.declared.Level.{Level}
 use Rattle.state.specs.declared.Search.{Search}
 use Rattle.state.specs.declared.Status.{Status}
 use Rattle.state.specs.declared.Status.the-variants.{Undecided, Infeasible, Solved}
 use Rattle.state.proofs.Cores.{kept-rows}
-use Rattle.validate.specs.Sizes.{Sized}
+use Rattle.validate.specs.Marks.{markValid}
 use Rattle.lists.proofs.Loops.{some-none, some-more, some-end, some-found}
 use Rattle.layout.proofs.Elements.{back}
-use Rattle.validate.proofs.LevelLoops.{level-passed}
-use Rattle.validate.proofs.Views.{levels-view}
 
 -- ---- open variables
 module _ (lower upper : List ℤ) where
@@ -49,15 +44,24 @@ module _ (lower upper : List ℤ) where
     unfolding boxOf isOpen boundsAt numberIn
     open-found n l e = some-found isOpen (boundsAt lower upper) n i l (rw (toZ-ofZ f, toZ-ofZ g) at e)
 
--- ---- the bounds of a level that passed
-module _ (s : Search) (d : ℕ) (l : Level) (w : l ≡ getD (s .levels) d noLevel) where
-  pub box-passed : Whole (getD (s .levels) d noLevel) → Sized s → levelsValid (coreOf s) ≡ true → d ≤ s .depth → BoxFits (s .n) (l .lower) (l .upper)
-  box-passed v z a h =
-      let p = level-passed (s .n) (s .m + s .made) (s .levels) (s .depth) d h (sym (levels-view s) ∙ a) in
-      let few = z .variables in
-      let x = v .lower in
-      let y = v .upper in
-      rw w (box-fits (s .n) _ _ p (omega arith) (omega arith))
+-- ---- the test of each mark
+module _ (m : Status) (kept : List Constraint) (outer deepest : Box) where
+  pub mark-undecided : m ≡ Undecided → true ≡ markValid (statusOf m) kept outer deepest
+  unfolding markValid statusOf
+  mark-undecided e = rw e
+
+  pub mark-infeasible : m ≡ Infeasible → (r : Bool) → r ≡ anyOf (falsifies outer) kept → r ≡ markValid (statusOf m) kept outer deepest
+  unfolding markValid statusOf
+  mark-infeasible e r t = rw e t
+
+  module _ (e : m ≡ Solved) (r : Bool) (t : r ≡ anyOf isOpen deepest) where
+    pub mark-open : r ≡ true → false ≡ markValid (statusOf m) kept outer deepest
+    unfolding markValid statusOf
+    mark-open h = rw (e, ← t, h)
+
+    pub mark-solved : r ≡ false → (q : Bool) → q ≡ anyOf (falsifies deepest) kept → not q ≡ markValid (statusOf m) kept outer deepest
+    unfolding markValid statusOf
+    mark-solved h q u = rw (e, ← t, h, u)
 
 -- ---- the kept constraints and the levels of a state
 outermost-is : (n : ℕ) (levels : List Level) (d : ℕ) → outermost (levelAt n levels d) (levelsFrom n levels d) ≡ levelAt n levels 0
@@ -70,33 +74,20 @@ module _ (s : Search) (count : ℕ) (k : count ≡ s .m + keptCuts (s .made)) wh
   unfolding anyFalsified levelOf coreOf
   falsified-in l = rw (kept-rows (s .n) (s .m) (s .made) (s .rows) (s .numbers) (levelAt (s .n) (s .levels) (s .depth)) (levelsFrom (s .n) (s .levels) (s .depth)), k)
 
-  marked : {t : Bool} (m : Status) → s .status ≡ m → t ≡ statusValid (coreOf s) (statusOf m) → t ≡ statusValid (coreOf s) (statusOf (s .status))
-  marked m e h = h ∙ ap (λ (x : Status). statusValid (coreOf s) (statusOf x)) (sym e)
-
-  pub mark-undecided : s .status ≡ Undecided → true ≡ statusValid (coreOf s) (statusOf (s .status))
-  mark-undecided e = marked Undecided e (unfold statusValid statusOf in refl)
-
-  outer-is : (l : Level) → l ≡ getD (s .levels) 0 noLevel → outermost (coreOf s .deepest) (coreOf s .outer) ≡ levelOf (s .n) l
-  unfolding coreOf coreWith levelAt
-  outer-is l w = outermost-is (s .n) (s .levels) (s .depth) ∙ ap (levelOf (s .n)) (sym w)
-
-  pub mark-infeasible : s .status ≡ Infeasible → (l : Level) → l ≡ getD (s .levels) 0 noLevel → (r : Bool) →
-      r ≡ anyOf (falsifies (boxOf (s .n) (l .lower) (l .upper))) (tab (rowAt (s .n) (s .rows)) 0 count) → r ≡ statusValid (coreOf s) (statusOf (s .status))
-  mark-infeasible e l w r t =
-      marked Infeasible e (unfold statusValid statusOf in t ∙ sym (falsified-in l) ∙ ap (anyFalsified (coreOf s)) (sym (outer-is l w)))
-
-  module _ (e : s .status ≡ Solved) (l : Level) (w : l ≡ getD (s .levels) (s .depth) noLevel) (r : Bool) (t : r ≡ anyOf isOpen (boxOf (s .n) (l .lower) (l .upper))) where
-    deepest-is : levelOf (s .n) l ≡ coreOf s .deepest
+  module _ (o l : Level) (v : o ≡ getD (s .levels) 0 noLevel) (w : l ≡ getD (s .levels) (s .depth) noLevel) where
+    outer-is : outermost (coreOf s .deepest) (coreOf s .outer) ≡ levelOf (s .n) o
     unfolding coreOf coreWith levelAt
-    deepest-is = ap (levelOf (s .n)) w
+    outer-is = outermost-is (s .n) (s .levels) (s .depth) ∙ ap (levelOf (s .n)) (sym v)
+
+    deepest-is : coreOf s .deepest ≡ levelOf (s .n) l
+    unfolding coreOf coreWith levelAt
+    deepest-is = ap (levelOf (s .n)) (sym w)
 
     solved-in : model.Level → Bool
     solved-in d = not (anyOf isOpen (d .box)) && not (anyFalsified (coreOf s) d)
 
-    pub mark-open : r ≡ true → false ≡ statusValid (coreOf s) (statusOf (s .status))
-    mark-open h = marked Solved e (unfold statusValid statusOf solved-in levelOf in rw (← t, h) at (ap solved-in deepest-is))
-
-    pub mark-solved : r ≡ false → (q : Bool) → q ≡ anyOf (falsifies (boxOf (s .n) (l .lower) (l .upper))) (tab (rowAt (s .n) (s .rows)) 0 count) →
-        not q ≡ statusValid (coreOf s) (statusOf (s .status))
-    mark-solved h q u =
-        marked Solved e (unfold statusValid statusOf solved-in levelOf in rw (← t, h, falsified-in l, ← u) at (ap solved-in deepest-is))
+    pub mark-view : (m : model.Status) → statusValid (coreOf s) m ≡ markValid m (tab (rowAt (s .n) (s .rows)) 0 count) (boxOf (s .n) (o .lower) (o .upper)) (boxOf (s .n) (l .lower) (l .upper))
+    unfolding statusValid markValid solved-in
+    mark-view model.undecided = refl
+    mark-view model.infeasible = ap (anyFalsified (coreOf s)) outer-is ∙ falsified-in o
+    mark-view model.solved = ap solved-in deepest-is ∙ (unfold levelOf in rw (falsified-in l))

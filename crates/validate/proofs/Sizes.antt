@@ -9,7 +9,7 @@ use Rattle.model.specs.Lists.{all}
 use Rattle.model.specs.Ranges.{maxVariables, maxConstraints, maxBudget}
 use Rattle.lists.proofs.Bools.{and-true}
 use Rattle.state.specs.declared.Search.{Search}
-use Rattle.validate.specs.Sizes.{sizesValid, Sized}
+use Rattle.validate.specs.Sizes.{sizesValid}
 
 module _ (n m budget conflicts made depth : ℕ) where
   pub no-variable : n < 1 → false ≡ sizesValid n m budget conflicts made depth
@@ -48,7 +48,14 @@ module _ (n m budget conflicts made depth : ℕ) where
                 rw (le-leb 1 n l, le-leb n maxVariables l₁, le-leb m maxConstraints l₂, le-leb budget maxBudget l₃, le-leb depth n l₄, le-leb conflicts budget h)
                 (sym (and-one (leb made conflicts)))
 
--- that all passed
+-- ---- that all passed
+-- what indices and sums need of the sizes
+pub record Sized (s : Search) : Type 0 where
+  pub variables : s .n ≤ maxVariables
+  pub constraints : s .m ≤ maxConstraints
+  pub cuts : s .made ≤ maxBudget
+  pub levels : s .depth ≤ s .n
+
 pub sized : (s : Search) → sizesValid (s .n) (s .m) (s .budget) (s .conflicts) (s .made) (s .depth) ≡ true → Sized s
 unfolding sizesValid all
 sized s e =

@@ -1,41 +1,48 @@
 -- The whole test, part by part: each module adds a part that passed, as the code knows it.
-use Prim.Native.Nat.{ℕ, _+_, _-_}
-use mathlib.Core.Bool.{Bool, true, false, not, _&&_, and-true as and-one}
-use mathlib.Core.Path.{_≡_, _∙_}
+use Prim.Native.Nat.{ℕ, _+_, _-_, _≤_, _<_}
+use native.Mathlib.Omega.{arith}
+use mathlib.Core.Bool.{Bool, true, false, not, _&&_, and-false, and-true as and-one}
+use mathlib.Core.Path.{_≡_, sym}
+use lib.ListN.{getD}
 use borrow.Author.Tests.{not-true, not-false}
 use Rattle.model.specs.Lists.{tab, all, allOf}
 use Rattle.model.specs.Ranges.{maxCuts}
 use Rattle.model.specs.Constraint.{inRange}
-use Rattle.model.specs.Validity.{levelsValid, statusValid, valid}
+use Rattle.model.specs.Validity.{levelValid, statusValid, valid}
 use Rattle.lists.proofs.Bools.{said-yes}
-use Rattle.layout.specs.Rows.{rowAt}
-use Rattle.state.specs.View.{keptCuts, statusOf, coreOf, view}
+use Rattle.layout.specs.Rows.{rowAt, boxOf}
+use Rattle.linear.specs.Ranges.{BoxFits}
+use Rattle.state.specs.Change.{Whole}
+use Rattle.state.specs.View.{levelOf, noLevel, keptCuts, statusOf, coreOf, view}
+use Rattle.state.specs.declared.Level.{Level}
 use Rattle.state.specs.declared.Search.{Search}
-use Rattle.validate.specs.Sizes.{sizesValid, Sized}
-use Rattle.validate.specs.Nested.{nestedTo}
-use Rattle.validate.proofs.Sizes.{sized}
+use Rattle.validate.specs.Sizes.{sizesValid}
+use Rattle.validate.specs.Nested.{nestedIn}
+use Rattle.validate.specs.Marks.{markValid}
+use Rattle.validate.proofs.Sizes.{Sized, sized}
 use Rattle.validate.proofs.Numbers.{numbersTo}
-use Rattle.validate.proofs.LevelLoops.{levelsTo}
+use Rattle.validate.proofs.LevelLoops.{level-fits, levelsTo, levels-none, levels-more, levels-fail, nestedTo, nested-none, nested-more, nested-fail}
+use Rattle.validate.proofs.Marks.{mark-view}
 use Rattle.validate.proofs.Views.{sizes-view, constraints-view, numbers-view, levels-view, nested-view}
 
 sizesOf : Search → Bool
 sizesOf s = sizesValid (s .n) (s .m) (s .budget) (s .conflicts) (s .made) (s .depth)
 
+-- the levels and the mark, which come last
+unfoldable pub levelTests : Search → Bool
+levelTests s =
+    levelsTo (s .n) (s .m + s .made) (s .levels) (s .depth + 1) && (nestedTo (s .n) (s .levels) (s .depth) && statusValid (coreOf s) (statusOf (s .status)))
+
 tests : Search → Bool
 tests s =
     sizesOf s &&
     (allOf inRange (tab (rowAt (s .n) (s .rows)) 0 (s .m + keptCuts (s .made))) &&
-    (numbersTo (s .numbers) (s .m + (s .made - maxCuts) + 1) (keptCuts (s .made)) &&
-    (levelsTo (s .n) (s .m + s .made) (s .levels) (s .depth + 1) && (nestedTo (s .n) (s .levels) (s .depth) && statusValid (coreOf s) (statusOf (s .status))))))
+    (numbersTo (s .numbers) (s .m + (s .made - maxCuts) + 1) (keptCuts (s .made)) && levelTests s))
 
 tests-view : (s : Search) → valid (view s) ≡ tests s
-unfolding valid all view tests sizesOf
+unfolding valid all view tests sizesOf levelTests
 tests-view s =
     rw (sizes-view s, constraints-view s, numbers-view s, levels-view s, nested-view s, and-one (statusValid (coreOf s) (statusOf (s .status))))
-
--- that the levels passed, as the status asks it
-pub levels-passed : (s : Search) {r : Bool} → r ≡ levelsTo (s .n) (s .m + s .made) (s .levels) (s .depth + 1) → not r ≡ false → levelsValid (coreOf s) ≡ true
-levels-passed s t h = levels-view s ∙ said-yes t h
 
 module _ (s : Search) (r₁ : Bool) (t₁ : r₁ ≡ sizesValid (s .n) (s .m) (s .budget) (s .conflicts) (s .made) (s .depth)) where
   pub refuse-sizes : not r₁ ≡ true → false ≡ valid (view s)
@@ -56,18 +63,72 @@ module _ (s : Search) (r₁ : Bool) (t₁ : r₁ ≡ sizesValid (s .n) (s .m) (s
         unfolding tests sizesOf
         refuse-numbers h = rw (tests-view s, ← t₁, not-false r₁ h₁, ← e, ← t₂, not-false r₂ h₂, ← f, ← t₃, not-true r₃ h)
 
-        module _ (h₃ : not r₃ ≡ false) (r₄ : Bool) (t₄ : r₄ ≡ levelsTo (s .n) (s .m + s .made) (s .levels) (s .depth + 1)) where
-          pub refuse-levels : not r₄ ≡ true → false ≡ valid (view s)
-          unfolding tests sizesOf
-          refuse-levels h = rw (tests-view s, ← t₁, not-false r₁ h₁, ← e, ← t₂, not-false r₂ h₂, ← f, ← t₃, not-false r₃ h₃, ← t₄, not-true r₄ h)
+        pub rows-passed : not r₃ ≡ false → valid (view s) ≡ levelTests s
+        unfolding tests sizesOf
+        rows-passed h = rw (tests-view s, ← t₁, not-false r₁ h₁, ← e, ← t₂, not-false r₂ h₂, ← f, ← t₃, not-false r₃ h)
 
-          module _ (h₄ : not r₄ ≡ false) (r₅ : Bool) (t₅ : r₅ ≡ nestedTo (s .n) (s .levels) (s .depth)) where
-            pub refuse-nested : not r₅ ≡ true → false ≡ valid (view s)
-            unfolding tests sizesOf
-            refuse-nested h =
-                rw (tests-view s, ← t₁, not-false r₁ h₁, ← e, ← t₂, not-false r₂ h₂, ← f, ← t₃, not-false r₃ h₃, ← t₄, not-false r₄ h₄, ← t₅, not-true r₅ h)
+-- ---- the levels down to d have passed, and what came before them
+pub record Reached (s : Search) (deepest : Level) (d : ℕ) : Type 0 where
+  pub sizes : Sized s
+  pub left : valid (view s) ≡ levelTests s
+  pub inside : d ≤ s .depth
+  pub here : deepest ≡ getD (s .levels) d noLevel
+  pub levels : levelsTo (s .n) (s .m + s .made) (s .levels) (d + 1) ≡ true
+  pub nested : nestedTo (s .n) (s .levels) d ≡ true
+  pub fits : BoxFits (s .n) (deepest .lower) (deepest .upper)
 
-            pub last-status : not r₅ ≡ false → (r₆ : Bool) → r₆ ≡ statusValid (coreOf s) (statusOf (s .status)) → r₆ ≡ valid (view s)
-            unfolding tests sizesOf
-            last-status h r₆ t₆ =
-                rw (tests-view s, ← t₁, not-false r₁ h₁, ← e, ← t₂, not-false r₂ h₂, ← f, ← t₃, not-false r₃ h₃, ← t₄, not-false r₄ h₄, ← t₅, not-false r₅ h) t₆
+refuse-levels : (s : Search) → valid (view s) ≡ levelTests s → false ≡ levelsTo (s .n) (s .m + s .made) (s .levels) (s .depth + 1) → false ≡ valid (view s)
+unfolding levelTests
+refuse-levels s left h = rw (left, ← h)
+
+module _ (s : Search) (o : Level) (w : o ≡ getD (s .levels) 0 noLevel) (r : Bool) (t : r ≡ levelValid (s .m + s .made) (levelOf (s .n) o)) (left : valid (view s) ≡ levelTests s) where
+  pub refuse-first : not r ≡ true → false ≡ valid (view s)
+  refuse-first h = refuse-levels s left (levels-fail (s .n) (s .m + s .made) (s .levels) 0 o w r t (s .depth) (omega arith) h)
+
+  pub first-reached : not r ≡ false → Sized s → Whole (getD (s .levels) 0 noLevel) → Reached s o 0
+  first-reached h z v =
+      record {
+        sizes = z;
+        left = left;
+        inside = omega arith;
+        here = w;
+        levels = levels-more (s .n) (s .m + s .made) (s .levels) 0 o w r t (levels-none (s .n) (s .m + s .made) (s .levels)) h;
+        nested = nested-none (s .n) (s .levels);
+        fits = level-fits (s .n) (s .m + s .made) o _ w v (z .variables) r t h;
+      }
+
+module _ (s : Search) (o : Level) (d : ℕ) (at : Reached s o d) (below : d < s .depth) (l : Level) (w : l ≡ getD (s .levels) (d + 1) noLevel) (r : Bool)
+    (t : r ≡ levelValid (s .m + s .made) (levelOf (s .n) l)) where
+  pub refuse-level : not r ≡ true → false ≡ valid (view s)
+  refuse-level h = refuse-levels s (at .left) (levels-fail (s .n) (s .m + s .made) (s .levels) (d + 1) l w r t (s .depth) (omega arith) h)
+
+  module _ (q : Bool) (u : q ≡ nestedIn (s .n) (levelOf (s .n) l) (levelOf (s .n) o)) where
+    pub refuse-nested : not q ≡ true → false ≡ valid (view s)
+    unfolding levelTests
+    refuse-nested h =
+        rw (at .left, ← nested-fail (s .n) (s .levels) d o (at .here) l w q u (s .depth) below h)
+        (sym (and-false (levelsTo (s .n) (s .m + s .made) (s .levels) (s .depth + 1))))
+
+    pub next-reached : not r ≡ false → not q ≡ false → Whole (getD (s .levels) (d + 1) noLevel) → Reached s l (d + 1)
+    next-reached h k v =
+        record {
+          sizes = at .sizes;
+          left = at .left;
+          inside = omega arith;
+          here = w;
+          levels = levels-more (s .n) (s .m + s .made) (s .levels) (d + 1) l w r t (at .levels) h;
+          nested = nested-more (s .n) (s .levels) d o (at .here) l w q u (at .nested) k;
+          fits = level-fits (s .n) (s .m + s .made) l _ w v (at .sizes .variables) r t h;
+        }
+
+-- all levels have passed, and the mark is left
+pub last-status : (s : Search) (o : Level) → o ≡ getD (s .levels) 0 noLevel → (l : Level) (d : ℕ) → Reached s l d → s .depth ≤ d → (count : ℕ) → count ≡ s .m + keptCuts (s .made) → (r : Bool) →
+    r ≡ markValid (statusOf (s .status)) (tab (rowAt (s .n) (s .rows)) 0 count) (boxOf (s .n) (o .lower) (o .upper)) (boxOf (s .n) (l .lower) (l .upper)) → r ≡ valid (view s)
+unfolding levelTests
+last-status s o v l d at end count k r t =
+    let inside = at .inside in
+    let z : d ≡ s .depth = omega arith in
+    let here = rw z at (at .here) in
+    let levels = rw z at (at .levels) in
+    let nested = rw z at (at .nested) in
+    rw (at .left, levels, nested, mark-view s count k o l v here (statusOf (s .status))) t

@@ -16,9 +16,8 @@ use Rattle.state.specs.View.{levelsFrom, keptCuts, storedNumber, coreWith, core
 use Rattle.state.specs.declared.Search.{Search}
 use Rattle.state.proofs.Cores.{kept-rows, length-levels}
 use Rattle.validate.specs.Sizes.{sizesValid, numberFrom}
-use Rattle.validate.specs.Nested.{nestedTo}
 use Rattle.validate.proofs.Numbers.{numbersTo}
-use Rattle.validate.proofs.LevelLoops.{levelsTo}
+use Rattle.validate.proofs.LevelLoops.{levelsTo, nestedTo}
 
 module _ (s : Search) where
   cuts-length : length (coreOf s .cuts) ≡ keptCuts (s .made)

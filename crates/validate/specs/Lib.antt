@@ -1,3 +1,4 @@
 -- The parts of validity in the terms of the code's arrays.
 pub mod Sizes
 pub mod Nested
+pub mod Marks

@@ -1,11 +1,10 @@
 -- The sizes and counters of a search state, and the numbers of its cuts.
-use Prim.Native.Nat.{ℕ, _+_, _≤_}
+use Prim.Native.Nat.{ℕ, _+_}
 use mathlib.Core.Bool.{Bool}
 use mathlib.Core.List.{[], _∷_}
 use lib.Dec.{leb}
 use Rattle.model.specs.Lists.{all}
 use Rattle.model.specs.Ranges.{maxVariables, maxConstraints, maxBudget}
-use Rattle.state.specs.declared.Search.{Search}
 
 unfoldable pub sizesValid : ℕ → ℕ → ℕ → ℕ → ℕ → ℕ → Bool
 sizesValid n m budget conflicts made depth =
@@ -18,13 +17,6 @@ sizesValid n m budget conflicts made depth =
     leb conflicts budget ∷
     leb made conflicts ∷
     [])
-
--- what indices and sums need of the sizes
-pub record Sized (s : Search) : Type 0 where
-  pub variables : s .n ≤ maxVariables
-  pub constraints : s .m ≤ maxConstraints
-  pub cuts : s .made ≤ maxBudget
-  pub levels : s .depth ≤ s .n
 
 -- the largest number that a kept cut can have
 abbrev pub maxFirst : ℕ

@@ -1,17 +1,15 @@
 // The levels of a search state: bounds, reasons, nesting and decisions.
 ghost use mathlib.Core.Path.{_≡_};
-ghost use Prim.Native.Nat.{_+_, _≤_, _<_};
+ghost use Prim.Native.Nat.{_≤_};
 ghost use lib.ListN.{length};
 ghost use Rattle.model.specs.Lists.{tab, allOf};
 ghost use Rattle.model.specs.Ranges.{within, maxBound};
 ghost use Rattle.model.specs.Problem.{boundsInRange};
 ghost use Rattle.model.specs.Validity.{reasonValid, reasonsValid, levelValid, inside, boxInside, decisionValid};
 ghost use Rattle.layout.specs.Rows.{boxOf};
-ghost use Rattle.state.specs.View.{reasonOf, reasonsIn, levelOf, levelsFrom};
-ghost use Rattle.validate.specs.Sizes.{Sized};
-ghost use Rattle.validate.specs.Nested.{nestedIn, nestedTo};
+ghost use Rattle.state.specs.View.{reasonOf, reasonsIn, levelOf};
+ghost use Rattle.validate.specs.Nested.{nestedIn};
 use state::Level;
-use state::Search;
 
 const MAX_BOUND: i64 = 1048576;
 
@@ -86,7 +84,7 @@ fn are_reasons_valid<'a>(below: &'a [usize], above: &'a [usize], n: usize, last:
 }
 
 // Whether a level by itself is valid; `last` is the largest number of a constraint.
-fn is_level_valid(l: Level, n: usize, last: usize) -> bool
+pub fn is_level_valid(l: Level, n: usize, last: usize) -> bool
     requires { ⌜ n ≤ 32 ⌝ }
     ensures { λ r. ⌜ r ≡ levelValid last (levelOf n l) ⌝ }
 {
@@ -94,24 +92,6 @@ fn is_level_valid(l: Level, n: usize, last: usize) -> bool
         return false;
     }
     are_reasons_valid(&l.below, &l.above, n, last)
-}
-
-// Whether every level from 0 to the depth is valid by itself.
-pub fn are_levels_valid(s: Search) -> bool
-    requires { ⌜ Sized s ⌝ }
-    ensures { λ r. ⌜ r ≡ allOf (levelValid (s .m + s .made)) (levelsFrom (s .n) (s .levels) (s .depth + 1)) ⌝ }
-{
-    let n = s.n;
-    let last = s.m + s.made;
-    let mut d: usize = 0;
-    while d <= s.depth {
-        let l = state::whole(s.levels[d]);
-        if !is_level_valid(l, n, last) {
-            return false;
-        }
-        d += 1;
-    }
-    true
 }
 
 // Whether the bounds of a variable lie inside those above, bottom and top.
@@ -171,7 +151,7 @@ fn is_decision_valid<'a>(
 }
 
 // Whether a level is one that a decision in the level above it leads to.
-fn is_nested(l: Level, outer: Level, n: usize) -> bool
+pub fn is_nested(l: Level, outer: Level, n: usize) -> bool
     requires { ⌜ n ≤ 32 ⌝ }
     ensures { λ r. ⌜ r ≡ nestedIn n (levelOf n l) (levelOf n outer) ⌝ }
 {
@@ -179,22 +159,4 @@ fn is_nested(l: Level, outer: Level, n: usize) -> bool
         return false;
     }
     is_decision_valid(l.decided, &l.lower, &l.upper, &outer.lower, &outer.upper, n)
-}
-
-// Whether every level is nested in the one above it.
-pub fn are_levels_nested(s: Search) -> bool
-    requires { ⌜ Sized s ⌝ }
-    ensures { λ r. ⌜ r ≡ nestedTo (s .n) (s .levels) (s .depth) ⌝ }
-{
-    let n = s.n;
-    let mut d: usize = 0;
-    while d < s.depth {
-        let outer = state::whole(s.levels[d]);
-        let l = state::whole(s.levels[d + 1]);
-        if !is_nested(l, outer, n) {
-            return false;
-        }
-        d += 1;
-    }
-    true
 }

@@ -10,27 +10,40 @@ pub mod scalars;
 pub mod status;
 
 // Whether a search state, made up or not, is valid: none of the conditions of a 'foreign walk' holds. Sizes come first, for indices are computed from
-// them, and ranges before any activity.
+// them, and ranges before any activity. The levels are taken one by one here, and arrays lent, since each function that reads a state has a copy of it.
 pub fn is_valid(s: Search) -> bool
     ensures { λ r. ⌜ r ≡ valid (view s) ⌝ }
 {
     if !scalars::are_sizes_valid(s.n, s.m, s.budget, s.conflicts, s.made, s.depth) {
         return false;
     }
+    let n = s.n;
     let kept = scalars::kept_cuts(s.made);
     let count = s.m + kept;
-    if !constraints::are_constraints_valid(&s.rows, count, s.n) {
+    if !constraints::are_constraints_valid(&s.rows, count, n) {
         return false;
     }
     let first = s.m + scalars::dropped_cuts(s.made) + 1;
     if !scalars::are_numbers_valid(&s.numbers, first, kept) {
         return false;
     }
-    if !levels::are_levels_valid(s) {
+    let last = s.m + s.made;
+    let outermost = state::whole(s.levels[0]);
+    if !levels::is_level_valid(outermost, n, last) {
         return false;
     }
-    if !levels::are_levels_nested(s) {
-        return false;
+    let mut deepest = outermost;
+    let mut d: usize = 0;
+    while d < s.depth {
+        let l = state::whole(s.levels[d + 1]);
+        if !levels::is_level_valid(l, n, last) {
+            return false;
+        }
+        if !levels::is_nested(l, deepest, n) {
+            return false;
+        }
+        deepest = l;
+        d += 1;
     }
-    status::is_status_valid(s, count)
+    status::is_status_valid(s.status, &s.rows, count, outermost, deepest, n)
 }

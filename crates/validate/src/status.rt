@@ -1,16 +1,18 @@
 // The mark of a search state.
 ghost use mathlib.Core.Path.{_≡_};
 ghost use mathlib.Core.Bool.{true};
-ghost use Prim.Native.Nat.{_+_, _≤_};
+ghost use Prim.Native.Nat.{_*_, _≤_};
 ghost use lib.ListN.{length};
 ghost use Rattle.model.specs.Lists.{tab, allOf, anyOf};
+ghost use Rattle.model.specs.Ranges.{maxVariables};
 ghost use Rattle.model.specs.Constraint.{inRange};
-ghost use Rattle.model.specs.Validity.{isOpen, levelsValid, statusValid};
-ghost use Rattle.layout.specs.Rows.{rowAt, boxOf};
-ghost use Rattle.state.specs.View.{keptCuts, coreOf, statusOf};
-ghost use Rattle.validate.specs.Sizes.{Sized};
+ghost use Rattle.model.specs.Validity.{isOpen};
+ghost use Rattle.layout.specs.Rows.{rowLength, rowAt, boxOf};
+ghost use Rattle.linear.specs.Ranges.{BoxFits};
+ghost use Rattle.state.specs.View.{statusOf};
+ghost use Rattle.validate.specs.Marks.{markValid};
 use crate::constraints::is_any_falsified;
-use state::Search;
+use state::Level;
 use state::Status;
 
 // Whether some variable is open: its L is below its U.
@@ -28,28 +30,30 @@ fn is_any_open<'a>(lower: &'a [i64], upper: &'a [i64], n: usize) -> bool
     false
 }
 
-// Whether the mark is one that the first `count` constraints and the bounds bear out.
-pub fn is_status_valid(s: Search, count: usize) -> bool
-    requires { ⌜ Sized s × (count ≡ s .m + keptCuts (s .made)) ⌝ }
-    requires { ⌜ allOf inRange (tab (rowAt (s .n) (s .rows)) 0 count) ≡ true ⌝ }
-    requires { ⌜ levelsValid (coreOf s) ≡ true ⌝ }
-    ensures { λ r. ⌜ r ≡ statusValid (coreOf s) (statusOf (s .status)) ⌝ }
+// Whether the mark is one that the first `count` constraints and the bounds of the outermost and the deepest level bear out.
+pub fn is_status_valid(
+    status: Status,
+    rows: &[i64],
+    count: usize,
+    outermost: Level,
+    deepest: Level,
+    n: usize,
+) -> bool
+    requires { ⌜ (n ≤ maxVariables) × (rowLength * count ≤ length (now rows)) ⌝ }
+    requires { ⌜ allOf inRange (tab (rowAt n (now rows)) 0 count) ≡ true ⌝ }
+    requires { ⌜ BoxFits n (outermost .lower) (outermost .upper) × BoxFits n (deepest .lower) (deepest .upper) ⌝ }
+    ensures { λ r. ⌜ r ≡ markValid (statusOf status) (tab (rowAt n (now (rows .entry))) 0 count) (boxOf n (outermost .lower) (outermost .upper)) (boxOf n (deepest .lower) (deepest .upper)) ⌝ }
 {
-    let n = s.n;
-    let status = s.status;
     match status {
         Status::Undecided => true,
         Status::Infeasible => {
-            let l = state::whole(s.levels[0]);
-            is_any_falsified(&s.rows, count, &l.lower, &l.upper, n)
+            is_any_falsified(rows, count, &outermost.lower, &outermost.upper, n)
         }
         Status::Solved => {
-            let d = s.depth;
-            let l = state::whole(s.levels[d]);
-            if is_any_open(&l.lower, &l.upper, n) {
+            if is_any_open(&deepest.lower, &deepest.upper, n) {
                 return false;
             }
-            !is_any_falsified(&s.rows, count, &l.lower, &l.upper, n)
+            !is_any_falsified(rows, count, &deepest.lower, &deepest.upper, n)
         }
     }
 }

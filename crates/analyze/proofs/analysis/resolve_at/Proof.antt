@@ -66,33 +66,37 @@ position-below c = omega (arith, c .before .position-of .ensures .most, c .if1 .
 returns : tie.Need-returns
 returns c =
     let s = c .before .before .before .before .before .before in
-    let a = s .args in
-    λ numbers decided outer.
-    record {
-      same = resolve-none (a .n) (a .m) (a .made) (a .rows .now) (a .lower .now) (a .upper .now) (a .below .now) (a .above .now) numbers decided outer (s .pre .1 .0) (a .i) (s .pre .0) (F (c .before)) (c .before .before .used-reason .result) (c .before .position-of .result) (reason-is (c .before)) (c .before .position-of .ensures) (omega arith);
-      range = s .pre .1 .1 .0;
-      size = s .pre .1 .1 .1;
-    }
+    let a = s .args in (
+      λ numbers decided outer.
+          record {
+            same = resolve-none (a .n) (a .m) (a .made) (a .rows .now) (a .lower .now) (a .upper .now) (a .below .now) (a .above .now) numbers decided outer (s .pre .1 .0) (a .i) (s .pre .0) (F (c .before)) (c .before .before .used-reason .result) (c .before .position-of .result) (reason-is (c .before)) (c .before .position-of .ensures) (omega arith);
+            range = s .pre .1 .1 .0;
+            size = s .pre .1 .1 .1 .0;
+          },
+      s .pre .1 .1 .1 .1,
+    )
 
 resolve-with-requires : tie.Need-resolve-with-requires
 resolve-with-requires c κs =
-    let s = c .before .before .before .before .before .before .before in
-    let p = c .before .before .position-of .ensures in
-    let h = position-below (c .before) in
-    (s .pre .0, resolving _ (s .args .m) (s .args .made) _ _ _ _ _ (s .pre .1 .0) (s .pre .1 .1 .1) (s .pre .1 .1 .0) h (p .inside h))
+    let s = c .before .before .before .before .before .before .before .before in
+    let p = c .before .before .before .position-of .ensures in
+    let h = position-below (c .before .before) in
+    (s .pre .0, (resolving _ (s .args .m) (s .args .made) _ _ _ _ _ (s .pre .1 .0) (s .pre .1 .1 .1 .0) (s .pre .1 .1 .0) h (p .inside h), s .pre .1 .1 .1 .1))
 
 returns-2 : tie.Need-returns-2
 returns-2 c =
-    let s = c .before .before .before .before .before .before .before .before in
+    let s = c .before .before .before .before .before .before .before .before .before in
     let a = s .args in
-    let p = c .before .before .before in
-    let r = c .resolve-with .ensures in
-    λ numbers decided outer.
-    record {
-      same = resolve-some (a .n) (a .m) (a .made) (a .rows .now) (a .lower .now) (a .upper .now) (a .below .now) (a .above .now) numbers decided outer (s .pre .1 .0) (a .i) (s .pre .0) (F p) (p .before .used-reason .result) (p .position-of .result) (reason-is p) (p .position-of .ensures) (position-below (c .before .before)) ∙ r .same;
-      range = r .range;
-      size = r .size;
-    }
+    let p = c .before .before .before .before in
+    let r = c .resolve-with .ensures .0 in (
+      λ numbers decided outer.
+          record {
+            same = resolve-some (a .n) (a .m) (a .made) (a .rows .now) (a .lower .now) (a .upper .now) (a .below .now) (a .above .now) numbers decided outer (s .pre .1 .0) (a .i) (s .pre .0) (F p) (p .before .used-reason .result) (p .position-of .result) (reason-is p) (p .position-of .ensures) (position-below (c .before .before .before)) ∙ r .same;
+            range = r .range;
+            size = r .size;
+          },
+      c .resolve-with .ensures .1,
+    )
 
 pub resolve-at-spec : {M : Type 1} → statement M
 resolve-at-spec =

@@ -1,11 +1,11 @@
--- `analyze::analysis::resolve_with` meets its contract: signs alike, an outcome out of range, one that is not falsified, and one that is taken. Assumes nothing.
+-- `analyze::analysis::resolve_with` meets its contract: signs alike, an outcome that is not falsified before it is rounded, one out of range, one that is not falsified, and one that is taken. Assumes nothing.
 use Prim.Native.Nat.{_+_, _*_}
 use native.Mathlib.Omega.{arith}
 use mathlib.Core.Path.{_≡_, refl, ap₂, sym, _∙_}
 use mathlib.Core.Bool.{true}
 use borrow.Author.Needs.{needs}
 use denote.Ref.{now}
-use Rattle.model.specs.Constraint.{Constraint, coefficientAt, opposite, inRange}
+use Rattle.model.specs.Constraint.{Constraint, coefficientAt, opposite}
 use Rattle.model.specs.Conflict.{Resolved}
 use Rattle.lists.proofs.Bools.{true-of, said-no, said-yes}
 use Rattle.layout.specs.Rows.{rowLength, constraintAt, rowAt}
@@ -13,7 +13,7 @@ use Rattle.layout.proofs.Rows.{coefficient-at}
 use Rattle.layout.proofs.Elements.{cell-read}
 use Rattle.linear.proofs.Ranges.{row-fits, box-fits}
 use Rattle.analyze.specs.Analyzed.{ResolvedAs}
-use Rattle.analyze.proofs.Resolvents.{with-alike, with-large, with-holding, with-taken}
+use Rattle.analyze.proofs.Resolvents.{with-alike, with-combined, with-large, with-holding, with-taken}
 use Rattle.analyze.proofs.analysis.resolve_with.Statement.{statement}
 use Rattle.analyze.proofs.analysis.resolve_with.Tie as tie
 
@@ -66,72 +66,95 @@ module _ (c : tie.After-is-opposite) where
 
   -- F as it was, where nothing is taken in
   untouched : {s : Resolved} → s ≡ record { cut = F; used = 0 } → ResolvedAs (at-start .args .n) s (at-start .args .f .now) 0
-  untouched e = record { same = e; range = at-start .pre .1 .first-range; size = at-start .pre .1 .first-size }
+  untouched e = record { same = e; range = at-start .pre .1 .0 .first-range; size = at-start .pre .1 .0 .first-size }
 
--- ---- the outcome
-module _ (c : tie.After-is-in-range) where
+-- ---- once it is combined
+module _ (c : tie.After-combine-at) where
   abbrev signed : tie.After-is-opposite
-  signed = c .before .before .before .before .before .before .before
-
-  abbrev outcome : Constraint
-  outcome = constraintAt (at-start signed .args .n) (c .before .before .resolve .result) 0
+  signed = c .before .before .before .before .before .before
 
   opposite-signs : opposite (coefficientAt (F signed) (at-start signed .args .i)) (coefficientAt (J signed) (at-start signed .args .i)) ≡ true
-  opposite-signs = said-yes (signs signed) (c .before .before .before .before .before .before .if1 .left)
-
-outcome-range : (c : tie.Else2) → inRange (outcome (c .before)) ≡ true
-outcome-range c = said-yes (c .before .is-in-range .ensures) (c .if2 .left)
+  opposite-signs = said-yes (signs signed) (c .before .before .before .before .before .if1 .left)
 
 returns : tie.Need-returns
-returns c = untouched (c .before) (with-alike _ _ _ _ _ (said-no (signs (c .before)) (c .if1 .taken)))
+returns c = (untouched (c .before) (with-alike _ _ _ _ _ (said-no (signs (c .before)) (c .if1 .taken))), at-start (c .before) .pre .1 .1)
 
-resolve-requires : tie.Need-resolve-requires
+combine-at-requires : tie.Need-combine-at-requires
 unfolding rowAt
-resolve-requires c κs =
-    let s = c .before .before .before .before .before .before .before in
-    let q = s .pre .1 in
-    record {
-      variable = s .pre .0;
-      combinable = record { variables = q .variables; first-row = omega (arith, q .first-size); second-row = omega (arith, q .position, q .rows-size); first-range = q .first-range; second-range = q .second-range };
-      signs = said-yes (signs (c .before .before .before .before)) (c .before .before .before .if1 .left);
-    }
+combine-at-requires c κs =
+    let s = c .before .before .before .before .before .before .before .before in
+    let q = s .pre .1 .0 in (
+      record {
+        variable = s .pre .0;
+        combinable = record { variables = q .box .variables; first-row = omega (arith, q .first-size); second-row = omega (arith, q .position, q .rows-size); first-range = q .first-range; second-range = q .second-range };
+        signs = said-yes (signs (c .before .before .before .before .before)) (c .before .before .before .before .if1 .left);
+      },
+      s .pre .1 .1,
+    )
 
-slice-aggregate-is-in-range : tie.Need-slice-aggregate-is-in-range
-slice-aggregate-is-in-range c = search needs
-
-is-in-range-requires : tie.Need-is-in-range-requires
-is-in-range-requires c κs = search needs
+is-holding-requires : tie.Need-is-holding-requires
+is-holding-requires c κs = (at-start (signed (c .before)) .pre .1 .0 .box, c .before .combine-at .ensures .size)
 
 returns-2 : tie.Need-returns-2
 unfolding rowAt
 returns-2 c =
-    let r = c .before in
-    untouched (signed r) (with-large _ _ _ _ _ (outcome r) (opposite-signs r) (r .before .before .resolve .ensures) (said-no (r .is-in-range .ensures) (c .if2 .taken)))
+    let a = c .before .before .before in
+    let h = c .before .is-holding .ensures (c .if2 .taken) in
+    (untouched (signed a) (with-combined _ _ _ _ _ _ (opposite-signs a) (a .combine-at .ensures .outcome) (h .0) (h .1)), a .combine-at .ensures .size)
 
-slice-aggregate-is-falsified : tie.Need-slice-aggregate-is-falsified
-slice-aggregate-is-falsified c = search needs
+round-into-range-requires : tie.Need-round-into-range-requires
+round-into-range-requires c κs =
+    let a = c .before .before .before .before in
+    (at-start (signed a) .pre .1 .0 .box .variables, (a .combine-at .ensures .size, a .combine-at .ensures .sized))
 
-is-falsified-requires : tie.Need-is-falsified-requires
-is-falsified-requires c κs =
-    let q = c .before .before .before .before .before .before .before .before .before .before .before .before .before .before .pre .1 in
-    (row-fits _ _ 0 (q .variables) (search needs) (outcome-range (c .before .before .before)), box-fits _ _ _ (true-of _ (q .box-range)) (omega (arith, q .variables, q .lower-size)) (omega (arith, q .variables, q .upper-size)))
+is-in-range-requires : tie.Need-is-in-range-requires
+is-in-range-requires c κs =
+    let r = c .before .before in omega (arith, r .round-into-range .ensures .size, at-start (signed (r .before .before .before .before .before)) .pre .1 .0 .box .variables)
 
 returns-3 : tie.Need-returns-3
 unfolding rowAt
 returns-3 c =
-    let r = c .before .before .before .before .before .before in
-    untouched (signed r)
-    (with-holding _ _ _ _ _ (outcome r) (opposite-signs r) (r .before .before .resolve .ensures) (outcome-range (c .before .before .before .before .before)) (said-no (c .before .is-falsified .ensures) (c .if3 .taken)))
+    let r = c .before .before .before .before in
+    let a = r .before .before .before .before .before in (
+      untouched (signed a)
+          (with-large _ _ _ _ _ _ (opposite-signs a) (a .combine-at .ensures .outcome) (r .round-into-range .ensures .same) (said-no (c .before .is-in-range .ensures) (c .if3 .taken))),
+      r .round-into-range .ensures .size,
+    )
+
+is-falsified-requires : tie.Need-is-falsified-requires
+is-falsified-requires c κs =
+    let e = c .before .before .before .before in
+    let r = e .before .before .before .before in
+    let b = at-start (signed (r .before .before .before .before .before)) .pre .1 .0 .box in (
+      row-fits _ _ 0 (b .variables) (omega (arith, r .round-into-range .ensures .size, b .variables)) (said-yes (e .before .is-in-range .ensures) (e .if3 .left)),
+      box-fits _ _ _ (true-of _ (b .box-range)) (omega (arith, b .variables, b .lower-size)) (omega (arith, b .variables, b .upper-size)),
+    )
 
 returns-4 : tie.Need-returns-4
 unfolding rowAt
 returns-4 c =
-    let r = c .before .before .before .before .before .before in
-    record {
-      same = with-taken _ _ _ _ _ (outcome r) (opposite-signs r) (r .before .before .resolve .ensures) (outcome-range (c .before .before .before .before .before)) (said-yes (c .before .is-falsified .ensures) (c .if3 .left));
-      range = outcome-range (c .before .before .before .before .before);
-      size = search needs;
-    }
+    let e = c .before .before .before .before .before .before in
+    let r = e .before .before .before .before in
+    let a = r .before .before .before .before .before in (
+      untouched (signed a)
+          (with-holding _ _ _ _ _ _ (opposite-signs a) (a .combine-at .ensures .outcome) (r .round-into-range .ensures .same) (said-yes (e .before .is-in-range .ensures) (e .if3 .left)) (said-no (c .before .is-falsified .ensures) (c .if4 .taken))),
+      r .round-into-range .ensures .size,
+    )
+
+returns-5 : tie.Need-returns-5
+unfolding rowAt
+returns-5 c =
+    let e = c .before .before .before .before .before .before .before in
+    let r = e .before .before .before .before in
+    let a = r .before .before .before .before .before in
+    let in-range = said-yes (e .before .is-in-range .ensures) (e .if3 .left) in (
+      record {
+        same = with-taken _ _ _ _ _ _ (opposite-signs a) (a .combine-at .ensures .outcome) (r .round-into-range .ensures .same) in-range (said-yes (c .before .before .is-falsified .ensures) (c .before .if4 .left));
+        range = in-range;
+        size = r .round-into-range .ensures .size;
+      },
+      r .round-into-range .ensures .size,
+    )
 
 pub resolve-with-spec : {M : Type 1} → statement M
 resolve-with-spec =
@@ -147,11 +170,12 @@ resolve-with-spec =
     element-copy-out-is-opposite-2
     is-opposite-requires
     returns
-    resolve-requires
-    slice-aggregate-is-in-range
-    is-in-range-requires
+    combine-at-requires
+    is-holding-requires
     returns-2
-    slice-aggregate-is-falsified
-    is-falsified-requires
+    round-into-range-requires
+    is-in-range-requires
     returns-3
-    returns-4)
+    is-falsified-requires
+    returns-4
+    returns-5)

@@ -4,9 +4,8 @@ use native.Mathlib.Omega.{arith}
 use mathlib.Core.Path.{_≡_, refl, ap₂, _∙_}
 use borrow.Author.Needs.{needs, sfits-of}
 use lib.IntN.{ℤ, pos, _+ℤ_, _*ℤ_}
-use lib.ListN.{replicate}
 use mir.Facts.{toZ-ofZ}
-use Rattle.layout.specs.Rows.{rowLength, numberIn, cell}
+use Rattle.layout.specs.Rows.{numberIn, cell}
 use Rattle.layout.proofs.Elements.{number-read, cell-read}
 use Rattle.layout.proofs.Filled.{Filled, fill-constant, fill-coefficient}
 use Rattle.linear.proofs.Sizes.{constant-read, coefficient-read}
@@ -39,18 +38,19 @@ mix-requires c κs =
     let k = s .pre .0 in
     let f = constant-read (s .args .n) (s .args .f .now) (s .args .at) (k .first-range) (c .before .mix-arg .given) in
     let j = constant-read (s .args .n) (s .args .rows .now) (s .args .start) (k .second-range) (c .mix-arg2 .given) in
-    (s .pre .1 .0, (f, (s .pre .1 .1, j)))
+    (s .pre .1 .0, (f, (s .pre .1 .1 .0, j)))
 
-array-set-from-r : tie.Need-array-set-from-r Inv-loop μ-loop
-array-set-from-r c = search needs
+element-set-from-r : tie.Need-element-set-from-r Inv-loop μ-loop
+element-set-from-r c = search needs
 
 loop-holds : tie.Need-loop-holds Inv-loop μ-loop
 loop-holds c =
-    let a = c .before .before .before .args in
+    let s = c .before .before .before in
+    let a = s .args in
     let f = number-read (a .f .now) (a .at) (c .before .before .mix-arg .given) in
     let j = number-read (a .rows .now) (a .start) (c .before .mix-arg2 .given) in (
       omega arith,
-      fill-constant (replicate rowLength (pos 0)) _ refl
+      fill-constant (a .r .now) _ (s .pre .1 .1 .1)
           (toZ-ofZ (sfits-of (c .mix .ok)) ∙ c .mix .ensures ∙ ap₂ (λ (x y : ℤ). pos (a .s) *ℤ x +ℤ pos (a .t) *ℤ y) f j),
     )
 
@@ -85,16 +85,16 @@ mix-requires-2 c κs =
     let k = s .pre .0 in
     let f = coefficient-read (s .args .n) (s .args .f .now) (s .args .at) (k .first-range) (l .loop .i) (omega arith) (c .before .mix-arg3 .given) in
     let j = coefficient-read (s .args .n) (s .args .rows .now) (s .args .start) (k .second-range) (l .loop .i) (omega arith) (c .mix-arg4 .given) in
-    (s .pre .1 .0, (f, (s .pre .1 .1, j)))
+    (s .pre .1 .0, (f, (s .pre .1 .1 .0, j)))
 
-add-r : tie.Need-add-r Inv-loop μ-loop
-add-r c = omega arith
+add-t31 : tie.Need-add-t31 Inv-loop μ-loop
+add-t31 c = omega arith
 
-mul-r : tie.Need-mul-r Inv-loop μ-loop
-mul-r c = omega arith
+mul-t32 : tie.Need-mul-t32 Inv-loop μ-loop
+mul-t32 c = omega arith
 
-array-set-from-r-2 : tie.Need-array-set-from-r-2 Inv-loop μ-loop
-array-set-from-r-2 c = omega arith
+element-set-from-r-2 : tie.Need-element-set-from-r-2 Inv-loop μ-loop
+element-set-from-r-2 c = omega arith
 
 add-i : tie.Need-add-i Inv-loop μ-loop
 add-i c = omega arith
@@ -119,7 +119,7 @@ returns c =
     let l = c .before .loop in
     let a = c .before .before .before .before .before .args in
     let e : l .i ≡ a .n = omega arith in
-    combined-row (a .n) (a .s) (a .t) (a .f .now) (a .at) (a .rows .now) (a .start) (l .r) (rw e at (l .inv .1))
+    (combined-row (a .n) (a .s) (a .t) (a .f .now) (a .at) (a .rows .now) (a .start) _ (rw e at (l .inv .1)), l .inv .1 .row)
 
 pub combine-spec : {M : Type 1} → statement M
 combine-spec =
@@ -132,7 +132,7 @@ combine-spec =
     mul-mix-2
     shared-slice-copy-out-mix-2
     mix-requires
-    array-set-from-r
+    element-set-from-r
     loop-holds
     add-mix
     add-mix-2
@@ -143,9 +143,9 @@ combine-spec =
     mul-mix-4
     shared-slice-copy-out-mix-4
     mix-requires-2
-    add-r
-    mul-r
-    array-set-from-r-2
+    add-t31
+    mul-t32
+    element-set-from-r-2
     add-i
     loop-less
     loop-again

@@ -1,166 +1,242 @@
--- `propagate::propagate::propagate` meets its contract: the level stays ready, and leaves the answer as it was; the slack falls. `Steps` has the
--- turns. Assumes nothing.
-use Prim.Native.Nat.{_+_}
+-- `propagate::propagate::propagate` meets its contract: `Looping` has the invariant, and `Steps` what a bound that is set keeps. Assumes nothing.
+use Prim.Native.Nat.{ℕ, _+_, _<_, _≤_, _*_}
+use native.Mathlib.Nat.{eq-or-lt-of-le}
 use native.Mathlib.Omega.{arith}
+use mathlib.Core.Logic.{⊎-elim}
 use mathlib.Core.Path.{_≡_, refl, ap, sym, _∙_}
 use borrow.Author.Needs.{needs}
 use denote.Ref.{now}
+use Rattle.model.specs.Move.{Move, newLower, newUpper, conflict, firstImprovement, nextMove, slack}
+use Rattle.layout.specs.Rows.{boxOf}
+use Rattle.state.specs.View.{keptCuts}
+use Rattle.propagate.proofs.Looping.{Loop, ready-at, loop-set}
+use Rattle.propagate.proofs.Scans.{next-conflict, next-improvement, next-open}
+use Rattle.propagate.proofs.Steps.{answer, Next, scan-fits, stop-answer, raise-next, raise-better, raise-rise, raise-settable, lower-next, lower-better, lower-fall, lower-settable}
+use Rattle.propagate.proofs.Tracking.{shiftable, tracked-some, told-first, raised-closes, lowered-closes}
+use mir.Facts.{toZ-ofZ}
 use mir.Syntax.{w64}
 use mir.Val.{SFits}
-use mir.Facts.{toZ-ofZ}
-use lib.Dec.{T}
-use lib.ListN.{length}
-use Rattle.model.specs.Lists.{allOf}
-use Rattle.model.specs.Ranges.{maxConstraints, maxCuts}
-use Rattle.model.specs.Problem.{boundsInRange}
-use Rattle.model.specs.Move.{nextMove, slack}
-use Rattle.state.specs.View.{keptCuts}
-use Rattle.state.specs.Change.{Whole, raised, lowered}
-use Rattle.state.specs.declared.Level.{Level}
-use Rattle.propagate.specs.Moves.{moveOf, stopOf}
+use mathlib.Core.Option.{some}
+use Rattle.propagate.specs.Moves.{foundOf, stopOf}
+use Rattle.propagate.specs.declared.propagate.Found.the-variants.{Conflict, Decide}
 use Rattle.propagate.specs.Propagation.{numberFor, propagationOf}
-use Rattle.propagate.specs.declared.propagate.Found.{Found}
-use Rattle.propagate.specs.Ready.{keptRows, Ready}
-use Rattle.propagate.proofs.Steps.{boxAt, answer, Next, raise-next, lower-next, stop-answer}
+use Rattle.propagate.specs.Ready.{keptRows}
+use Rattle.propagate.specs.Tracked.{Tracked}
+use Rattle.state.specs.Change.{held, raised, lowered}
 use Rattle.propagate.proofs.propagate.propagate.Statement.{statement}
 use Rattle.propagate.proofs.propagate.propagate.Tie as tie
+use Rattle.propagate.proofs.propagate.propagate.Reads as reads
+use Rattle.propagate.proofs.propagate.propagate.Lts as lts
+use Rattle.propagate.proofs.bounds.lower_upper.Reads as lower-upper-reads
+use Rattle.propagate.proofs.bounds.raise_lower.Reads as raise-lower-reads
+use Rattle.propagate.proofs.masks.open_mask.Reads as open-mask-reads
+use Rattle.propagate.proofs.propagate.decide_or_finish.Reads as decide-or-finish-reads
+use Rattle.propagate.proofs.propagate.kept_count.Reads as kept-count-reads
+use Rattle.propagate.proofs.propagate.number_at.Reads as number-at-reads
+use Rattle.propagate.proofs.scan.first_improvement.Reads as first-improvement-reads
 
 abbrev Inv-loop : tie.InvT-loop
-Inv-loop rows n m made kept activities₀ l₀ activities l =
-    Ready n m made rows l × ((answer n m made rows l₀ ≡ answer n m made rows l) × (length activities ≡ maxConstraints + maxCuts))
+Inv-loop rows n m made inputs cuts told lower₀ upper₀ below₀ above₀ activities₀ reaches₀ kept «open» falsified₀ lower upper below above activities reaches falsified =
+    Loop n m made rows «open» lower₀ upper₀ below₀ above₀ lower upper below above activities reaches falsified
 
 abbrev μ-loop : tie.MeasureT-loop
-μ-loop rows n m made kept activities₀ l₀ activities l = slack (boxAt n l)
+μ-loop rows n m made inputs cuts told lower₀ upper₀ below₀ above₀ activities₀ reaches₀ kept «open» falsified₀ lower upper below above activities reaches falsified =
+    slack (boxOf n lower upper)
+
+-- where the function started, and that no constraint is falsified in the loop
+abbrev start : tie.At-loop Inv-loop μ-loop → tie.Start Inv-loop μ-loop
+start l = l .before .before .before .before .before
+
+here : (c : tie.In-loop Inv-loop μ-loop) →
+    let a = start (c .before) .args in
+    c .before .loop .falsified ≡ a .m + keptCuts (a .made)
+here c = c .loop-test .taken ∙ c .before .before .before .before .before .kept-count .ensures
 
 kept-count-requires : tie.Need-kept-count-requires Inv-loop μ-loop
-kept-count-requires c κs = search needs
+kept-count-requires c κs = c .pre .0 .inputs
+
+open-mask-requires : tie.Need-open-mask-requires Inv-loop μ-loop
+open-mask-requires c κs = c .before .before .before .pre .0 .few
 
 loop-holds : tie.Need-loop-holds Inv-loop μ-loop
-loop-holds c = (c .before .pre, (refl, search needs))
+loop-holds c =
+    let p = c .before .before .before .before .pre in
+    record { ready = p .0; same = λ d. refl; told = p .1 .0; opens = c .open-mask .ensures }
 
-next-move-requires : tie.Need-next-move-requires Inv-loop μ-loop
-next-move-requires c κs =
-    let r = c .before .before .before .before .loop .inv .0 in
-    rw (c .before .before .before .before .before .kept-count .ensures)
-    (record { few = r .few; count = unfold keptCuts in omega (arith, r .inputs); constraints = r .constraints; bounds = r .bounds }, c .before .before .before .before .loop .inv .1 .1)
+first-improvement-requires : tie.Need-first-improvement-requires Inv-loop μ-loop
+first-improvement-requires c κs =
+    let l = c .before .before .before .before .before in
+    let s = start l in
+    let v = l .loop .inv in
+    let t = v .told .tracked (here (c .before .before .before .before)) in
+    rw (l .before .before .before .before .kept-count .ensures) ((scan-fits _ _ _ _ _ (v .ready), (t, λ j h. rw (t .at j h .same) (v .told .before j (omega (arith, h, here (c .before .before .before .before)))))), ((s .pre .1 .1, v .opens), (v .ready .inputs, unfold keptCuts in omega arith)))
 
--- the code's next move is the model's
-said : (c : tie.After-next-move Inv-loop μ-loop) →
-    let a = c .before .before .before .before .before .before .before .args in
-    moveOf (c .next-move .result) ≡ nextMove (keptRows (a .n) (a .m) (a .made) (now (a .rows))) (boxAt (a .n) (c .before .before .before .before .before .loop .l))
-said c = rw (c .before .before .before .before .before .before .kept-count .ensures) at (c .next-move .ensures .0)
+-- what the scan found, and that the constraints are tracked after it
+found : (c : tie.After-first-improvement Inv-loop μ-loop) →
+    let l = c .before .before .before .before .before .before in
+    let a = start l .args in
+    foundOf (c .first-improvement .result) ≡ firstImprovement 0 (keptRows (a .n) (a .m) (a .made) (now (a .rows))) (boxOf (a .n) (l .loop .lower) (l .loop .upper))
+found c = rw (c .before .before .before .before .before .before .before .before .before .before .kept-count .ensures) at (c .first-improvement .ensures .0)
 
--- where it sets no bound, the level and the move are the answer
-stopped : (c : tie.After-next-move Inv-loop μ-loop) (found : Found) → stopOf found ≡ moveOf (c .next-move .result) →
-    let a = c .before .before .before .before .before .before .before .args in
-    let l : Level = c .before .before .before .before .before .loop .l in
-    (propagationOf (a .n) (record { level = l; found = found }) ≡ answer (a .n) (a .m) (a .made) (now (a .rows)) (a .level)) × (Whole l × T (allOf boundsInRange (boxAt (a .n) l)))
-stopped c found e =
-    let a = c .before .before .before .before .before .before .before .args in
-    let i = c .before .before .before .before .before .loop .inv in
-    (stop-answer (a .n) (a .m) (a .made) (now (a .rows)) (c .before .before .before .before .before .loop .l) (i .0) found (e ∙ said c) ∙ sym (i .1 .0), (i .0 .whole, i .0 .bounds))
+tracked : (c : tie.After-first-improvement Inv-loop μ-loop) →
+    let l = c .before .before .before .before .before .before in
+    let a = start l .args in
+    Tracked (a .n) (now (a .rows)) (l .loop .lower) (l .loop .upper) (l .loop .activities) (c .first-improvement .last .1 .1 .1 .1 .1 .1 .1 .1 .1 .1 .0) (a .m + keptCuts (a .made))
+tracked c = rw (c .before .before .before .before .before .before .before .before .before .before .kept-count .ensures) at (c .first-improvement .ensures .1)
 
-enum-known-next : tie.Need-enum-known-next Inv-loop μ-loop
-enum-known-next c = search needs
+-- no constraint is falsified, so what the scan found is the next move
+chosen : (c : tie.After-first-improvement Inv-loop μ-loop) (move : Move) → some move ≡ foundOf (c .first-improvement .result) →
+    let l = c .before .before .before .before .before .before in
+    let a = start l .args in
+    move ≡ nextMove (keptRows (a .n) (a .m) (a .made) (now (a .rows))) (boxOf (a .n) (l .loop .lower) (l .loop .upper))
+chosen c move e =
+    let l = c .before .before .before .before .before .before in
+    let t = l .loop .inv .told in
+    next-improvement _ _ _ _ (told-first _ _ _ _ _ _ _ _ t) (omega (arith, here (c .before .before .before .before .before))) move (e ∙ found c)
 
-returns : tie.Need-returns Inv-loop μ-loop
-unfolding answer stopOf moveOf
-returns c = stopped (c .before .before .before) _ (sym (ap moveOf (c .before .next .given .1)))
+enum-known-better : tie.Need-enum-known-better Inv-loop μ-loop
+enum-known-better c = search needs
 
-enum-known-next-2 : tie.Need-enum-known-next-2 Inv-loop μ-loop
-enum-known-next-2 c = search needs
+-- the bound that is set
+raise-move : (c : tie.After-known-told Inv-loop μ-loop) →
+    let l = c .before .before .before .before .before .before .before .before .before in
+    let a = start l .args in
+    let g = c .before .better .given .0 in
+    newLower (g .0) (g .1 .0) (g .1 .1 .0) ≡ nextMove (keptRows (a .n) (a .m) (a .made) (now (a .rows))) (boxOf (a .n) (l .loop .lower) (l .loop .upper))
+unfolding foundOf
+raise-move c = chosen (c .before .before .before) _ (sym (ap foundOf (c .before .better .given .1)))
 
--- a lower bound that rises, an upper bound that falls
-raised-next : (c : tie.After-known-told2 Inv-loop μ-loop) →
-    let a = c .before .before .before .before .before .before .before .before .before .before .args in
-    let l : Level = c .before .before .before .before .before .before .before .before .loop .l in
-    let g = c .before .next2 .given .0 in
-    Next (a .n) (a .m) (a .made) (now (a .rows)) l (g .0) (g .1 .0) (raised l (g .1 .0) (g .1 .1 .0) (numberFor (a .m) (a .made) (g .0)))
-unfolding moveOf
-raised-next c =
-    let a = c .before .before .before .before .before .before .before .before .before .before .args in
-    let g = c .before .next2 .given .0 in
-    raise-next (a .n) (a .m) (a .made) (now (a .rows)) (c .before .before .before .before .before .before .before .before .loop .l) (c .before .before .before .before .before .before .before .before .loop .inv .0) (g .0) (g .1 .0) (g .1 .1 .0) (sym (ap moveOf (c .before .next2 .given .1)) ∙ said (c .before .before .before))
-
-mul-v : tie.Need-mul-v Inv-loop μ-loop
-mul-v c = record { fits = omega (arith, raised-next c .variable, c .before .before .before .before .before .before .before .before .loop .inv .0 .few) }
-
-element-set-from-v : tie.Need-element-set-from-v Inv-loop μ-loop
-element-set-from-v c = omega (arith, raised-next c .variable, c .before .before .before .before .before .before .before .before .loop .inv .0 .few)
+raise-level : (c : tie.After-known-told Inv-loop μ-loop) (d : ℕ) →
+    let l = c .before .before .before .before .before .before .before .before .before in
+    let a = start l .args in
+    let g = c .before .better .given .0 in
+    let k = held (l .loop .lower) (l .loop .upper) (l .loop .below) (l .loop .above) d in
+    Next (a .n) (a .m) (a .made) (now (a .rows)) k (g .0) (g .1 .0) (raised k (g .1 .0) (g .1 .1 .0) (numberFor (a .m) (a .made) (g .0)))
+raise-level c d =
+    let l = c .before .before .before .before .before .before .before .before .before in
+    raise-next _ _ _ _ (held (l .loop .lower) (l .loop .upper) (l .loop .below) (l .loop .above) d) (ready-at d (l .loop .inv .ready)) _ _ _ (raise-move c)
 
 number-at-requires : tie.Need-number-at-requires Inv-loop μ-loop
-number-at-requires c κs = (c .before .before .before .before .before .before .before .before .loop .inv .0 .cuts, unfold keptCuts in omega (arith, raised-next c .constraint, c .before .before .before .before .before .before .before .before .loop .inv .0 .inputs))
+number-at-requires c κs =
+    let v = c .before .before .before .before .before .before .before .before .before .loop .inv .ready in
+    (v .cuts, unfold keptCuts in omega (arith, raise-level c 0 .constraint, v .inputs))
 
-mul-l : tie.Need-mul-l Inv-loop μ-loop
-mul-l c = record { fits = omega (arith, raised-next (c .before) .variable, c .before .before .before .before .before .before .before .before .before .loop .inv .0 .few) }
-
-element-write-l : tie.Need-element-write-l Inv-loop μ-loop
-element-write-l c = omega (arith, raised-next (c .before) .variable, c .before .before .before .before .before .before .before .before .before .loop .inv .0 .few)
+raise-lower-requires : tie.Need-raise-lower-requires Inv-loop μ-loop
+raise-lower-requires c κs =
+    let t = c .before .before .before .before in
+    let l = t .before .before .before .before .before .before .before .before .before in
+    let k = held (l .loop .lower) (l .loop .upper) (l .loop .below) (l .loop .above) 0 in
+    let v : SFits w64 (t .before .better .given .0 .1 .1 .0) = search needs in
+    rw (toZ-ofZ v, l .before .before .before .before .kept-count .ensures)
+    (raise-settable _ _ _ _ k (l .loop .inv .ready) _ _ _ (raise-move t), shiftable _ _ _ _ _ _ _ _ _ _ (scan-fits _ _ _ _ k (l .loop .inv .ready)) (tracked (t .before .before .before)) (raise-level t 0 .variable) (raise-rise _ _ _ _ k (l .loop .inv .ready) _ _ _ (raise-move t)) (record { within = omega arith }))
 
 loop-less : tie.Need-loop-less Inv-loop μ-loop
 loop-less c =
-    let v : SFits w64 (c .before .before .next2 .given .0 .1 .1 .0) = search needs in
-    rw (toZ-ofZ v) (raised-next (c .before) .less)
+    let t = c .before .before .before .before .before in
+    let v : SFits w64 (t .before .better .given .0 .1 .1 .0) = search needs in
+    rw (c .raise-lower .ensures .0 .bound, toZ-ofZ v) (raise-level t 0 .less)
 
 loop-again : tie.Need-loop-again Inv-loop μ-loop
 loop-again c =
-    let v : SFits w64 (c .before .before .next2 .given .0 .1 .1 .0) = search needs in
-    let k = raised-next (c .before) in
-    rw (toZ-ofZ v, c .number-at .ensures) (k .ready, (c .before .before .before .before .before .before .before .before .before .loop .inv .1 .0 ∙ k .same, c .before .before .before .before .next-move .ensures .1))
+    let t = c .before .before .before .before .before in
+    let l = t .before .before .before .before .before .before .before .before .before in
+    let a = start l .args in
+    let g = t .before .better .given .0 in
+    let v : SFits w64 (g .1 .1 .0) = search needs in
+    let e = rw (toZ-ofZ v, l .before .before .before .before .kept-count .ensures) at (c .raise-lower .ensures .1) in
+    rw (c .raise-lower .ensures .0 .bound, c .raise-lower .ensures .0 .cause, c .before .before .before .before .number-at .ensures, toZ-ofZ v)
+    (loop-set _ _ _ _ _ _ _ _ _ _ _ _ _ _ _ _ (l .loop .inv) _ _ _ _ _ _ (g .1 .0) (g .0) _ _ _ (raise-level t) (tracked (t .before .before .before))
+    (raised-closes (a .n) _ _ _ (g .1 .0) (g .1 .1 .0) (raise-level t 0 .variable) (omega (arith, l .loop .inv .ready .few, l .loop .inv .ready .whole .lower)) (raise-better _ _ _ _ (held (l .loop .lower) (l .loop .upper) (l .loop .below) (l .loop .above) 0) (l .loop .inv .ready) _ _ _ (raise-move t))) e)
 
-enum-known-next-3 : tie.Need-enum-known-next-3 Inv-loop μ-loop
-enum-known-next-3 c = search needs
+enum-known-better-2 : tie.Need-enum-known-better-2 Inv-loop μ-loop
+enum-known-better-2 c = search needs
 
-lowered-next : (c : tie.After-known-told3 Inv-loop μ-loop) →
-    let a = c .before .before .before .before .before .before .before .before .before .before .args in
-    let l : Level = c .before .before .before .before .before .before .before .before .loop .l in
-    let g = c .before .next3 .given .0 in
-    Next (a .n) (a .m) (a .made) (now (a .rows)) l (g .0) (g .1 .0) (lowered l (g .1 .0) (g .1 .1 .0) (numberFor (a .m) (a .made) (g .0)))
-unfolding moveOf
-lowered-next c =
-    let a = c .before .before .before .before .before .before .before .before .before .before .args in
-    let g = c .before .next3 .given .0 in
-    lower-next (a .n) (a .m) (a .made) (now (a .rows)) (c .before .before .before .before .before .before .before .before .loop .l) (c .before .before .before .before .before .before .before .before .loop .inv .0) (g .0) (g .1 .0) (g .1 .1 .0) (sym (ap moveOf (c .before .next3 .given .1)) ∙ said (c .before .before .before))
+-- the bound that is set
+lower-move : (c : tie.After-known-told2 Inv-loop μ-loop) →
+    let l = c .before .before .before .before .before .before .before .before .before in
+    let a = start l .args in
+    let g = c .before .better2 .given .0 in
+    newUpper (g .0) (g .1 .0) (g .1 .1 .0) ≡ nextMove (keptRows (a .n) (a .m) (a .made) (now (a .rows))) (boxOf (a .n) (l .loop .lower) (l .loop .upper))
+unfolding foundOf
+lower-move c = chosen (c .before .before .before) _ (sym (ap foundOf (c .before .better2 .given .1)))
 
-mul-v-2 : tie.Need-mul-v-2 Inv-loop μ-loop
-mul-v-2 c = record { fits = omega (arith, lowered-next c .variable, c .before .before .before .before .before .before .before .before .loop .inv .0 .few) }
-
-element-set-from-v-2 : tie.Need-element-set-from-v-2 Inv-loop μ-loop
-element-set-from-v-2 c = omega (arith, lowered-next c .variable, c .before .before .before .before .before .before .before .before .loop .inv .0 .few)
+lower-level : (c : tie.After-known-told2 Inv-loop μ-loop) (d : ℕ) →
+    let l = c .before .before .before .before .before .before .before .before .before in
+    let a = start l .args in
+    let g = c .before .better2 .given .0 in
+    let k = held (l .loop .lower) (l .loop .upper) (l .loop .below) (l .loop .above) d in
+    Next (a .n) (a .m) (a .made) (now (a .rows)) k (g .0) (g .1 .0) (lowered k (g .1 .0) (g .1 .1 .0) (numberFor (a .m) (a .made) (g .0)))
+lower-level c d =
+    let l = c .before .before .before .before .before .before .before .before .before in
+    lower-next _ _ _ _ (held (l .loop .lower) (l .loop .upper) (l .loop .below) (l .loop .above) d) (ready-at d (l .loop .inv .ready)) _ _ _ (lower-move c)
 
 number-at-requires-2 : tie.Need-number-at-requires-2 Inv-loop μ-loop
-number-at-requires-2 c κs = (c .before .before .before .before .before .before .before .before .loop .inv .0 .cuts, unfold keptCuts in omega (arith, lowered-next c .constraint, c .before .before .before .before .before .before .before .before .loop .inv .0 .inputs))
+number-at-requires-2 c κs =
+    let v = c .before .before .before .before .before .before .before .before .before .loop .inv .ready in
+    (v .cuts, unfold keptCuts in omega (arith, lower-level c 0 .constraint, v .inputs))
 
-mul-l-2 : tie.Need-mul-l-2 Inv-loop μ-loop
-mul-l-2 c = record { fits = omega (arith, lowered-next (c .before) .variable, c .before .before .before .before .before .before .before .before .before .loop .inv .0 .few) }
-
-element-write-l-2 : tie.Need-element-write-l-2 Inv-loop μ-loop
-element-write-l-2 c = omega (arith, lowered-next (c .before) .variable, c .before .before .before .before .before .before .before .before .before .loop .inv .0 .few)
+lower-upper-requires : tie.Need-lower-upper-requires Inv-loop μ-loop
+lower-upper-requires c κs =
+    let t = c .before .before .before .before in
+    let l = t .before .before .before .before .before .before .before .before .before in
+    let k = held (l .loop .lower) (l .loop .upper) (l .loop .below) (l .loop .above) 0 in
+    let v : SFits w64 (t .before .better2 .given .0 .1 .1 .0) = search needs in
+    rw (toZ-ofZ v, l .before .before .before .before .kept-count .ensures)
+    (lower-settable _ _ _ _ k (l .loop .inv .ready) _ _ _ (lower-move t), shiftable _ _ _ _ _ _ _ _ _ _ (scan-fits _ _ _ _ k (l .loop .inv .ready)) (tracked (t .before .before .before)) (lower-level t 0 .variable) (record { within = omega arith }) (lower-fall _ _ _ _ k (l .loop .inv .ready) _ _ _ (lower-move t)))
 
 loop-less-2 : tie.Need-loop-less-2 Inv-loop μ-loop
 loop-less-2 c =
-    let v : SFits w64 (c .before .before .next3 .given .0 .1 .1 .0) = search needs in
-    rw (toZ-ofZ v) (lowered-next (c .before) .less)
+    let t = c .before .before .before .before .before in
+    let v : SFits w64 (t .before .better2 .given .0 .1 .1 .0) = search needs in
+    rw (c .lower-upper .ensures .0 .bound, toZ-ofZ v) (lower-level t 0 .less)
 
 loop-again-2 : tie.Need-loop-again-2 Inv-loop μ-loop
 loop-again-2 c =
-    let v : SFits w64 (c .before .before .next3 .given .0 .1 .1 .0) = search needs in
-    let k = lowered-next (c .before) in
-    rw (toZ-ofZ v, c .number-at2 .ensures) (k .ready, (c .before .before .before .before .before .before .before .before .before .loop .inv .1 .0 ∙ k .same, c .before .before .before .before .next-move .ensures .1))
-
-enum-known-next-4 : tie.Need-enum-known-next-4 Inv-loop μ-loop
-enum-known-next-4 c = search needs
-
-returns-2 : tie.Need-returns-2 Inv-loop μ-loop
-unfolding answer stopOf moveOf
-returns-2 c = stopped (c .before .before .before) _ (sym (ap moveOf (c .before .next4 .given .1)))
+    let t = c .before .before .before .before .before in
+    let l = t .before .before .before .before .before .before .before .before .before in
+    let a = start l .args in
+    let g = t .before .better2 .given .0 in
+    let v : SFits w64 (g .1 .1 .0) = search needs in
+    let e = rw (toZ-ofZ v, l .before .before .before .before .kept-count .ensures) at (c .lower-upper .ensures .1) in
+    rw (c .lower-upper .ensures .0 .bound, c .lower-upper .ensures .0 .cause, c .before .before .before .before .number-at2 .ensures, toZ-ofZ v)
+    (loop-set _ _ _ _ _ _ _ _ _ _ _ _ _ _ _ _ (l .loop .inv) _ _ _ _ _ _ (g .1 .0) (g .0) _ _ _ (lower-level t) (tracked (t .before .before .before))
+    (lowered-closes (a .n) _ _ _ (g .1 .0) (g .1 .1 .0) (lower-level t 0 .variable) (omega (arith, l .loop .inv .ready .few, l .loop .inv .ready .whole .upper)) (lower-better _ _ _ _ (held (l .loop .lower) (l .loop .upper) (l .loop .below) (l .loop .above) 0) (l .loop .inv .ready) _ _ _ (lower-move t))) e)
 
 enum-told : tie.Need-enum-told Inv-loop μ-loop
 enum-told c = search needs
 
-returns-3 : tie.Need-returns-3 Inv-loop μ-loop
-unfolding answer stopOf moveOf
-returns-3 c = stopped (c .before .before) _ (sym (ap moveOf (c .enum-told .given .1)))
+decide-or-finish-requires : tie.Need-decide-or-finish-requires Inv-loop μ-loop
+decide-or-finish-requires c κs = c .before .before .before .before .before .before .before .before .before .before .loop .inv .ready .few
+
+returns : tie.Need-returns Inv-loop μ-loop
+unfolding answer foundOf
+returns c =
+    let f = c .before .before .before .before .before in
+    let l = f .before .before .before .before .before .before in
+    let v = l .loop .inv in
+    let last = next-open _ _ _ _ (told-first _ _ _ _ _ _ _ _ (v .told)) (omega (arith, here (f .before .before .before .before .before))) (sym (ap foundOf (c .before .before .before .enum-told .given .1)) ∙ found f) in (
+      λ d. stop-answer _ _ _ _ (held (l .loop .lower) (l .loop .upper) (l .loop .below) (l .loop .above) d) (ready-at d (v .ready)) _ (c .decide-or-finish .ensures ∙ last) ∙ sym (v .same d),
+      (v .ready, (tracked-some _ _ _ _ _ _ _ 0 (omega arith) (tracked f), λ i e. tracked f)),
+    )
+
+-- the loop is left where a constraint is falsified
+falsified : (c : tie.After-loop Inv-loop μ-loop) →
+    let a = start (c .before) .args in
+    c .before .loop .falsified < a .m + keptCuts (a .made)
+falsified c =
+    ⊎-elim (λ e. absurd (c .loop-test .left (e ∙ sym (c .before .before .before .before .before .kept-count .ensures)))) (λ h. h) (eq-or-lt-of-le (c .before .loop .inv .told .most))
+
+no-decision : (j i : ℕ) → Conflict j ≡ Decide i → ⊥
+no-decision j i e = let z : _≡_ {A = ℕ} 0 1 = cc in omega arith
+
+returns-2 : tie.Need-returns-2 Inv-loop μ-loop
+unfolding answer stopOf
+returns-2 c =
+    let l = c .before in
+    let v = l .loop .inv in (
+      λ d. stop-answer _ _ _ _ (held (l .loop .lower) (l .loop .upper) (l .loop .below) (l .loop .above) d) (ready-at d (v .ready)) _ (next-conflict _ _ _ _ (told-first _ _ _ _ _ _ _ _ (v .told)) (falsified c)) ∙ sym (v .same d),
+      (v .ready, (v .told .lengths, λ i e. absurd (no-decision _ i e))),
+    )
 
 pub propagate-spec : {M : Type 1} → statement M
 propagate-spec =
@@ -169,27 +245,20 @@ propagate-spec =
     Inv-loop
     μ-loop
     kept-count-requires
+    open-mask-requires
     loop-holds
-    next-move-requires
-    enum-known-next
-    returns
-    enum-known-next-2
-    mul-v
-    element-set-from-v
+    first-improvement-requires
+    enum-known-better
     number-at-requires
-    mul-l
-    element-write-l
+    raise-lower-requires
     loop-less
     loop-again
-    enum-known-next-3
-    mul-v-2
-    element-set-from-v-2
+    enum-known-better-2
     number-at-requires-2
-    mul-l-2
-    element-write-l-2
+    lower-upper-requires
     loop-less-2
     loop-again-2
-    enum-known-next-4
-    returns-2
     enum-told
-    returns-3)
+    decide-or-finish-requires
+    returns
+    returns-2)

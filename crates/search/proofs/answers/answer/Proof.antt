@@ -19,14 +19,8 @@ enum-told-3 c = search needs
 enum-told-4 : tie.Need-enum-told-4
 enum-told-4 c = search needs
 
-mul-lowers : tie.Need-mul-lowers
-mul-lowers c = search needs
-
-element-copy-out-lowers : tie.Need-element-copy-out-lowers
-element-copy-out-lowers c = search needs
-
-lowers-requires : tie.Need-lowers-requires
-lowers-requires c κs = search needs
+deepest-lowers-requires : tie.Need-deepest-lowers-requires
+deepest-lowers-requires c κs = search needs
 
 returns : tie.Need-returns
 unfolding caseOf valuesAt zeros
@@ -42,7 +36,7 @@ returns-3 c = answered-as _ OutOfBudget (search needs)
 
 returns-4 : tie.Need-returns-4
 unfolding caseOf valuesAt zeros
-returns-4 c = rw (c .lowers .ensures) (answered-as _ Solution (search needs))
+returns-4 c = rw (c .deepest-lowers .ensures) (answered-as _ Solution (search needs))
 
 pub answer-spec : {M : Type 1} → statement M
 answer-spec =
@@ -52,9 +46,7 @@ answer-spec =
     enum-told-2
     enum-told-3
     enum-told-4
-    mul-lowers
-    element-copy-out-lowers
-    lowers-requires
+    deepest-lowers-requires
     returns
     returns-2
     returns-3

@@ -1,379 +1,550 @@
--- `turns::advance::advance` meets its contract. The loop's invariant is `Running`: the state here is on the way that the model's turns take. Each
--- turn left weighs more than the slack of any box, and a decision lowers the slack. Assumes nothing.
-use Prim.Native.Nat.{_+_, _-_, _*_, _≤_}
+-- `turns::advance::advance` meets its contract. `Looping` has the loop's invariant: the state here is on the way that the model's turns take. Each turn
+-- left weighs more than the slack of any box, and a decision lowers the slack. Assumes nothing.
+use Prim.Native.Nat.{ℕ, suc, _+_, _-_, _*_, _≤_, _<_}
 use native.Mathlib.Omega.{arith}
-use mathlib.Core.Logic.{⊎-elim}
-use mathlib.Core.Path.{_≡_, ap, _∙_}
-use mathlib.Core.Bool.{true}
+use mathlib.Core.Bool.{Bool, true, false}
+use mathlib.Core.List.{List}
+use mathlib.Core.Path.{_≡_, refl, sym, ap, _∙_}
 use borrow.Author.Needs.{needs}
-use borrow.Author.Tests.{not-true, not-false}
-use Rattle.model.specs.Constraint.{falsified}
+use borrow.Author.Tests.{ltb-true, ltb-false}
+use denote.Ref.{now}
+use lib.Dec.{ltb}
+use lib.ListN.{length, length-set}
+use lib.Seq.{set-set, getD-set-same}
 use Rattle.model.specs.Move.{decide, finish, conflict, slack}
-use Rattle.layout.specs.Rows.{constraintAt, boxOf}
-use Rattle.state.specs.View.{keptCuts, levelAt, view}
-use Rattle.state.specs.Change.{Whole}
+use Rattle.lists.proofs.Bools.{clash}
+use Rattle.layout.specs.Rows.{numberIn, constraintAt, boxOf}
+use Rattle.state.specs.View.{keptCuts, levelOf, noLevel, view}
+use Rattle.state.specs.Change.{Whole, held}
+use Rattle.state.specs.declared.Level.{Level}
 use Rattle.state.specs.declared.Status.the-variants.{Undecided}
 use Rattle.propagate.specs.Moves.{stopOf}
+use Rattle.propagate.specs.Propagation.{propagation, numberFor, propagationOf}
+use Rattle.propagate.specs.Ready.{keptRows}
+use Rattle.propagate.proofs.Steps.{scan-fits}
+use Rattle.propagate.proofs.Tracking.{told-start}
+use Rattle.backtrack.proofs.Saving.{saved-none}
+use Rattle.backtrack.proofs.Mirroring.{mirrored-more, mirrored-stored}
+use Rattle.turns.specs.Learning.{Learnable, LearnedFrom}
 use Rattle.turns.proofs.Measures.{turnWeight}
-use Rattle.turns.proofs.Backjumping.{tested}
+use Rattle.turns.proofs.Learning.{learnable-at}
 use Rattle.turns.proofs.Running.{Running, running-decides, coreHere}
 use Rattle.turns.proofs.Arms.{stateWith, finishes, spends, exits}
-use Rattle.turns.proofs.Starting.{view-unmarked, start-depth, running-starts, elements-kept}
-use Rattle.turns.proofs.Rounds.{depth-small, made-small, ready, same-length as kept-length, propagates, decided-here, decide-less, learnable}
-use Rattle.turns.proofs.Counted.{CountedAt, test-fits, block-fits, deepest-false, found-level, passed-all, counted-none, turned-fits, counted-on, counted-less}
+use Rattle.turns.proofs.Starting.{startOf, view-unmarked, start-depth, running-starts, elements-kept}
+use Rattle.turns.proofs.Carrying.{Carried, tracked-none}
+use Rattle.turns.proofs.Masking.{masked-starts}
+use Rattle.turns.proofs.Looping.{Looping, weight, ready-with, whole-with, flipped-level, running-with}
+use Rattle.turns.proofs.Rounds.{depth-small, made-small, ready, propagates, decided-here, decide-less, learnable}
+use Rattle.turns.proofs.Counted.{CountedAt, cut-row, boxes-fit, block-fits, level-is, counted-none, counted-on, counted-less, saved-on, mirrored-on, flippable}
 use Rattle.turns.proofs.advance.advance.Statement.{statement}
 use Rattle.turns.proofs.advance.advance.Tie as tie
 
-abbrev Inv-loop2 : tie.InvT-loop2
-Inv-loop2 buffer limit keep n m budget rows numbers levels made conflicts depth start done j number l cut used back₀ back =
-    (back ≤ depth) × (falsified (constraintAt n cut 0) (levelAt n levels back .box) ≡ true)
-
-abbrev μ-loop2 : tie.MeasureT-loop2
-μ-loop2 buffer limit keep n m budget rows numbers levels made conflicts depth start done j number l cut used back₀ back =
-    back
-
 abbrev Inv-loop : tie.InvT-loop
-Inv-loop buffer₀ limit keep n m budget rows₀ numbers₀ levels₀ made₀ conflicts₀ depth₀ level₀ before₀ start₀ done₀ buffer rows numbers levels made conflicts depth level before start done =
-    Running (view (stateWith n m budget conflicts₀ made₀ depth₀ Undecided rows₀ numbers₀ levels₀)) buffer₀ limit keep n m budget buffer rows numbers levels made conflicts depth level before start done
+Inv-loop buffer₀ limit keep n m budget rows₀ numbers₀ levels₀ made₀ conflicts₀ depth₀ before₀ start₀ done₀ ending₀ status₀ lower₀ upper₀ below₀ above₀ decided₀ activities₀ reaches₀ olds₀ limits₀ gones₀ counts₀ lowers₀ uppers₀ inputs cuts₀ kept told₀ going₀ buffer rows numbers levels made conflicts depth before start done ending status lower upper below above decided activities reaches olds limits gones counts lowers uppers cuts told going =
+    Looping (view (stateWith n m budget conflicts₀ made₀ depth₀ Undecided rows₀ numbers₀ levels₀)) buffer₀ limit keep n m budget inputs buffer rows numbers levels made conflicts depth before start done ending status
+    lower upper below above decided activities reaches olds limits gones counts lowers uppers cuts told going
 
 abbrev μ-loop : tie.MeasureT-loop
-μ-loop buffer₀ limit keep n m budget rows₀ numbers₀ levels₀ made₀ conflicts₀ depth₀ level₀ before₀ start₀ done₀ buffer rows numbers levels made conflicts depth level before start done =
-    (limit - done) * turnWeight + slack (boxOf n (level .lower) (level .upper))
+μ-loop buffer₀ limit keep n m budget rows₀ numbers₀ levels₀ made₀ conflicts₀ depth₀ before₀ start₀ done₀ ending₀ status₀ lower₀ upper₀ below₀ above₀ decided₀ activities₀ reaches₀ olds₀ limits₀ gones₀ counts₀ lowers₀ uppers₀ inputs cuts₀ kept told₀ going₀ buffer rows numbers levels made conflicts depth before start done ending status lower upper below above decided activities reaches olds limits gones counts lowers uppers cuts told going =
+    weight going ((limit - done) * turnWeight + slack (boxOf n lower upper))
 
-mul-whole : tie.Need-mul-whole Inv-loop2 μ-loop2 Inv-loop μ-loop
+-- places on the way, and what holds at them
+abbrev start : tie.At-loop Inv-loop μ-loop → tie.Start Inv-loop μ-loop
+start l = l .before .before .before .before .before .before .before .before .before .before .before .before .before .before .before .before .before .before .before .before .before .before .before .before .before .before .before .before .before
+
+abbrev round : tie.After-propagate Inv-loop μ-loop → tie.At-loop Inv-loop μ-loop
+round p = p .before .before .before .before .before .before .before .before .before .before .before
+
+-- the level where propagation stopped
+abbrev here : tie.After-propagate Inv-loop μ-loop → Level
+here p = held (p .propagate .last .1 .1 .1 .1 .1 .1 .1 .0) (p .propagate .last .1 .1 .1 .1 .1 .1 .1 .1 .0) (p .propagate .last .1 .1 .1 .1 .1 .1 .1 .1 .1 .0) (p .propagate .last .1 .1 .1 .1 .1 .1 .1 .1 .1 .1 .0) (round p .loop .decided)
+
+going : (p : tie.After-propagate Inv-loop μ-loop) → round p .loop .going ≡ true
+going p = p .before .before .before .before .before .before .before .before .before .before .loop-test .taken
+
+abbrev inputs-of : tie.At-loop Inv-loop μ-loop → List ℕ
+inputs-of l = l .before .before .before .before .mark .last .1 .1 .1 .1 .0
+
+running : (p : tie.After-propagate Inv-loop μ-loop) →
+    let l = round p in
+    let a = start l .args in
+    let s = a .s in
+    let v = l .loop in
+    Running (view (startOf s)) (now (a .buffer)) (a .limit) (a .keep) (s .n) (s .m) (s .budget) (v .buffer) (v .rows) (v .numbers) (v .levels) (v .made) (v .conflicts) (v .depth) (held (v .lower) (v .upper) (v .below) (v .above) (v .decided)) (v .before) (v .start) (v .done)
+running p = round p .loop .inv .running (going p)
+
+carried : (p : tie.After-propagate Inv-loop μ-loop) →
+    let l = round p in
+    let s = start l .args .s in
+    let v = l .loop in
+    Carried (s .n) (s .m) (v .rows) (v .levels) (v .made) (v .depth) (v .lower) (v .upper) (v .activities) (v .reaches) (v .told) (v .olds) (v .limits) (v .gones) (v .counts) (v .lowers) (v .uppers) (inputs-of l) (v .cuts)
+carried p = round p .loop .inv .carried (going p)
+
+-- propagation's answer
+answered : (p : tie.After-propagate Inv-loop μ-loop) →
+    let l = round p in
+    let s = start l .args .s in
+    let v = l .loop in
+    propagationOf (s .n) (here p) (p .propagate .result) ≡ propagation (keptRows (s .n) (s .m) (v .made) (v .rows)) (numberFor (s .m) (v .made)) (levelOf (s .n) (held (v .lower) (v .upper) (v .below) (v .above) (v .decided)))
+answered p = p .propagate .ensures .0 (round p .loop .decided)
+
+mul-whole : tie.Need-mul-whole Inv-loop μ-loop
 mul-whole c = omega (arith, start-depth (c .before .before .before .before .pre))
 
-array-copy-out-whole : tie.Need-array-copy-out-whole Inv-loop2 μ-loop2 Inv-loop μ-loop
+array-copy-out-whole : tie.Need-array-copy-out-whole Inv-loop μ-loop
 array-copy-out-whole c = start-depth (c .before .before .before .before .pre)
 
-whole-requires : tie.Need-whole-requires Inv-loop2 μ-loop2 Inv-loop μ-loop
+whole-requires : tie.Need-whole-requires Inv-loop μ-loop
 whole-requires c κs = tt
 
-loop-holds : tie.Need-loop-holds Inv-loop2 μ-loop2 Inv-loop μ-loop
-loop-holds c =
+-- where the loop begins
+begins : (c : tie.After-whole Inv-loop μ-loop) →
+    let a = c .before .before .before .before .before .before .args in
+    let s = a .s in
+    Running (view (startOf s)) (now (a .buffer)) (a .limit) (a .keep) (s .n) (s .m) (s .budget) (now (a .buffer)) (s .rows) (s .numbers) (s .levels) (s .made) (s .conflicts) (s .depth) (c .whole .result) (c .whole .result) (s .depth) 0
+begins c =
     let w = c .whole .ensures in
     let l : Whole (c .whole .result) = rw (w .0) (w .1) in
     running-starts (c .before .before .before .before .before .before .pre) (c .whole .result) (w .0) l (search needs) (search needs) (search (needs, elements-kept))
 
-propagate-requires : tie.Need-propagate-requires Inv-loop2 μ-loop2 Inv-loop μ-loop
-propagate-requires c κs = ready (c .before .before .loop .inv)
+mirror-requires : tie.Need-mirror-requires Inv-loop μ-loop
+mirror-requires c κs = (omega (arith, start-depth (c .before .before .before .before .before .before .before .before .before .before .before .before .pre)), (search needs, search needs))
 
-mul-levels : tie.Need-mul-levels Inv-loop2 μ-loop2 Inv-loop μ-loop
-mul-levels c = omega (arith, depth-small (c .before .before .before .before .loop .inv))
+kept-count-requires : tie.Need-kept-count-requires Inv-loop μ-loop
+kept-count-requires c κs = begins (c .before .before .before .before .before .before .before) .counts .inputs
 
-array-set-from-levels : tie.Need-array-set-from-levels Inv-loop2 μ-loop2 Inv-loop μ-loop
-array-set-from-levels c = omega (arith, depth-small (c .before .before .before .before .loop .inv))
+measure-requires : tie.Need-measure-requires Inv-loop μ-loop
+measure-requires c κs =
+    let r = begins (c .before .before .before .before .before .before .before .before .before .before .before .before .before) in
+    rw (c .before .before .before .before .before .kept-count .ensures) (scan-fits _ _ _ _ _ (ready r), (omega arith, tracked-none _ _ _ _ _ _ (r .rowsLong) (search needs) (search needs)))
 
-enum-known-found : tie.Need-enum-known-found Inv-loop2 μ-loop2 Inv-loop μ-loop
+first-falsified-requires : tie.Need-first-falsified-requires Inv-loop μ-loop
+first-falsified-requires c κs =
+    let r = begins (c .before .before .before .before .before .before .before .before .before .before .before .before .before .before .before) in
+    (unfold keptCuts in omega (arith, c .before .before .before .before .before .before .before .kept-count .ensures, r .counts .inputs), λ j h. c .before .measure .ensures .at j h .size)
+
+mark-requires : tie.Need-mark-requires Inv-loop μ-loop
+mark-requires c κs =
+    let r = begins (c .before .before .before .before .before .before .before .before .before .before .before .before .before .before .before .before .before .before) in
+    record { few = r .counts .few; most = r .counts .inputs; inside = omega (arith, r .counts .inputs); long = r .rowsLong; room = search needs }
+
+sub-mark : tie.Need-sub-mark Inv-loop μ-loop
+sub-mark c = omega (arith, c .before .before .before .before .before .before .before .before .before .before .before .before .kept-count .ensures)
+
+mark-requires-2 : tie.Need-mark-requires-2 Inv-loop μ-loop
+mark-requires-2 c κs =
+    let r = begins (c .before .before .before .before .before .before .before .before .before .before .before .before .before .before .before .before .before .before .before .before .before) in
+    let k = c .before .before .before .before .before .before .before .before .before .before .before .before .before .kept-count .ensures in
+    record { few = r .counts .few; most = unfold keptCuts in omega (arith, k); inside = unfold keptCuts in omega (arith, k, r .counts .inputs); long = r .rowsLong; room = search needs }
+
+loop-holds : tie.Need-loop-holds Inv-loop μ-loop
+loop-holds c =
+    let r = begins (c .before .before .before .before .before .before .before .before .before .before .before .before .before .before .before .before .before .before .before .before .before .before) in
+    let k = c .before .before .before .before .before .before .before .before .before .before .before .before .before .before .kept-count .ensures in
+    let few = r .counts .few in
+    record {
+      running = λ e. r;
+      carried = λ e.
+          record {
+            falsified = told-start _ _ _ _ _ _ _ _ (rw k at (c .before .before .before .before .before .before .before .before .measure .ensures)) (rw k at (c .before .before .before .before .before .before .first-falsified .ensures));
+            room = record { oldsLong = search needs; limitsLong = search needs; gonesLong = search needs; countsLong = search needs };
+            saved = saved-none _ _ _ _ _ _ _ 33 _;
+            bounds = c .before .before .before .before .before .before .before .before .before .before .before .before .before .before .before .mirror .ensures _ few;
+            masks = rw k at (masked-starts _ _ _ _ _ _ (omega (arith, k)) (c .before .before .before .mark .ensures) (c .mark2 .ensures));
+          };
+      more = λ e. ltb-true 0 _ e;
+      open-ended = λ e. (refl, refl);
+      ended = λ e. exits r (ltb-false 0 _ e) (omega (arith, r .levelsLong, start-depth (c .before .before .before .before .before .before .before .before .before .before .before .before .before .before .before .before .before .before .before .before .before .before .before .before .before .before .before .before .pre)));
+      deep = omega (arith, start-depth (c .before .before .before .before .before .before .before .before .before .before .before .before .before .before .before .before .before .before .before .before .before .before .before .before .before .before .before .before .pre));
+      levelsLong = r .levelsLong;
+      bytes = refl;
+    }
+
+propagate-requires : tie.Need-propagate-requires Inv-loop μ-loop
+propagate-requires c κs =
+    let l = c .before .before .before .before .before .before .before .before .before .before in
+    let g = c .before .before .before .before .before .before .before .before .before .loop-test .taken in
+    let v = l .loop .inv .carried g in
+    (ready-with 0 (ready (l .loop .inv .running g)), (v .falsified, v .masks))
+
+enum-known-found : tie.Need-enum-known-found Inv-loop μ-loop
 enum-known-found c = search needs
 
+mul-levels : tie.Need-mul-levels Inv-loop μ-loop
+mul-levels c = omega (arith, depth-small (running (c .before .before .before)))
+
+array-set-from-levels : tie.Need-array-set-from-levels Inv-loop μ-loop
+array-set-from-levels c = omega (arith, depth-small (running (c .before .before .before)))
+
+keep-bounds-requires : tie.Need-keep-bounds-requires Inv-loop μ-loop
+keep-bounds-requires c κs = depth-small (running (c .before .before .before .before .before .before .before))
+
 -- ---- the three ways on from propagation
-decide-at : (c : tie.After-found Inv-loop2 μ-loop2 Inv-loop μ-loop) → stopOf (c .before .before .before .propagate .result .found) ≡ decide (c .found .given .0 .0)
+decide-at : (c : tie.After-found Inv-loop μ-loop) → stopOf (c .before .before .propagate .result) ≡ decide (c .found .given .0 .0)
 unfolding stopOf
 decide-at c = ap stopOf (c .found .given .1)
 
-decide-requires : tie.Need-decide-requires Inv-loop2 μ-loop2 Inv-loop μ-loop
+decide-requires : tie.Need-decide-requires Inv-loop μ-loop
 decide-requires c κs =
-    let chosen = c .before in
-    let moved = chosen .before .before .before in
-    let round = moved .before .before .before in
-    omega (arith, decided-here (round .loop .inv) (moved .propagate .result) (moved .propagate .ensures .0) (chosen .found .given .0 .0) (decide-at chosen), round .loop .inv .counts .few)
+    let p = c .before .before .before .before .before .before .before .before .before .before .before .before .before .before .before .before .before .before in
+    let f = c .before .before .before .before .before .before .before .before .before .before .before .before .before .before .before .before in
+    let r = running p in
+    let q = p .propagate .ensures .1 .0 in
+    record {
+      inputs = r .counts .inputs;
+      fits = scan-fits _ _ _ _ _ q;
+      lowers = q .whole .lower;
+      uppers = q .whole .upper;
+      tracked = p .propagate .ensures .1 .1 .1 (f .found .given .0 .0) (f .found .given .1);
+      variable = decided-here r (here p) (p .propagate .result) (answered p) (f .found .given .0 .0) (decide-at f);
+      deep = depth-small r;
+      room = carried p .room;
+    }
 
-add-depth : tie.Need-add-depth Inv-loop2 μ-loop2 Inv-loop μ-loop
-add-depth c = omega (arith, depth-small (c .before .before .before .before .before .before .before .before .loop .inv))
+add-depth : tie.Need-add-depth Inv-loop μ-loop
+add-depth c = omega (arith, depth-small (running (c .before .before .before .before .before .before .before .before .before .before .before .before .before .before .before .before .before .before .before)))
 
-loop-less : tie.Need-loop-less Inv-loop2 μ-loop2 Inv-loop μ-loop
+loop-less : tie.Need-loop-less Inv-loop μ-loop
+unfolding numberIn
 loop-less c =
-    let chosen = c .before .before in
-    let moved = chosen .before .before .before in
-    let round = moved .before .before .before in
-    rw (c .decide .ensures .0)
-    (decide-less (round .loop .inv) (moved .propagate .result) (moved .propagate .ensures .0) (chosen .found .given .0 .0) (decide-at chosen) (moved .propagate .ensures .1 .0))
+    let p = c .before .before .before .before .before .before .before .before .before .before .before .before .before .before .before .before .before .before .before in
+    let f = c .before .before .before .before .before .before .before .before .before .before .before .before .before .before .before .before .before in
+    rw (going p, c .decide .ensures .0 .bound)
+    (let d = decide-less (running p) (here p) (p .propagate .result) (answered p) (f .found .given .0 .0) (decide-at f) (whole-with (round p .loop .decided) (p .propagate .ensures .1 .0 .whole)) in omega (arith, d))
 
-loop-again : tie.Need-loop-again Inv-loop2 μ-loop2 Inv-loop μ-loop
+loop-again : tie.Need-loop-again Inv-loop μ-loop
+unfolding numberIn
 loop-again c =
-    let moved = c .before .before .before .before .before in
-    let round = moved .before .before .before in
-    rw (c .decide .ensures .0)
-    (running-decides (round .loop .inv) _ _ (moved .propagate .ensures .1 .0)
-    (propagates (round .loop .inv) (moved .propagate .result) (moved .propagate .ensures .0) _ (decide-at (c .before .before))))
+    let p = c .before .before .before .before .before .before .before .before .before .before .before .before .before .before .before .before .before .before .before in
+    let f = c .before .before .before .before .before .before .before .before .before .before .before .before .before .before .before .before .before in
+    let l = round p in
+    let r = running p in
+    let v = carried p in
+    let w = whole-with (l .loop .decided) (p .propagate .ensures .1 .0 .whole) in
+    let deep : l .loop .depth < length (l .loop .levels) = omega (arith, r .levelsLong, depth-small r) in
+    let d = c .decide .ensures in
+    let next = running-decides r (f .found .given .0 .0) (here p) w (propagates r (here p) (p .propagate .result) (answered p) _ (decide-at f)) in
+    record {
+      running = λ e. rw (d .0 .bound, d .0 .cause) next;
+      carried = λ e.
+          record {
+            falsified = d .0 .told;
+            room = d .1 .room;
+            saved = d .1 .saved (l .loop .levels) (here p) refl refl deep (v .saved);
+            bounds = mirrored-more _ (r .counts .few) _ _ _ _ _ (l .loop .depth) (here p) (c .before .before .before .before .before .before .before .before .before .before .before .keep-bounds .ensures) (getD-set-same (l .loop .levels) (l .loop .depth) (here p) noLevel deep)
+                (mirrored-stored _ _ _ _ _ (v .bounds) (l .loop .depth) (here p) (omega arith));
+            masks = v .masks;
+          };
+      more = l .loop .inv .more;
+      open-ended = l .loop .inv .open-ended;
+      ended = λ e. clash (going p) e;
+      deep = l .loop .inv .deep;
+      levelsLong = length-set (l .loop .levels) (l .loop .depth) (here p) ∙ r .levelsLong;
+      bytes = l .loop .inv .bytes;
+    }
 
-enum-told : tie.Need-enum-told Inv-loop2 μ-loop2 Inv-loop μ-loop
+enum-told : tie.Need-enum-told Inv-loop μ-loop
 enum-told c = search needs
 
-same-length : tie.Need-same-length Inv-loop2 μ-loop2 Inv-loop μ-loop
-same-length c = kept-length (c .before .before .before .before .before .before .loop .inv)
+loop-less-2 : tie.Need-loop-less-2 Inv-loop μ-loop
+loop-less-2 c = rw (going (c .before .before)) (omega arith)
 
-finish-at : (c : tie.After-enum-told Inv-loop2 μ-loop2 Inv-loop μ-loop) → stopOf (c .before .before .before .propagate .result .found) ≡ finish
+finish-at : (c : tie.After-enum-told Inv-loop μ-loop) → stopOf (c .before .before .propagate .result) ≡ finish
 unfolding stopOf
 finish-at c = ap stopOf (c .enum-told .given .1)
 
-returns : tie.Need-returns Inv-loop2 μ-loop2 Inv-loop μ-loop
-returns c =
-    let moved = c .before .before .before in
-    let round = moved .before .before .before in
-    let start = round .before .before .before .before .before .before .before in
-    rw (view-unmarked (start .args .s) (start .pre .unmarked)) at
-    (finishes (round .loop .inv) _ (moved .before .before .loop-test .taken) (omega (arith, round .loop .inv .levelsLong, depth-small (round .loop .inv)))
-    (propagates (round .loop .inv) (moved .propagate .result) (moved .propagate .ensures .0) finish (finish-at c)))
+loop-again-2 : tie.Need-loop-again-2 Inv-loop μ-loop
+loop-again-2 c =
+    let p = c .before .before in
+    let l = round p in
+    let r = running p in
+    record {
+      running = λ e. clash e refl;
+      carried = λ e. clash e refl;
+      more = λ e. clash e refl;
+      open-ended = λ e. clash e refl;
+      ended = λ e. finishes r (here p) (l .loop .inv .more (going p)) (omega (arith, r .levelsLong, depth-small r)) (propagates r (here p) (p .propagate .result) (answered p) finish (finish-at c));
+      deep = depth-small r;
+      levelsLong = r .levelsLong;
+      bytes = l .loop .inv .bytes;
+    }
 
-enum-known-found-2 : tie.Need-enum-known-found-2 Inv-loop2 μ-loop2 Inv-loop μ-loop
+enum-known-found-2 : tie.Need-enum-known-found-2 Inv-loop μ-loop
 enum-known-found-2 c = search needs
 
--- the depth at the start of the turn
-start-small : (c : tie.At-loop Inv-loop2 μ-loop2 Inv-loop μ-loop) → c .loop .start ≤ 32
-start-small c = omega (arith, depth-small (c .loop .inv), c .loop .inv .from)
+loop-less-3 : tie.Need-loop-less-3 Inv-loop μ-loop
+loop-less-3 c = rw (going (c .before .before .before .before)) (omega arith)
 
-mul-levels-2 : tie.Need-mul-levels-2 Inv-loop2 μ-loop2 Inv-loop μ-loop
-mul-levels-2 c = omega (arith, start-small (c .before .before .before .before .before .before .before .before))
-
-array-set-from-levels-2 : tie.Need-array-set-from-levels-2 Inv-loop2 μ-loop2 Inv-loop μ-loop
-array-set-from-levels-2 c = omega (arith, start-small (c .before .before .before .before .before .before .before .before))
-
-same-length-2 : tie.Need-same-length-2 Inv-loop2 μ-loop2 Inv-loop μ-loop
-same-length-2 c = kept-length (c .before .before .before .before .before .before .before .before .loop .inv)
-
-conflict-at : (c : tie.After-found2 Inv-loop2 μ-loop2 Inv-loop μ-loop) → stopOf (c .before .before .before .propagate .result .found) ≡ conflict (c .found2 .given .0 .0)
+conflict-at : (c : tie.After-found2 Inv-loop μ-loop) → stopOf (c .before .before .propagate .result) ≡ conflict (c .found2 .given .0 .0)
 unfolding stopOf
 conflict-at c = ap stopOf (c .found2 .given .1)
 
-returns-2 : tie.Need-returns-2 Inv-loop2 μ-loop2 Inv-loop μ-loop
-returns-2 c =
-    let met = c .before .before in
-    let moved = met .before .before .before in
-    let turn = moved .before .before in
-    let round = turn .before in
-    let start = round .before .before .before .before .before .before .before in
-    rw (view-unmarked (start .args .s) (start .pre .unmarked)) at
-    (spends (round .loop .inv) _ (met .found2 .given .0 .0) (turn .loop-test .taken) (omega (arith, round .loop .inv .levelsLong, start-small round)) (c .if1 .taken)
-    (propagates (round .loop .inv) (moved .propagate .result) (moved .propagate .ensures .0) (conflict (met .found2 .given .0 .0)) (conflict-at met)))
-
-number-of-requires : tie.Need-number-of-requires Inv-loop2 μ-loop2 Inv-loop μ-loop
-unfolding keptCuts
-number-of-requires c κs =
-    let met = c .before .before in
-    let moved = met .before .before .before in
-    let round = moved .before .before .before in (
-      omega (arith, learnable (round .loop .inv) (moved .propagate .result) (moved .propagate .ensures .0) (met .found2 .given .0 .0) (conflict-at met) (moved .propagate .ensures .1) .position, round .loop .inv .counts .inputs),
-      made-small (round .loop .inv),
-    )
-
-learn-requires : tie.Need-learn-requires Inv-loop2 μ-loop2 Inv-loop μ-loop
-learn-requires c κs =
-    let met = c .before .before .before .before .before in
-    let moved = met .before .before .before in
-    let round = moved .before .before .before in
-    learnable (round .loop .inv) (moved .propagate .result) (moved .propagate .ensures .0) (met .found2 .given .0 .0) (conflict-at met) (moved .propagate .ensures .1)
-
-loop2-holds : tie.Need-loop2-holds Inv-loop2 μ-loop2 Inv-loop μ-loop
-loop2-holds c =
-    let learned = c .before .before in
-    let met = learned .before .before .before .before .before .before in
-    let moved = met .before .before .before in
-    let round = moved .before .before .before in
-    (omega arith, deepest-false (round .loop .inv) (moved .propagate .result) (moved .propagate .ensures .0) (met .found2 .given .0 .0) (conflict-at met) (learned .learn .result) (learned .learn .ensures))
-
--- the depth in the search for the level to go back to
-back-small : (c : tie.At-loop2 Inv-loop2 μ-loop2 Inv-loop μ-loop) → c .loop2 .back ≤ 32
-back-small c = omega (arith, depth-small (c .before .before .before .before .before .before .before .before .before .before .before .before .before .before .before .loop .inv), c .loop2 .inv .0)
-
-sub-whole : tie.Need-sub-whole Inv-loop2 μ-loop2 Inv-loop μ-loop
-sub-whole c = omega (arith, c .loop2-test .taken)
-
-mul-whole-2 : tie.Need-mul-whole-2 Inv-loop2 μ-loop2 Inv-loop μ-loop
-mul-whole-2 c = omega (arith, back-small (c .before))
-
-array-copy-out-whole-2 : tie.Need-array-copy-out-whole-2 Inv-loop2 μ-loop2 Inv-loop μ-loop
-array-copy-out-whole-2 c = omega (arith, back-small (c .before))
-
-whole-requires-2 : tie.Need-whole-requires-2 Inv-loop2 μ-loop2 Inv-loop μ-loop
-whole-requires-2 c κs = tt
-
-slice-aggregate-is-falsified : tie.Need-slice-aggregate-is-falsified Inv-loop2 μ-loop2 Inv-loop μ-loop
-slice-aggregate-is-falsified c = search needs
-
-is-falsified-requires : tie.Need-is-falsified-requires Inv-loop2 μ-loop2 Inv-loop μ-loop
-is-falsified-requires c κs =
-    let passing = c .before .before .before .before .before .before .before .before .before in
-    let learned = passing .before .before .before in
-    let met = learned .before .before .before .before .before .before in
-    let moved = met .before .before .before in
-    let round = moved .before .before .before in
-    let w = c .before .before .before .before .before .before .whole2 .ensures in
-    rw (w .0) (test-fits (round .loop .inv) (moved .propagate .result) (moved .propagate .ensures .0) (met .found2 .given .0 .0) (conflict-at met)
-    (learned .learn .result) (learned .learn .ensures) (passing .loop2 .back - 1) (omega (arith, passing .loop2 .inv .0)) (w .1))
-
-sub-back : tie.Need-sub-back Inv-loop2 μ-loop2 Inv-loop μ-loop
-sub-back c = omega (arith, c .before .before .before .before .before .before .before .before .before .before .loop2-test .taken)
-
-loop2-less : tie.Need-loop2-less Inv-loop2 μ-loop2 Inv-loop μ-loop
-loop2-less c = omega (arith, c .before .before .before .before .before .before .before .before .before .before .loop2-test .taken)
-
-loop2-again : tie.Need-loop2-again Inv-loop2 μ-loop2 Inv-loop μ-loop
-loop2-again c =
-    let judged = c .before in
-    let read = judged .before .before .before .before .before .before .before in
-    let passing = read .before .before .before in (
-      omega (arith, passing .loop2 .inv .0),
-      tested _ _ _ (passing .loop2 .back - 1) (read .whole2 .result) (read .whole2 .ensures .0) (judged .is-falsified .result) (judged .is-falsified .ensures) ∙ not-false _ (c .if2 .left),
-    )
-
--- the conflict is counted, and the search found the level to go back to
-counted : (c : tie.Left-loop2 Inv-loop2 μ-loop2 Inv-loop μ-loop) →
-    let numbered = c .before .before .before .before .before .before .before in
-    let met = numbered .before .before .before in
-    let moved = met .before .before .before in
-    let round = moved .before .before .before in
-    let start = round .before .before .before .before .before .before .before in
-    CountedAt (start .args .limit) (round .loop .done) (round .loop .conflicts) (start .args .s .budget) (round .loop .depth) (c .before .loop2 .back) (numbered .number-of .result)
-    (constraintAt (start .args .s .n) (c .before .before .before .before .learn .result .cut) 0)
-    (coreHere (start .args .s .n) (start .args .s .m) (round .loop .rows) (round .loop .numbers) (round .loop .levels) (round .loop .made) (round .loop .depth) (moved .propagate .result .level)) (met .found2 .given .0 .0)
-counted c =
-    let passing = c .before in
-    let learned = passing .before .before .before in
-    let numbered = learned .before .before .before in
-    let afforded = numbered .before in
-    let met = afforded .before .before in
-    let moved = met .before .before .before in
-    let turn = moved .before .before in
-    let round = turn .before in
-    let back = passing .loop2 .back in
-    let inv = passing .loop2 .inv in
+loop-again-3 : tie.Need-loop-again-3 Inv-loop μ-loop
+loop-again-3 c =
+    let p = c .before .before .before .before in
+    let f = c .before .before in
+    let l = round p in
+    let r = running p in
     record {
-      left = turn .loop-test .taken;
-      afford = omega (arith, round .loop .inv .counts .afford, afforded .if1 .left);
-      level =
-          found-level (round .loop .inv) (moved .propagate .result) (moved .propagate .ensures .0) (met .found2 .given .0 .0) (conflict-at met)
-          (learned .learn .result) (learned .learn .ensures) back (inv .0)
-          (⊎-elim (λ w k h. let z : ⊥ = omega (arith, w .left) in absurd z)
-          (λ w. passed-all (round .loop .inv) (moved .propagate .result) (moved .propagate .ensures .0) (met .found2 .given .0 .0) (conflict-at met)
-          (learned .learn .result) (learned .learn .ensures) back (inv .0) (omega (arith, w .0 .taken))
-          (tested _ _ _ (back - 1) (w .2 .result) (w .2 .ensures .0) (w .9 .result) (w .9 .ensures) ∙ not-true _ (w .10 .taken)))
-          (c .loop2-test .came))
-          (inv .1);
-      reach = inv .0;
-      numbered = numbered .number-of .ensures _ _ _ _ _;
+      running = λ e. clash e refl;
+      carried = λ e. clash e refl;
+      more = λ e. clash e refl;
+      open-ended = λ e. clash e refl;
+      ended = λ e.
+          rw (l .loop .inv .open-ended (going p) .1)
+          (spends r (here p) (f .found2 .given .0 .0) (l .loop .inv .more (going p)) (omega (arith, r .levelsLong, l .loop .inv .deep)) (c .if1 .taken) (propagates r (here p) (p .propagate .result) (answered p) (conflict (f .found2 .given .0 .0)) (conflict-at f)));
+      deep = l .loop .inv .deep;
+      levelsLong = r .levelsLong;
+      bytes = l .loop .inv .bytes;
     }
 
-add-conflicts : tie.Need-add-conflicts Inv-loop2 μ-loop2 Inv-loop μ-loop
-add-conflicts c = omega (arith, counted c .afford, c .before .before .before .before .before .before .before .before .before .before .before .before .before .before .before .before .loop .inv .counts .limited)
+-- what learning from the conflict asks
+met : (c : tie.After-found2 Inv-loop μ-loop) →
+    let p = c .before .before in
+    let l = round p in
+    let s = start l .args .s in
+    Learnable (s .n) (s .m) (l .loop .made) (l .loop .rows) (l .loop .numbers) (here p) (c .found2 .given .0 .0)
+met c =
+    let p = c .before .before in
+    let q = p .propagate .ensures .1 .0 in
+    learnable (running p) (here p) (p .propagate .result) (answered p) (c .found2 .given .0 .0) (conflict-at c) (whole-with (round p .loop .decided) (q .whole), q .bounds)
 
-emit-requires : tie.Need-emit-requires Inv-loop2 μ-loop2 Inv-loop μ-loop
+number-of-requires : tie.Need-number-of-requires Inv-loop μ-loop
+unfolding keptCuts
+number-of-requires c κs =
+    let r = running (c .before .before .before .before) in
+    (omega (arith, met (c .before .before) .position, r .counts .inputs), made-small r)
+
+learn-requires : tie.Need-learn-requires Inv-loop μ-loop
+learn-requires c κs = (learnable-at 0 (met (c .before .before .before .before .before .before .before .before .before .before)), carried (c .before .before .before .before .before .before .before .before .before .before .before .before) .masks .cutRoom)
+
+mul-levels-2 : tie.Need-mul-levels-2 Inv-loop μ-loop
+mul-levels-2 c = omega (arith, depth-small (running (c .before .before .before .before .before .before .before .before .before .before .before .before .before)))
+
+array-set-from-levels-2 : tie.Need-array-set-from-levels-2 Inv-loop μ-loop
+array-set-from-levels-2 c = omega (arith, depth-small (running (c .before .before .before .before .before .before .before .before .before .before .before .before .before)))
+
+slice-aggregate-backjump-level : tie.Need-slice-aggregate-backjump-level Inv-loop μ-loop
+slice-aggregate-backjump-level c = sym (carried (c .before .before .before .before .before .before .before .before .before .before .before .before .before .before .before .before .before) .bounds .lowersLong)
+
+slice-aggregate-backjump-level-2 : tie.Need-slice-aggregate-backjump-level-2 Inv-loop μ-loop
+slice-aggregate-backjump-level-2 c = sym (carried (c .before .before .before .before .before .before .before .before .before .before .before .before .before .before .before .before .before .before) .bounds .uppersLong)
+
+-- what was learned, of the level in hand
+learnt : (c : tie.After-learn Inv-loop μ-loop) →
+    let p = c .before .before .before .before .before .before .before .before .before .before .before .before .before in
+    let l = round p in
+    let s = start l .args .s in
+    LearnedFrom (s .n) (s .m) (l .loop .made) (l .loop .rows) (l .loop .numbers) (here p) (c .before .before .before .before .before .before .before .before .before .before .before .found2 .given .0 .0) (c .learn .result) (c .learn .last .1 .1 .1 .1 .1 .1 .1 .1 .0) (c .learn .last .1 .1 .1 .1 .1 .1 .1 .1 .1 .0)
+learnt c = c .learn .ensures .0 (round (c .before .before .before .before .before .before .before .before .before .before .before .before .before) .loop .decided)
+
+backjump-level-requires : tie.Need-backjump-level-requires Inv-loop μ-loop
+backjump-level-requires c κs =
+    let p = c .before .before .before .before .before .before .before .before .before .before .before .before .before .before .before .before .before .before in
+    let f = c .before .before .before .before .before .before .before .before .before .before .before .before .before .before .before .before in
+    let x = c .before .before .before .before .before in
+    (cut-row (running p) (here p) (p .propagate .result) (answered p) (f .found2 .given .0 .0) (conflict-at f) (x .learn .result) (learnt x), (depth-small (running p), boxes-fit (running p) (here p) (p .propagate .result) (answered p) (f .found2 .given .0 .0) (conflict-at f) (x .learn .result) (learnt x) _ _ (carried p .bounds)))
+
+-- the conflict is counted, and the search found the level to go back to
+counted : (c : tie.After-backjump-level Inv-loop μ-loop) →
+    let p = c .before .before .before .before .before .before .before .before .before .before .before .before .before .before .before .before .before .before .before in
+    let l = round p in
+    let a = start l .args in
+    let s = a .s in
+    CountedAt (a .limit) (l .loop .done) (l .loop .conflicts) (s .budget) (l .loop .depth) (c .backjump-level .result) (c .before .before .before .before .before .before .before .before .before .before .before .before .before .before .number-of .result) (constraintAt (s .n) (c .before .before .before .before .before .before .learn .result .cut) 0)
+    (coreHere (s .n) (s .m) (l .loop .rows) (l .loop .numbers) (l .loop .levels) (l .loop .made) (l .loop .depth) (here p)) (c .before .before .before .before .before .before .before .before .before .before .before .before .before .before .before .before .before .found2 .given .0 .0)
+counted c =
+    let p = c .before .before .before .before .before .before .before .before .before .before .before .before .before .before .before .before .before .before .before in
+    let f = c .before .before .before .before .before .before .before .before .before .before .before .before .before .before .before .before .before in
+    let x = c .before .before .before .before .before .before in
+    let r = running p in
+    record {
+      left = round p .loop .inv .more (going p);
+      afford = omega (arith, r .counts .afford, c .before .before .before .before .before .before .before .before .before .before .before .before .before .before .before .if1 .left);
+      level = level-is (running p) (here p) (p .propagate .result) (answered p) (f .found2 .given .0 .0) (conflict-at f) (x .learn .result) (learnt x) _ _ (carried p .bounds) _ (c .backjump-level .ensures);
+      reach = c .backjump-level .ensures .most;
+      numbered = c .before .before .before .before .before .before .before .before .before .before .before .before .before .before .number-of .ensures _ _ _ _ _;
+    }
+
+add-conflicts : tie.Need-add-conflicts Inv-loop μ-loop
+add-conflicts c = omega (arith, counted c .afford, running (c .before .before .before .before .before .before .before .before .before .before .before .before .before .before .before .before .before .before .before) .counts .limited)
+
+emit-requires : tie.Need-emit-requires Inv-loop μ-loop
 emit-requires c κs =
-    let learned = c .before .before .before .before .before .before .before in
-    let met = learned .before .before .before .before .before .before in
-    let moved = met .before .before .before in
-    let turn = moved .before .before in
-    let round = turn .before in
-    block-fits (round .loop .inv) (moved .propagate .result) (moved .propagate .ensures .0) (met .found2 .given .0 .0) (conflict-at met)
-    (learned .learn .result) (learned .learn .ensures) (turn .loop-test .taken)
+    let p = c .before .before .before .before .before .before .before .before .before .before .before .before .before .before .before .before .before .before .before .before .before .before in
+    let f = c .before .before .before .before .before .before .before .before .before .before .before .before .before .before .before .before .before .before .before .before in
+    let x = c .before .before .before .before .before .before .before .before .before in
+    block-fits (running p) (here p) (p .propagate .result) (answered p) (f .found2 .given .0 .0) (conflict-at f) (x .learn .result) (learnt x) (counted (c .before .before .before) .left)
 
-add-done : tie.Need-add-done Inv-loop2 μ-loop2 Inv-loop μ-loop
-add-done c =
-    let turn = c .before .before .before .before .before .before .before .before .before .before .before .before .before .before .before .before .before .before .before .before .before in
-    omega (arith, turn .loop-test .taken, turn .before .before .before .before .before .before .before .before .fits .limit)
+add-done : tie.Need-add-done Inv-loop μ-loop
+add-done c = omega (arith, counted (c .before .before .before .before .before .before) .left, start (c .before .before .before .before .before .before .before .before .before .before .before .before .before .before .before .before .before .before .before .before .before .before .before .before .before .before .before .before .before .before .before .before .before .before .before .before) .fits .limit)
 
-same-length-3 : tie.Need-same-length-3 Inv-loop2 μ-loop2 Inv-loop μ-loop
-same-length-3 c = c .before .before .before .emit .kept .0 ∙ kept-length (c .before .before .before .before .before .before .before .before .before .before .before .before .before .before .before .before .before .before .before .before .before .before .before .loop .inv)
+loop-less-4 : tie.Need-loop-less-4 Inv-loop μ-loop
+loop-less-4 c = rw (going (c .before .before .before .before .before .before .before .before .before .before .before .before .before .before .before .before .before .before .before .before .before .before .before .before .before .before)) (omega arith)
 
-returns-3 : tie.Need-returns-3 Inv-loop2 μ-loop2 Inv-loop μ-loop
-returns-3 c =
-    let reached = c .before .before .before .before .before .before .before in
-    let learned = reached .before .before .before .before in
-    let met = learned .before .before .before .before .before .before in
-    let moved = met .before .before .before in
-    let round = moved .before .before .before in
-    let start = round .before .before .before .before .before .before .before in
-    rw (view-unmarked (start .args .s) (start .pre .unmarked)) at
-    (counted-none (round .loop .inv) (moved .propagate .result) (moved .propagate .ensures .0) (met .found2 .given .0 .0) (conflict-at met)
-    (learned .learn .result) (learned .learn .ensures)
-    (counted reached) _ (c .before .before .before .emit .ensures) (c .if3 .taken))
+loop-again-4 : tie.Need-loop-again-4 Inv-loop μ-loop
+loop-again-4 c =
+    let p = c .before .before .before .before .before .before .before .before .before .before .before .before .before .before .before .before .before .before .before .before .before .before .before .before .before .before in
+    let f = c .before .before .before .before .before .before .before .before .before .before .before .before .before .before .before .before .before .before .before .before .before .before .before .before in
+    let x = c .before .before .before .before .before .before .before .before .before .before .before .before .before in
+    let l = round p in
+    let r = running p in
+    record {
+      running = λ e. clash e refl;
+      carried = λ e. clash e refl;
+      more = λ e. clash e refl;
+      open-ended = λ e. clash e refl;
+      ended = λ e. rw set-set (counted-none (running p) (here p) (p .propagate .result) (answered p) (f .found2 .given .0 .0) (conflict-at f) (x .learn .result) (learnt x) (counted (c .before .before .before .before .before .before .before)) _ (c .before .before .before .emit .ensures) (c .if2 .taken));
+      deep = depth-small r;
+      levelsLong = length-set (l .loop .levels) (l .loop .depth) (here p) ∙ r .levelsLong;
+      bytes = c .before .before .before .emit .kept .0 ∙ l .loop .inv .bytes;
+    }
 
-mul-whole-3 : tie.Need-mul-whole-3 Inv-loop2 μ-loop2 Inv-loop μ-loop
-mul-whole-3 c = omega (arith, back-small (c .before .before .before .before .before .before .before .before))
+mul-whole-2 : tie.Need-mul-whole-2 Inv-loop μ-loop
+mul-whole-2 c = omega (arith, counted (c .before .before .before .before .before .before .before) .reach, depth-small (running (c .before .before .before .before .before .before .before .before .before .before .before .before .before .before .before .before .before .before .before .before .before .before .before .before .before .before)))
 
-array-copy-out-whole-3 : tie.Need-array-copy-out-whole-3 Inv-loop2 μ-loop2 Inv-loop μ-loop
-array-copy-out-whole-3 c = omega (arith, back-small (c .before .before .before .before .before .before .before .before))
+array-copy-out-whole-2 : tie.Need-array-copy-out-whole-2 Inv-loop μ-loop
+array-copy-out-whole-2 c = omega (arith, counted (c .before .before .before .before .before .before .before) .reach, depth-small (running (c .before .before .before .before .before .before .before .before .before .before .before .before .before .before .before .before .before .before .before .before .before .before .before .before .before .before)))
 
-whole-requires-3 : tie.Need-whole-requires-3 Inv-loop2 μ-loop2 Inv-loop μ-loop
+whole-requires-2 : tie.Need-whole-requires-2 Inv-loop μ-loop
+whole-requires-2 c κs = tt
+
+sub-depth : tie.Need-sub-depth Inv-loop μ-loop
+sub-depth c = omega (arith, c .before .before .if2 .left)
+
+mul-whole-3 : tie.Need-mul-whole-3 Inv-loop μ-loop
+mul-whole-3 c = omega (arith, counted (c .before .before .before .before .before .before .before .before .before) .reach, depth-small (running (c .before .before .before .before .before .before .before .before .before .before .before .before .before .before .before .before .before .before .before .before .before .before .before .before .before .before .before .before)), round (c .before .before .before .before .before .before .before .before .before .before .before .before .before .before .before .before .before .before .before .before .before .before .before .before .before .before .before .before) .loop .inv .deep)
+
+array-copy-out-whole-3 : tie.Need-array-copy-out-whole-3 Inv-loop μ-loop
+array-copy-out-whole-3 c = omega (arith, counted (c .before .before .before .before .before .before .before .before .before) .reach, depth-small (running (c .before .before .before .before .before .before .before .before .before .before .before .before .before .before .before .before .before .before .before .before .before .before .before .before .before .before .before .before)), round (c .before .before .before .before .before .before .before .before .before .before .before .before .before .before .before .before .before .before .before .before .before .before .before .before .before .before .before .before) .loop .inv .deep)
+
+whole-requires-3 : tie.Need-whole-requires-3 Inv-loop μ-loop
 whole-requires-3 c κs = tt
 
-sub-depth : tie.Need-sub-depth Inv-loop2 μ-loop2 Inv-loop μ-loop
-sub-depth c = omega (arith, c .before .before .if3 .left)
+backjump-requires : tie.Need-backjump-requires Inv-loop μ-loop
+backjump-requires c κs =
+    let p = c .before .before .before .before .before .before .before .before .before .before .before .before .before .before .before .before .before .before .before .before .before .before .before .before .before .before .before .before .before .before .before .before .before .before .before .before .before .before .before .before .before .before .before .before in
+    let f = c .before .before .before .before .before .before .before .before .before .before .before .before .before .before .before .before .before .before .before .before .before .before .before .before .before .before .before .before .before .before .before .before .before .before .before .before .before .before .before .before .before .before in
+    let x = c .before .before .before .before .before .before .before .before .before .before .before .before .before .before .before .before .before .before .before .before .before .before .before .before .before .before .before .before .before .before .before in
+    let v = carried p in
+    let t = p .propagate .ensures .1 .1 .0 in
+    rw (c .before .before .before .before .before .before .before .before .before .before .before .before .before .before .before .before .whole2 .ensures .0, c .before .before .before .before .before .before .before .before .before .before .before .before .before .before .whole3 .ensures .0)
+    (flippable (running p) (here p) (p .propagate .result) (answered p) (f .found2 .given .0 .0) (conflict-at f) (x .learn .result) (learnt x) (counted (c .before .before .before .before .before .before .before .before .before .before .before .before .before .before .before .before .before .before .before .before .before .before .before .before .before)) _ (c .before .before .before .before .before .before .before .before .before .before .before .before .before .before .before .before .before .before .before .before .before .emit .ensures) (omega (arith, c .before .before .before .before .before .before .before .before .before .before .before .before .before .before .before .before .before .before .if2 .left)) (c .before .before .before .before .before .before .before .before .before .before .before .before .before .before .whole3 .ensures .1) _ _ _ _ (v .saved) (v .room), tracked-none _ _ _ _ _ _ (learnt x .rowsLong) (t .room) (t .reachRoom))
 
-mul-whole-4 : tie.Need-mul-whole-4 Inv-loop2 μ-loop2 Inv-loop μ-loop
-mul-whole-4 c = omega (arith, back-small (c .before .before .before .before .before .before .before .before .before .before))
+-- whether the loop goes on or not, the measure falls
+lighter : (b : Bool) (k l : ℕ) → k < l → weight b k < suc l
+lighter true k l h = omega arith
+lighter false k l h = omega arith
 
-array-copy-out-whole-4 : tie.Need-array-copy-out-whole-4 Inv-loop2 μ-loop2 Inv-loop μ-loop
-array-copy-out-whole-4 c = omega (arith, back-small (c .before .before .before .before .before .before .before .before .before .before))
+loop-less-5 : tie.Need-loop-less-5 Inv-loop μ-loop
+loop-less-5 c =
+    let p = c .before .before .before .before .before .before .before .before .before .before .before .before .before .before .before .before .before .before .before .before .before .before .before .before .before .before .before .before .before .before .before .before .before .before .before .before .before .before .before .before .before .before .before .before .before in
+    let f = c .before .before .before .before .before .before .before .before .before .before .before .before .before .before .before .before .before .before .before .before .before .before .before .before .before .before .before .before .before .before .before .before .before .before .before .before .before .before .before .before .before .before .before in
+    let x = c .before .before .before .before .before .before .before .before .before .before .before .before .before .before .before .before .before .before .before .before .before .before .before .before .before .before .before .before .before .before .before .before in
+    rw (going p, c .backjump .ensures .bound, c .before .before .before .before .before .before .before .before .before .before .before .before .before .before .before .before .before .whole2 .ensures .0, c .before .before .before .before .before .before .before .before .before .before .before .before .before .before .before .whole3 .ensures .0)
+    (lighter (ltb (round p .loop .done + 1) (start (round p) .args .limit)) _ _ (counted-less (running p) (here p) (p .propagate .result) (answered p) (f .found2 .given .0 .0) (conflict-at f) (x .learn .result) (learnt x) (counted (c .before .before .before .before .before .before .before .before .before .before .before .before .before .before .before .before .before .before .before .before .before .before .before .before .before .before)) _ (c .before .before .before .before .before .before .before .before .before .before .before .before .before .before .before .before .before .before .before .before .before .before .emit .ensures) (omega (arith, c .before .before .before .before .before .before .before .before .before .before .before .before .before .before .before .before .before .before .before .if2 .left)) (c .before .before .before .before .before .before .before .before .before .before .before .before .before .before .before .whole3 .ensures .1)))
 
-whole-requires-4 : tie.Need-whole-requires-4 Inv-loop2 μ-loop2 Inv-loop μ-loop
-whole-requires-4 c κs = tt
+loop-again-5 : tie.Need-loop-again-5 Inv-loop μ-loop
+loop-again-5 c =
+    let p = c .before .before .before .before .before .before .before .before .before .before .before .before .before .before .before .before .before .before .before .before .before .before .before .before .before .before .before .before .before .before .before .before .before .before .before .before .before .before .before .before .before .before .before .before .before in
+    let f = c .before .before .before .before .before .before .before .before .before .before .before .before .before .before .before .before .before .before .before .before .before .before .before .before .before .before .before .before .before .before .before .before .before .before .before .before .before .before .before .before .before .before .before in
+    let x = c .before .before .before .before .before .before .before .before .before .before .before .before .before .before .before .before .before .before .before .before .before .before .before .before .before .before .before .before .before .before .before .before in
+    let l = round p in
+    let v = carried p in
+    let g = counted (c .before .before .before .before .before .before .before .before .before .before .before .before .before .before .before .before .before .before .before .before .before .before .before .before .before .before) in
+    let w = c .backjump .ensures in
+    let o = c .before .before .before .before .before .before .before .before .before .before .before .before .before .before .before .whole3 .ensures .0 in
+    let i = c .before .before .before .before .before .before .before .before .before .before .before .before .before .before .before .before .before .whole2 .ensures .0 in
+    let on = running-with (flipped-level _ _ _ _ _ _ o (ap (λ (k : Level). k .decided) i) (w .bound) (w .cause)) (counted-on (running p) (here p) (p .propagate .result) (answered p) (f .found2 .given .0 .0) (conflict-at f) (x .learn .result) (learnt x) (counted (c .before .before .before .before .before .before .before .before .before .before .before .before .before .before .before .before .before .before .before .before .before .before .before .before .before .before)) _ (c .before .before .before .before .before .before .before .before .before .before .before .before .before .before .before .before .before .before .before .before .before .before .emit .ensures) (omega (arith, c .before .before .before .before .before .before .before .before .before .before .before .before .before .before .before .before .before .before .before .if2 .left)) (c .before .before .before .before .before .before .before .before .before .before .before .before .before .before .before .whole3 .ensures .1)) in
+    let deep : c .before .before .before .before .before .before .before .before .before .before .before .before .before .before .before .before .before .before .before .before .before .before .before .before .before .before .backjump-level .result - 1 ≤ 32 = omega (arith, g .reach, depth-small (running p)) in
+    let long = length-set (l .loop .levels) (l .loop .depth) (here p) ∙ running p .levelsLong in
+    record {
+      running = λ e. on;
+      carried = λ e.
+          record {
+            falsified = w .told;
+            room = v .room;
+            saved = saved-on (running p) (here p) (p .propagate .result) (answered p) (f .found2 .given .0 .0) (conflict-at f) (x .learn .result) (learnt x) (counted (c .before .before .before .before .before .before .before .before .before .before .before .before .before .before .before .before .before .before .before .before .before .before .before .before .before .before)) _ (c .before .before .before .before .before .before .before .before .before .before .before .before .before .before .before .before .before .before .before .before .before .before .emit .ensures) (omega (arith, c .before .before .before .before .before .before .before .before .before .before .before .before .before .before .before .before .before .before .before .if2 .left)) (c .before .before .before .before .before .before .before .before .before .before .before .before .before .before .before .whole3 .ensures .1) _ _ _ _ (v .saved);
+            bounds = mirrored-on (running p) (here p) (p .propagate .result) (answered p) (f .found2 .given .0 .0) (conflict-at f) (x .learn .result) (learnt x) (counted (c .before .before .before .before .before .before .before .before .before .before .before .before .before .before .before .before .before .before .before .before .before .before .before .before .before .before)) _ (c .before .before .before .before .before .before .before .before .before .before .before .before .before .before .before .before .before .before .before .before .before .before .emit .ensures) (omega (arith, c .before .before .before .before .before .before .before .before .before .before .before .before .before .before .before .before .before .before .before .if2 .left)) (c .before .before .before .before .before .before .before .before .before .before .before .before .before .before .before .whole3 .ensures .1) _ _ _ _ (v .saved) _ _ (v .bounds);
+            masks = c .before .before .before .before .before .before .before .before .before .before .before .before .before .before .before .before .before .before .before .before .before .before .before .before .before .before .before .before .before .before .before .before .learn .ensures .1 _ (v .masks);
+          };
+      more = λ e. ltb-true _ _ e;
+      open-ended = λ e. l .loop .inv .open-ended (going p);
+      ended = λ e. rw (l .loop .inv .open-ended (going p) .0, l .loop .inv .open-ended (going p) .1) (exits on (ltb-false _ _ e) (omega (arith, long, deep)));
+      deep = deep;
+      levelsLong = long;
+      bytes = c .before .before .before .before .before .before .before .before .before .before .before .before .before .before .before .before .before .before .before .before .before .before .emit .kept .0 ∙ l .loop .inv .bytes;
+    }
 
-flip-requires : tie.Need-flip-requires Inv-loop2 μ-loop2 Inv-loop μ-loop
-flip-requires c κs =
-    let emitted = c .before .before .before .before .before .before .before in
-    let reached = emitted .before .before .before .before in
-    let learned = reached .before .before .before .before in
-    let met = learned .before .before .before .before .before .before in
-    let moved = met .before .before .before in
-    let round = moved .before .before .before in
-    rw (c .before .before .whole3 .ensures .0, c .whole4 .ensures .0)
-    (turned-fits (round .loop .inv) (moved .propagate .result) (moved .propagate .ensures .0) (met .found2 .given .0 .0) (conflict-at met)
-    (learned .learn .result) (learned .learn .ensures)
-    (counted reached) _ (emitted .emit .ensures) (omega (arith, c .before .before .before .before .if3 .left)) (c .whole4 .ensures .1))
+mul-levels-3 : tie.Need-mul-levels-3 Inv-loop μ-loop
+mul-levels-3 c = omega (arith, c .before .loop .inv .deep)
 
-loop-less-2 : tie.Need-loop-less-2 Inv-loop2 μ-loop2 Inv-loop μ-loop
-loop-less-2 c =
-    let outer = c .before in
-    let emitted = outer .before .before .before .before .before .before .before in
-    let reached = emitted .before .before .before .before in
-    let learned = reached .before .before .before .before in
-    let met = learned .before .before .before .before .before .before in
-    let moved = met .before .before .before in
-    let round = moved .before .before .before in
-    rw (c .flip .ensures .0, outer .before .before .whole3 .ensures .0, outer .whole4 .ensures .0)
-    (counted-less (round .loop .inv) (moved .propagate .result) (moved .propagate .ensures .0) (met .found2 .given .0 .0) (conflict-at met)
-    (learned .learn .result) (learned .learn .ensures)
-    (counted reached) _ (emitted .emit .ensures) (omega (arith, outer .before .before .before .before .if3 .left)) (outer .whole4 .ensures .1))
+array-set-from-levels-3 : tie.Need-array-set-from-levels-3 Inv-loop μ-loop
+array-set-from-levels-3 c = omega (arith, c .before .loop .inv .deep, c .before .loop .inv .levelsLong)
 
-loop-again-2 : tie.Need-loop-again-2 Inv-loop2 μ-loop2 Inv-loop μ-loop
-loop-again-2 c =
-    let outer = c .before in
-    let emitted = outer .before .before .before .before .before .before .before in
-    let reached = emitted .before .before .before .before in
-    let learned = reached .before .before .before .before in
-    let met = learned .before .before .before .before .before .before in
-    let moved = met .before .before .before in
-    let round = moved .before .before .before in
-    rw (c .flip .ensures .0, outer .before .before .whole3 .ensures .0, outer .whole4 .ensures .0)
-    (counted-on (round .loop .inv) (moved .propagate .result) (moved .propagate .ensures .0) (met .found2 .given .0 .0) (conflict-at met)
-    (learned .learn .result) (learned .learn .ensures)
-    (counted reached) _ (emitted .emit .ensures) (omega (arith, outer .before .before .before .before .if3 .left)) (outer .whole4 .ensures .1))
+same-length : tie.Need-same-length Inv-loop μ-loop
+same-length c = c .before .loop .inv .bytes
 
-mul-levels-3 : tie.Need-mul-levels-3 Inv-loop2 μ-loop2 Inv-loop μ-loop
-mul-levels-3 c = omega (arith, start-small (c .before))
-
-array-set-from-levels-3 : tie.Need-array-set-from-levels-3 Inv-loop2 μ-loop2 Inv-loop μ-loop
-array-set-from-levels-3 c = omega (arith, start-small (c .before))
-
-same-length-4 : tie.Need-same-length-4 Inv-loop2 μ-loop2 Inv-loop μ-loop
-same-length-4 c = kept-length (c .before .loop .inv)
-
-returns-4 : tie.Need-returns-4 Inv-loop2 μ-loop2 Inv-loop μ-loop
-returns-4 c =
-    let round = c .before in
-    let start = round .before .before .before .before .before .before .before in
-    rw (view-unmarked (start .args .s) (start .pre .unmarked)) at
-    (exits (round .loop .inv) (c .loop-test .left) (omega (arith, round .loop .inv .levelsLong, start-small round)))
+returns : tie.Need-returns Inv-loop μ-loop
+returns c =
+    let s = start (c .before) in
+    rw (view-unmarked (s .args .s) (s .pre .unmarked)) at (c .before .loop .inv .ended (c .loop-test .left))
 
 pub advance-spec : {M : Type 1} → statement M
 advance-spec =
     tie.close
     (tie.spec
-    Inv-loop2 μ-loop2 Inv-loop μ-loop mul-whole array-copy-out-whole whole-requires loop-holds propagate-requires mul-levels array-set-from-levels
-    enum-known-found decide-requires add-depth loop-less loop-again enum-told same-length returns enum-known-found-2 mul-levels-2
-    array-set-from-levels-2 same-length-2 returns-2 number-of-requires learn-requires loop2-holds sub-whole mul-whole-2 array-copy-out-whole-2 whole-requires-2
-    slice-aggregate-is-falsified is-falsified-requires sub-back loop2-less loop2-again add-conflicts emit-requires add-done same-length-3 returns-3
-    mul-whole-3 array-copy-out-whole-3 whole-requires-3 sub-depth mul-whole-4 array-copy-out-whole-4 whole-requires-4 flip-requires loop-less-2
-    loop-again-2 mul-levels-3 array-set-from-levels-3 same-length-4 returns-4)
+    Inv-loop
+    μ-loop
+    mul-whole
+    array-copy-out-whole
+    whole-requires
+    mirror-requires
+    kept-count-requires
+    measure-requires
+    first-falsified-requires
+    mark-requires
+    sub-mark
+    mark-requires-2
+    loop-holds
+    propagate-requires
+    enum-known-found
+    mul-levels
+    array-set-from-levels
+    keep-bounds-requires
+    decide-requires
+    add-depth
+    loop-less
+    loop-again
+    enum-told
+    loop-less-2
+    loop-again-2
+    enum-known-found-2
+    loop-less-3
+    loop-again-3
+    number-of-requires
+    learn-requires
+    mul-levels-2
+    array-set-from-levels-2
+    slice-aggregate-backjump-level
+    slice-aggregate-backjump-level-2
+    backjump-level-requires
+    add-conflicts
+    emit-requires
+    add-done
+    loop-less-4
+    loop-again-4
+    mul-whole-2
+    array-copy-out-whole-2
+    whole-requires-2
+    sub-depth
+    mul-whole-3
+    array-copy-out-whole-3
+    whole-requires-3
+    backjump-requires
+    loop-less-5
+    loop-again-5
+    mul-levels-3
+    array-set-from-levels-3
+    same-length
+    returns)

@@ -1,0 +1,4 @@
+-- Laws of what is saved.
+pub mod Saving
+pub mod Moving
+pub mod Mirroring

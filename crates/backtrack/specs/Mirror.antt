@@ -1,0 +1,43 @@
+-- The bounds of the levels above the one in hand, in flat arrays: 32 numbers for each level.
+use Prim.Native.Nat.{ℕ, _+_, _-_, _*_, _≤_, _<_}
+use mathlib.Core.Bool.{true, false}
+use mathlib.Core.List.{List}
+use mathlib.Core.Path.{_≡_}
+use lib.IntN.{ℤ}
+use lib.ListN.{getD, length, drop}
+use Rattle.model.specs.Ranges.{maxVariables}
+use Rattle.model.specs.Constraint.{Box, falsified}
+use Rattle.linear.specs.Ranges.{BoxFits}
+use Rattle.layout.specs.Rows.{constraintAt, boxOf}
+use Rattle.state.specs.View.{noLevel}
+use Rattle.state.specs.declared.Level.{Level}
+use Rattle.backtrack.specs.Saved.{Copied}
+
+-- the numbers of all levels
+abbrev pub mirrorLength : ℕ
+mirrorLength = maxVariables * (maxVariables + 1)
+
+-- the box of the level at depth t
+unfoldable pub boxIn : ℕ → List ℤ → List ℤ → ℕ → Box
+boxIn n lowers uppers t = boxOf n (drop (maxVariables * t) lowers) (drop (maxVariables * t) uppers)
+
+pub record BoundsKept (t : ℕ) (lower upper lowers uppers lowers₁ uppers₁ : List ℤ) : Type 0 where
+  pub below : Copied maxVariables (maxVariables * t) lower lowers lowers₁
+  pub above : Copied maxVariables (maxVariables * t) upper uppers uppers₁
+
+-- the boxes of the levels above depth
+pub record Mirrored (n : ℕ) (levels : List Level) (lowers uppers : List ℤ) (depth : ℕ) : Type 0 where
+  pub lowersLong : length lowers ≡ mirrorLength
+  pub uppersLong : length uppers ≡ mirrorLength
+  pub at : (t : ℕ) → t < depth → boxIn n lowers uppers t ≡ boxOf n (getD levels t noLevel .lower) (getD levels t noLevel .upper)
+
+pub record BoxesFit (n depth : ℕ) (lowers uppers : List ℤ) : Type 0 where
+  pub lowersLong : length lowers ≡ mirrorLength
+  pub uppersLong : length uppers ≡ mirrorLength
+  pub at : (t : ℕ) → t < depth → BoxFits n (drop (maxVariables * t) lowers) (drop (maxVariables * t) uppers)
+
+-- every level from r on falsifies the cut, and the one before r does not
+pub record BackjumpLevel (n : ℕ) (cut : List ℤ) (depth : ℕ) (lowers uppers : List ℤ) (r : ℕ) : Type 0 where
+  pub most : r ≤ depth
+  pub falsifies : (t : ℕ) → r ≤ t → t < depth → falsified (constraintAt n cut 0) (boxIn n lowers uppers t) ≡ true
+  pub stops : (t : ℕ) → t + 1 ≡ r → falsified (constraintAt n cut 0) (boxIn n lowers uppers t) ≡ false
