@@ -65,17 +65,17 @@ module _ {s : model.Search} {old : List ℕ} {limit : ℕ} {keep : Bool} {n m bu
   -- out of budget: the turn that was begun is put back
   pub spends : (here : Level) (j : ℕ) → done < limit → start < length levels → conflicts ≡ budget →
       Propagates (coreHere n m rows numbers levels made depth level) (coreHere n m rows numbers levels made depth here) (conflict j) →
-      Advances s limit keep (record { ending = OutOfBudget; blocks = done; state = stateWith n m budget conflicts made start Undecided rows numbers (set levels start before) }) old now
+      Advances s limit keep (record { ending = OutOfBudget; blocks = done; state = stateWith n m budget conflicts made start Undecided rows numbers (set (set levels depth here) start before) }) old now
   unfolding traceOf verdictOf statusOf withBlocks lastTurn budgetSpent blockIn follow
   spends here j h k e p =
       let t = turnStart n m budget conflicts rows numbers levels made before start in
       let c = coreHere n m rows numbers levels made depth here in
       let d : descend (t .core) ≡ record { core = c; falsified = some j } = r .turn ∙ p .next in
-      let v = view-stored n m budget conflicts made start Undecided rows numbers levels before k in
+      let v = view-stored n m budget conflicts made start Undecided rows numbers (set levels depth here) before (omega (arith, length-set levels depth here)) in
       record {
         blocks = r .blocks;
         many = sym (r .many);
-        trace = rw v (sym (last-trace (budgetSpent t) h (advance-spent (limit - done - 1) t c j refl d e) ∙ rw append-nil));
+        trace = rw (v, levels-above n levels start depth here (r .from)) (sym (last-trace (budgetSpent t) h (advance-spent (limit - done - 1) t c j refl d e) ∙ rw append-nil));
         buffer = r .buffer;
       }
 

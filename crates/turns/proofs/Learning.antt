@@ -3,18 +3,24 @@ use Prim.Native.Nat.{ℕ, suc, _+_, _≤_, _<_}
 use native.Mathlib.Omega.{arith}
 use mathlib.Core.Bool.{true}
 use mathlib.Core.List.{List}
+use mathlib.Core.Logic.{⊎-elim}
 use mathlib.Core.Path.{_≡_, refl, sym, ap, _∙_}
-use lib.Dec.{T}
+use lib.Dec.{T, lit≤}
 use lib.IntN.{ℤ, pos}
 use lib.ListN.{getD, length}
 use Rattle.model.specs.Lists.{tab}
-use Rattle.model.specs.Ranges.{maxVariables, maxCuts}
+use Rattle.model.specs.Ranges.{maxVariables, maxCuts, maxCoefficient}
 use Rattle.model.specs.Constraint.{Constraint}
 use Rattle.model.specs.File.{noConstraint}
 use Rattle.model.specs.Search as model
 use Rattle.model.specs.Conflict.{analyze, firstEqual}
+use Rattle.integer.specs.Size.{Within}
+use Rattle.lists.proofs.Bools.{lt-or-le}
 use Rattle.lists.proofs.Tab.{getD-tab}
-use Rattle.layout.specs.Rows.{constraintAt, rowAt}
+use Rattle.layout.specs.Rows.{cell, constraintAt, rowAt}
+use Rattle.linear.specs.Ranges.{RowFits}
+use Rattle.linear.proofs.Ranges.{row-fits}
+use Rattle.record.specs.Written.{CutFits}
 use Rattle.state.specs.View.{levelOf, keptCuts, coreWith}
 use Rattle.state.specs.Change.{held}
 use Rattle.state.specs.declared.Level.{Level}
@@ -99,4 +105,21 @@ module _ (n m made : ℕ) (rows : List ℤ) (numbers : List ℕ) (level : Level)
         numbersLong = k .size ∙ l .numbersLong;
         count = omega arith;
         moved = rows-kept n m made rows (a .cut) rows₁ (l .variables) r;
+      }
+
+-- ---- the cut that was learned: its numbers are in range, those past its last variable too
+within-zero : (z : ℤ) → z ≡ pos 0 → Within maxCoefficient z
+within-zero z q = rw q (record { within = lit≤ tt })
+
+module _ {n m made : ℕ} {rows : List ℤ} {numbers : List ℕ} {level : Level} {j : ℕ} {x : Learned} {rows₁ : List ℤ} {numbers₁ : List ℕ}
+    (few : n ≤ maxVariables) (l : LearnedFrom n m made rows numbers level j x rows₁ numbers₁) where
+  pub cut-row : RowFits n (x .cut) 0
+  cut-row = row-fits n (x .cut) 0 few (omega (arith, l .cutSize)) (l .range)
+
+  pub cut-fits : CutFits (x .cut)
+  unfolding cell
+  cut-fits =
+      record {
+        constant = cut-row .constant;
+        coefficients = λ i h. ⊎-elim (λ b. cut-row .coefficients i b) (λ b. within-zero _ (l .cutRest (0 + 1 + i) (omega arith))) (lt-or-le i n);
       }

@@ -19,7 +19,7 @@ use Rattle.layout.proofs.Rows.{coefficient-at}
 use Rattle.state.specs.View.{keptCuts, storedNumber}
 use Rattle.propagate.specs.Masks.{bit, Mentions, Masked}
 use Rattle.analyze.specs.Storing.{RowKept, NumberKept}
-use Rattle.turns.specs.Marking.{Marks}
+use Rattle.turns.specs.Tracking.{Marks}
 
 -- the masks at the start
 pub masked-starts : (n m kept : ℕ) (rows : List ℤ) (inputs cuts : List ℕ) → m ≤ kept → Marks n 0 m rows inputs → Marks n m (kept - m) rows cuts → Masked n m kept rows inputs cuts

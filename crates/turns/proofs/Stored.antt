@@ -5,17 +5,12 @@ use mathlib.Core.List.{List, _∷_}
 use mathlib.Core.Path.{_≡_, subst}
 use lib.Dec.{T}
 use lib.IntN.{ℤ}
-use lib.ListN.{getD, set, length}
+use lib.ListN.{set, length}
 use Rattle.model.specs.Lists.{allOf}
-use Rattle.model.specs.Ranges.{maxVariables}
 use Rattle.model.specs.Problem.{boundsInRange}
 use Rattle.model.specs.Search as model
-use Rattle.lists.proofs.Bools.{true-of}
-use Rattle.linear.specs.Ranges.{BoxFits}
-use Rattle.linear.proofs.Ranges.{box-fits}
 use Rattle.validity.proofs.States.{Every, LevelFits, Under, Stacked, CoreFits}
-use Rattle.state.specs.View.{noLevel, levelOf, levelAt, levelsFrom, coreWith}
-use Rattle.state.specs.Change.{Whole}
+use Rattle.state.specs.View.{levelOf, levelAt, levelsFrom, coreWith}
 use Rattle.state.specs.declared.Level.{Level}
 use Rattle.state.proofs.Cores.{level-here, levels-above}
 use Rattle.turns.proofs.Running.{coreHere}
@@ -48,11 +43,3 @@ module _ (n m : ℕ) (rows : List ℤ) (numbers : List ℕ) (levels : List Level
   pub stored-under : (k : ℕ) → k < depth → Under n (levelAt n (set levels depth here) (suc k)) (levelAt n (set levels depth here) k)
   unfolding coreWith
   stored-under k h = level-under n (set levels depth here) k (depth - suc k) depth (omega arith) (stored .stacked)
-
-  -- the bounds of a level that was read
-  pub stored-box : n ≤ maxVariables → (k : ℕ) → k ≤ depth → Whole (getD (set levels depth here) k noLevel) →
-      BoxFits n (getD (set levels depth here) k noLevel .lower) (getD (set levels depth here) k noLevel .upper)
-  unfolding levelAt levelOf
-  stored-box few k h w =
-      let o = getD (set levels depth here) k noLevel in
-      box-fits n (o .lower) (o .upper) (true-of _ (stored-range k h)) (omega (arith, w .lower)) (omega (arith, w .upper))

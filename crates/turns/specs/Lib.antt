@@ -1,4 +1,5 @@
 -- What the search's contracts say.
 pub mod Advancing
+pub mod Counting
 pub mod Learning
-pub mod Marking
+pub mod Tracking

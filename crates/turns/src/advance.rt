@@ -1,41 +1,19 @@
 // Turns repeated in place: the loop that `step`, `run` and `trace` share.
 use crate::Advanced;
 use crate::Ending;
-use crate::learn::learn;
-use analyze::lookup::number_of;
+use crate::conflict::conflict;
+use crate::track::track;
 use backtrack::backjump;
 use backtrack::decide;
-use backtrack::mirror::backjump_level;
 use backtrack::mirror::keep_bounds;
 use backtrack::mirror::mirror;
-use propagate::masks::row_mask;
 use propagate::propagate::Found;
-use propagate::propagate::kept_count;
 use propagate::propagate::propagate;
-use propagate::scan::first_falsified;
-use propagate::scan::measure;
-use record::emit;
 use state::Level;
 use state::Search;
 use state::Status;
 ghost use Rattle.state.specs.View.{view};
 ghost use Rattle.turns.specs.Advancing.{Starts, Advances};
-ghost use Rattle.turns.specs.Marking.{Markable, Marks};
-
-// The numbers of a row: the constant and a coefficient for each variable.
-const ROW: usize = 33;
-
-// The masks of `count` constraints from row `from` on.
-fn mark(rows: &[i64; 4224], n: usize, from: usize, count: usize, masks: &mut [usize; 64])
-    requires { ⌜ Markable n from count (now rows) (now masks) ⌝ }
-    ensures { λ r. ⌜ Marks n from count (now (rows .entry)) (now (masks .exit)) ⌝ }
-{
-    let mut p: usize = 0;
-    while p < count {
-        masks[p] = row_mask(rows, ROW * (from + p), n);
-        p += 1;
-    }
-}
 
 // At most `limit` turns, to a verdict. The level in hand lies in arrays of its own, and is stored when a decision leaves it; `before` is the level where
 // the turn started, at depth `start`, and what the call gives in the end. The block of each counted conflict goes to the buffer, if blocks are kept.
@@ -79,20 +57,18 @@ pub fn advance(s: Search, buffer: &mut [u8], limit: usize, keep: bool) -> Advanc
     // The variables that each input and each kept cut mentions.
     let mut inputs = [0usize; 64];
     let mut cuts = [0usize; 64];
-    let kept = kept_count(m, made);
-    measure(
+    let mut told = track(
         &rows,
         &lower,
         &upper,
         n,
-        0,
-        kept,
+        m,
+        made,
         &mut activities,
         &mut reaches,
+        &mut inputs,
+        &mut cuts,
     );
-    let mut told = first_falsified(&activities, kept);
-    mark(&rows, n, 0, m, &mut inputs);
-    mark(&rows, n, m, kept - m, &mut cuts);
     let mut going = 0 < limit;
     while going {
         let found = propagate(
@@ -110,15 +86,16 @@ pub fn advance(s: Search, buffer: &mut [u8], limit: usize, keep: bool) -> Advanc
             &mut activities,
             &mut reaches,
         );
+        let here = Level {
+            lower,
+            upper,
+            below,
+            above,
+            decided,
+        };
+        levels[depth] = here;
         match found {
             Found::Decide(i) => {
-                levels[depth] = Level {
-                    lower,
-                    upper,
-                    below,
-                    above,
-                    decided,
-                };
                 keep_bounds(&lower, &upper, depth, &mut lowers, &mut uppers);
                 told = decide(
                     &rows,
@@ -141,13 +118,7 @@ pub fn advance(s: Search, buffer: &mut [u8], limit: usize, keep: bool) -> Advanc
                 depth += 1;
             }
             Found::Finish => {
-                before = Level {
-                    lower,
-                    upper,
-                    below,
-                    above,
-                    decided,
-                };
+                before = here;
                 start = depth;
                 ending = Ending::Solution;
                 status = Status::Solved;
@@ -159,53 +130,32 @@ pub fn advance(s: Search, buffer: &mut [u8], limit: usize, keep: bool) -> Advanc
                     going = false;
                     continue;
                 }
-                let falsified = number_of(m, made, j);
-                let l = learn(
+                conflicts += 1;
+                let met = conflict(
                     &lower,
                     &upper,
                     &below,
                     &above,
+                    &lowers,
+                    &uppers,
                     n,
                     m,
                     made,
                     j,
+                    depth,
+                    conflicts,
+                    done,
+                    keep,
                     &mut rows,
                     &mut numbers,
                     &mut cuts,
-                );
-                levels[depth] = Level {
-                    lower,
-                    upper,
-                    below,
-                    above,
-                    decided,
-                };
-                let cut = l.cut;
-                let used = l.used;
-                let back = backjump_level(&cut, n, depth, &lowers, &uppers);
-                conflicts += 1;
-                emit(
                     buffer,
-                    keep,
-                    done,
-                    conflicts,
-                    falsified,
-                    l.number,
-                    depth,
-                    back,
-                    &cut,
-                    &used,
                 );
+                let back = met.back;
+                made = met.made;
                 done += 1;
-                made = l.made;
                 if back == 0 {
-                    before = Level {
-                        lower,
-                        upper,
-                        below,
-                        above,
-                        decided,
-                    };
+                    before = here;
                     start = depth;
                     ending = Ending::NoSolution;
                     status = Status::Infeasible;

@@ -2,7 +2,9 @@
 use state::Search;
 
 pub mod advance;
+pub mod conflict;
 pub mod learn;
+pub mod track;
 
 // How turns repeated end: after as many as were asked for, or with a verdict.
 pub enum Ending {

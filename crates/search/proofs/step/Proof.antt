@@ -13,7 +13,7 @@ trace-requires c κs = search needs
 
 returns : tie.Need-returns
 unfolding noBlock
-returns c = step-seen _ _ _ (c .before .before .before .before .trace .ensures)
+returns c = search (needs, step-seen)
 
 pub step-spec : {M : Type 1} → statement M
 step-spec = tie.close (tie.spec slice-aggregate-trace trace-requires returns)

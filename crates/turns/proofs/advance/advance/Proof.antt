@@ -9,12 +9,12 @@ use borrow.Author.Needs.{needs}
 use borrow.Author.Tests.{ltb-true, ltb-false}
 use denote.Ref.{now}
 use lib.Dec.{ltb}
-use lib.ListN.{length, length-set}
+use lib.ListN.{length, set, length-set}
 use lib.Seq.{set-set, getD-set-same}
-use Rattle.model.specs.Move.{decide, finish, conflict, slack}
+use Rattle.model.specs.Move.{Move, decide, finish, conflict, slack}
 use Rattle.lists.proofs.Bools.{clash}
-use Rattle.layout.specs.Rows.{numberIn, constraintAt, boxOf}
-use Rattle.state.specs.View.{keptCuts, levelOf, noLevel, view}
+use Rattle.layout.specs.Rows.{numberIn, boxOf}
+use Rattle.state.specs.View.{levelOf, noLevel, view}
 use Rattle.state.specs.Change.{Whole, held}
 use Rattle.state.specs.declared.Level.{Level}
 use Rattle.state.specs.declared.Status.the-variants.{Undecided}
@@ -22,48 +22,89 @@ use Rattle.propagate.specs.Moves.{stopOf}
 use Rattle.propagate.specs.Propagation.{propagation, numberFor, propagationOf}
 use Rattle.propagate.specs.Ready.{keptRows}
 use Rattle.propagate.proofs.Steps.{scan-fits}
-use Rattle.propagate.proofs.Tracking.{told-start}
 use Rattle.backtrack.proofs.Saving.{saved-none}
 use Rattle.backtrack.proofs.Mirroring.{mirrored-more, mirrored-stored}
-use Rattle.turns.specs.Learning.{Learnable, LearnedFrom}
 use Rattle.turns.proofs.Measures.{turnWeight}
-use Rattle.turns.proofs.Learning.{learnable-at}
-use Rattle.turns.proofs.Running.{Running, running-decides, coreHere}
+use Rattle.turns.proofs.Running.{Running, Propagates, running-decides, coreHere}
 use Rattle.turns.proofs.Arms.{stateWith, finishes, spends, exits}
 use Rattle.turns.proofs.Starting.{startOf, view-unmarked, start-depth, running-starts, elements-kept}
 use Rattle.turns.proofs.Carrying.{Carried, tracked-none}
-use Rattle.turns.proofs.Masking.{masked-starts}
 use Rattle.turns.proofs.Looping.{Looping, weight, ready-with, whole-with, flipped-level, running-with}
-use Rattle.turns.proofs.Rounds.{depth-small, made-small, ready, propagates, decided-here, decide-less, learnable}
-use Rattle.turns.proofs.Counted.{CountedAt, cut-row, boxes-fit, block-fits, level-is, counted-none, counted-on, counted-less, saved-on, mirrored-on, flippable}
+use Rattle.turns.proofs.Rounds.{depth-small, ready, propagates, decided-here, decide-less, learnable}
+use Rattle.turns.proofs.Counted.{Meets, meets, countable, counted-none, counted-on, counted-less, saved-on, mirrored-on, flippable}
 use Rattle.turns.proofs.advance.advance.Statement.{statement}
 use Rattle.turns.proofs.advance.advance.Tie as tie
 
 abbrev Inv-loop : tie.InvT-loop
-Inv-loop buffer₀ limit keep n m budget rows₀ numbers₀ levels₀ made₀ conflicts₀ depth₀ before₀ start₀ done₀ ending₀ status₀ lower₀ upper₀ below₀ above₀ decided₀ activities₀ reaches₀ olds₀ limits₀ gones₀ counts₀ lowers₀ uppers₀ inputs cuts₀ kept told₀ going₀ buffer rows numbers levels made conflicts depth before start done ending status lower upper below above decided activities reaches olds limits gones counts lowers uppers cuts told going =
+Inv-loop buffer₀ limit keep n m budget rows₀ numbers₀ levels₀ made₀ conflicts₀ depth₀ before₀ start₀ done₀ ending₀ status₀ lower₀ upper₀ below₀ above₀ decided₀ activities₀ reaches₀ olds₀ limits₀ gones₀ counts₀ lowers₀ uppers₀ inputs cuts₀ told₀ going₀ buffer rows numbers levels made conflicts depth before start done ending status lower upper below above decided activities reaches olds limits gones counts lowers uppers cuts told going =
     Looping (view (stateWith n m budget conflicts₀ made₀ depth₀ Undecided rows₀ numbers₀ levels₀)) buffer₀ limit keep n m budget inputs buffer rows numbers levels made conflicts depth before start done ending status
     lower upper below above decided activities reaches olds limits gones counts lowers uppers cuts told going
 
 abbrev μ-loop : tie.MeasureT-loop
-μ-loop buffer₀ limit keep n m budget rows₀ numbers₀ levels₀ made₀ conflicts₀ depth₀ before₀ start₀ done₀ ending₀ status₀ lower₀ upper₀ below₀ above₀ decided₀ activities₀ reaches₀ olds₀ limits₀ gones₀ counts₀ lowers₀ uppers₀ inputs cuts₀ kept told₀ going₀ buffer rows numbers levels made conflicts depth before start done ending status lower upper below above decided activities reaches olds limits gones counts lowers uppers cuts told going =
+μ-loop buffer₀ limit keep n m budget rows₀ numbers₀ levels₀ made₀ conflicts₀ depth₀ before₀ start₀ done₀ ending₀ status₀ lower₀ upper₀ below₀ above₀ decided₀ activities₀ reaches₀ olds₀ limits₀ gones₀ counts₀ lowers₀ uppers₀ inputs cuts₀ told₀ going₀ buffer rows numbers levels made conflicts depth before start done ending status lower upper below above decided activities reaches olds limits gones counts lowers uppers cuts told going =
     weight going ((limit - done) * turnWeight + slack (boxOf n lower upper))
 
--- places on the way, and what holds at them
-abbrev start : tie.At-loop Inv-loop μ-loop → tie.Start Inv-loop μ-loop
-start l = l .before .before .before .before .before .before .before .before .before .before .before .before .before .before .before .before .before .before .before .before .before .before .before .before .before .before .before .before .before
+-- ---- where the loop begins
+mul-whole : tie.Need-mul-whole Inv-loop μ-loop
+mul-whole c = omega (arith, start-depth (c .before .before .before .before .pre))
 
+array-copy-out-whole : tie.Need-array-copy-out-whole Inv-loop μ-loop
+array-copy-out-whole c = start-depth (c .before .before .before .before .pre)
+
+whole-requires : tie.Need-whole-requires Inv-loop μ-loop
+whole-requires c κs = tt
+
+begins : (c : tie.After-whole Inv-loop μ-loop) →
+    let a = c .before .before .before .before .before .before .args in
+    let s = a .s in
+    Running (view (startOf s)) (now (a .buffer)) (a .limit) (a .keep) (s .n) (s .m) (s .budget) (now (a .buffer)) (s .rows) (s .numbers) (s .levels) (s .made) (s .conflicts) (s .depth) (c .whole .result) (c .whole .result) (s .depth) 0
+begins c =
+    let w = c .whole .ensures in
+    let l : Whole (c .whole .result) = rw (w .0) (w .1) in
+    running-starts (c .before .before .before .before .before .before .pre) (c .whole .result) (w .0) l (search needs) (search needs) (search (needs, elements-kept))
+
+mirror-requires : tie.Need-mirror-requires Inv-loop μ-loop
+mirror-requires c κs = (omega (arith, start-depth (c .before .before .before .before .before .before .before .before .before .before .before .before .pre)), (search needs, search needs))
+
+track-requires : tie.Need-track-requires Inv-loop μ-loop
+track-requires c κs =
+    let r = begins (c .before .before .before .before .before .before .before .before .before .before .before .before .before .before) in
+    record { most = r .counts .inputs; fits = scan-fits _ _ _ _ _ (ready r); lengths = tracked-none _ _ _ _ _ _ (r .rowsLong) (search needs) (search needs); inputRoom = search needs; cutRoom = search needs }
+
+loop-holds : tie.Need-loop-holds Inv-loop μ-loop
+loop-holds c =
+    let r = begins (c .before .before .before .before .before .before .before .before .before .before .before .before .before .before .before) in
+    let deep = start-depth (c .before .before .before .before .before .before .before .before .before .before .before .before .before .before .before .before .before .before .before .before .before .pre) in
+    record {
+      running = λ e. r;
+      carried = λ e.
+          record {
+            falsified = c .track .ensures .0;
+            room = record { oldsLong = search needs; limitsLong = search needs; gonesLong = search needs; countsLong = search needs };
+            saved = saved-none _ _ _ _ _ _ _ 33 _;
+            bounds = c .before .before .before .before .before .before .before .before .mirror .ensures _ (r .counts .few);
+            masks = c .track .ensures .1;
+          };
+      more = λ e. ltb-true 0 _ e;
+      open-ended = λ e. (refl, refl);
+      ended = λ e. exits r (ltb-false 0 _ e) (omega (arith, r .levelsLong, deep));
+      deep = omega (arith, deep);
+      levelsLong = r .levelsLong;
+      bytes = refl;
+    }
+
+-- ---- a round, and where propagation stopped in it
 abbrev round : tie.After-propagate Inv-loop μ-loop → tie.At-loop Inv-loop μ-loop
 round p = p .before .before .before .before .before .before .before .before .before .before .before
 
--- the level where propagation stopped
+abbrev start : tie.At-loop Inv-loop μ-loop → tie.Start Inv-loop μ-loop
+start l = l .before .before .before .before .before .before .before .before .before .before .before .before .before .before .before .before .before .before .before .before .before .before
+
 abbrev here : tie.After-propagate Inv-loop μ-loop → Level
 here p = held (p .propagate .last .1 .1 .1 .1 .1 .1 .1 .0) (p .propagate .last .1 .1 .1 .1 .1 .1 .1 .1 .0) (p .propagate .last .1 .1 .1 .1 .1 .1 .1 .1 .1 .0) (p .propagate .last .1 .1 .1 .1 .1 .1 .1 .1 .1 .1 .0) (round p .loop .decided)
 
 going : (p : tie.After-propagate Inv-loop μ-loop) → round p .loop .going ≡ true
 going p = p .before .before .before .before .before .before .before .before .before .before .loop-test .taken
-
-abbrev inputs-of : tie.At-loop Inv-loop μ-loop → List ℕ
-inputs-of l = l .before .before .before .before .mark .last .1 .1 .1 .1 .0
 
 running : (p : tie.After-propagate Inv-loop μ-loop) →
     let l = round p in
@@ -77,7 +118,7 @@ carried : (p : tie.After-propagate Inv-loop μ-loop) →
     let l = round p in
     let s = start l .args .s in
     let v = l .loop in
-    Carried (s .n) (s .m) (v .rows) (v .levels) (v .made) (v .depth) (v .lower) (v .upper) (v .activities) (v .reaches) (v .told) (v .olds) (v .limits) (v .gones) (v .counts) (v .lowers) (v .uppers) (inputs-of l) (v .cuts)
+    Carried (s .n) (s .m) (v .rows) (v .levels) (v .made) (v .depth) (v .lower) (v .upper) (v .activities) (v .reaches) (v .told) (v .olds) (v .limits) (v .gones) (v .counts) (v .lowers) (v .uppers) (l .before .track .last .1 .1 .1 .1 .1 .1 .1 .1 .0) (v .cuts)
 carried p = round p .loop .inv .carried (going p)
 
 -- propagation's answer
@@ -88,77 +129,19 @@ answered : (p : tie.After-propagate Inv-loop μ-loop) →
     propagationOf (s .n) (here p) (p .propagate .result) ≡ propagation (keptRows (s .n) (s .m) (v .made) (v .rows)) (numberFor (s .m) (v .made)) (levelOf (s .n) (held (v .lower) (v .upper) (v .below) (v .above) (v .decided)))
 answered p = p .propagate .ensures .0 (round p .loop .decided)
 
-mul-whole : tie.Need-mul-whole Inv-loop μ-loop
-mul-whole c = omega (arith, start-depth (c .before .before .before .before .pre))
+moved : (p : tie.After-propagate Inv-loop μ-loop) (q : Move) → stopOf (p .propagate .result) ≡ q →
+    let l = round p in
+    let s = start l .args .s in
+    let v = l .loop in
+    Propagates (coreHere (s .n) (s .m) (v .rows) (v .numbers) (v .levels) (v .made) (v .depth) (held (v .lower) (v .upper) (v .below) (v .above) (v .decided)))
+    (coreHere (s .n) (s .m) (v .rows) (v .numbers) (v .levels) (v .made) (v .depth) (here p)) q
+moved p q f = propagates (running p) (here p) (p .propagate .result) (answered p) q f
 
-array-copy-out-whole : tie.Need-array-copy-out-whole Inv-loop μ-loop
-array-copy-out-whole c = start-depth (c .before .before .before .before .pre)
+whole-here : (p : tie.After-propagate Inv-loop μ-loop) → Whole (here p)
+whole-here p = whole-with (round p .loop .decided) (p .propagate .ensures .1 .0 .whole)
 
-whole-requires : tie.Need-whole-requires Inv-loop μ-loop
-whole-requires c κs = tt
-
--- where the loop begins
-begins : (c : tie.After-whole Inv-loop μ-loop) →
-    let a = c .before .before .before .before .before .before .args in
-    let s = a .s in
-    Running (view (startOf s)) (now (a .buffer)) (a .limit) (a .keep) (s .n) (s .m) (s .budget) (now (a .buffer)) (s .rows) (s .numbers) (s .levels) (s .made) (s .conflicts) (s .depth) (c .whole .result) (c .whole .result) (s .depth) 0
-begins c =
-    let w = c .whole .ensures in
-    let l : Whole (c .whole .result) = rw (w .0) (w .1) in
-    running-starts (c .before .before .before .before .before .before .pre) (c .whole .result) (w .0) l (search needs) (search needs) (search (needs, elements-kept))
-
-mirror-requires : tie.Need-mirror-requires Inv-loop μ-loop
-mirror-requires c κs = (omega (arith, start-depth (c .before .before .before .before .before .before .before .before .before .before .before .before .pre)), (search needs, search needs))
-
-kept-count-requires : tie.Need-kept-count-requires Inv-loop μ-loop
-kept-count-requires c κs = begins (c .before .before .before .before .before .before .before) .counts .inputs
-
-measure-requires : tie.Need-measure-requires Inv-loop μ-loop
-measure-requires c κs =
-    let r = begins (c .before .before .before .before .before .before .before .before .before .before .before .before .before) in
-    rw (c .before .before .before .before .before .kept-count .ensures) (scan-fits _ _ _ _ _ (ready r), (omega arith, tracked-none _ _ _ _ _ _ (r .rowsLong) (search needs) (search needs)))
-
-first-falsified-requires : tie.Need-first-falsified-requires Inv-loop μ-loop
-first-falsified-requires c κs =
-    let r = begins (c .before .before .before .before .before .before .before .before .before .before .before .before .before .before .before) in
-    (unfold keptCuts in omega (arith, c .before .before .before .before .before .before .before .kept-count .ensures, r .counts .inputs), λ j h. c .before .measure .ensures .at j h .size)
-
-mark-requires : tie.Need-mark-requires Inv-loop μ-loop
-mark-requires c κs =
-    let r = begins (c .before .before .before .before .before .before .before .before .before .before .before .before .before .before .before .before .before .before) in
-    record { few = r .counts .few; most = r .counts .inputs; inside = omega (arith, r .counts .inputs); long = r .rowsLong; room = search needs }
-
-sub-mark : tie.Need-sub-mark Inv-loop μ-loop
-sub-mark c = omega (arith, c .before .before .before .before .before .before .before .before .before .before .before .before .kept-count .ensures)
-
-mark-requires-2 : tie.Need-mark-requires-2 Inv-loop μ-loop
-mark-requires-2 c κs =
-    let r = begins (c .before .before .before .before .before .before .before .before .before .before .before .before .before .before .before .before .before .before .before .before .before) in
-    let k = c .before .before .before .before .before .before .before .before .before .before .before .before .before .kept-count .ensures in
-    record { few = r .counts .few; most = unfold keptCuts in omega (arith, k); inside = unfold keptCuts in omega (arith, k, r .counts .inputs); long = r .rowsLong; room = search needs }
-
-loop-holds : tie.Need-loop-holds Inv-loop μ-loop
-loop-holds c =
-    let r = begins (c .before .before .before .before .before .before .before .before .before .before .before .before .before .before .before .before .before .before .before .before .before .before) in
-    let k = c .before .before .before .before .before .before .before .before .before .before .before .before .before .before .kept-count .ensures in
-    let few = r .counts .few in
-    record {
-      running = λ e. r;
-      carried = λ e.
-          record {
-            falsified = told-start _ _ _ _ _ _ _ _ (rw k at (c .before .before .before .before .before .before .before .before .measure .ensures)) (rw k at (c .before .before .before .before .before .before .first-falsified .ensures));
-            room = record { oldsLong = search needs; limitsLong = search needs; gonesLong = search needs; countsLong = search needs };
-            saved = saved-none _ _ _ _ _ _ _ 33 _;
-            bounds = c .before .before .before .before .before .before .before .before .before .before .before .before .before .before .before .mirror .ensures _ few;
-            masks = rw k at (masked-starts _ _ _ _ _ _ (omega (arith, k)) (c .before .before .before .mark .ensures) (c .mark2 .ensures));
-          };
-      more = λ e. ltb-true 0 _ e;
-      open-ended = λ e. (refl, refl);
-      ended = λ e. exits r (ltb-false 0 _ e) (omega (arith, r .levelsLong, start-depth (c .before .before .before .before .before .before .before .before .before .before .before .before .before .before .before .before .before .before .before .before .before .before .before .before .before .before .before .before .pre)));
-      deep = omega (arith, start-depth (c .before .before .before .before .before .before .before .before .before .before .before .before .before .before .before .before .before .before .before .before .before .before .before .before .before .before .before .before .pre));
-      levelsLong = r .levelsLong;
-      bytes = refl;
-    }
+levels-long : (p : tie.After-propagate Inv-loop μ-loop) → length (set (round p .loop .levels) (round p .loop .depth) (here p)) ≡ 33
+levels-long p = length-set (round p .loop .levels) (round p .loop .depth) (here p) ∙ running p .levelsLong
 
 propagate-requires : tie.Need-propagate-requires Inv-loop μ-loop
 propagate-requires c κs =
@@ -167,27 +150,27 @@ propagate-requires c κs =
     let v = l .loop .inv .carried g in
     (ready-with 0 (ready (l .loop .inv .running g)), (v .falsified, v .masks))
 
+mul-levels : tie.Need-mul-levels Inv-loop μ-loop
+mul-levels c = omega (arith, depth-small (running c))
+
+array-set-from-levels : tie.Need-array-set-from-levels Inv-loop μ-loop
+array-set-from-levels c = omega (arith, depth-small (running c))
+
+-- ---- a decision
 enum-known-found : tie.Need-enum-known-found Inv-loop μ-loop
 enum-known-found c = search needs
 
-mul-levels : tie.Need-mul-levels Inv-loop μ-loop
-mul-levels c = omega (arith, depth-small (running (c .before .before .before)))
-
-array-set-from-levels : tie.Need-array-set-from-levels Inv-loop μ-loop
-array-set-from-levels c = omega (arith, depth-small (running (c .before .before .before)))
-
-keep-bounds-requires : tie.Need-keep-bounds-requires Inv-loop μ-loop
-keep-bounds-requires c κs = depth-small (running (c .before .before .before .before .before .before .before))
-
--- ---- the three ways on from propagation
 decide-at : (c : tie.After-found Inv-loop μ-loop) → stopOf (c .before .before .propagate .result) ≡ decide (c .found .given .0 .0)
 unfolding stopOf
 decide-at c = ap stopOf (c .found .given .1)
 
+keep-bounds-requires : tie.Need-keep-bounds-requires Inv-loop μ-loop
+keep-bounds-requires c κs = depth-small (running (c .before .before .before .before .before .before .before))
+
 decide-requires : tie.Need-decide-requires Inv-loop μ-loop
 decide-requires c κs =
-    let p = c .before .before .before .before .before .before .before .before .before .before .before .before .before .before .before .before .before .before in
     let f = c .before .before .before .before .before .before .before .before .before .before .before .before .before .before .before .before in
+    let p = f .before .before in
     let r = running p in
     let q = p .propagate .ensures .1 .0 in
     record {
@@ -207,25 +190,22 @@ add-depth c = omega (arith, depth-small (running (c .before .before .before .bef
 loop-less : tie.Need-loop-less Inv-loop μ-loop
 unfolding numberIn
 loop-less c =
-    let p = c .before .before .before .before .before .before .before .before .before .before .before .before .before .before .before .before .before .before .before in
     let f = c .before .before .before .before .before .before .before .before .before .before .before .before .before .before .before .before .before in
-    rw (going p, c .decide .ensures .0 .bound)
-    (let d = decide-less (running p) (here p) (p .propagate .result) (answered p) (f .found .given .0 .0) (decide-at f) (whole-with (round p .loop .decided) (p .propagate .ensures .1 .0 .whole)) in omega (arith, d))
+    let p = f .before .before in
+    rw (going p, c .decide .ensures .0 .bound) (let d = decide-less (running p) (here p) (p .propagate .result) (answered p) (f .found .given .0 .0) (decide-at f) (whole-here p) in omega (arith, d))
 
 loop-again : tie.Need-loop-again Inv-loop μ-loop
 unfolding numberIn
 loop-again c =
-    let p = c .before .before .before .before .before .before .before .before .before .before .before .before .before .before .before .before .before .before .before in
     let f = c .before .before .before .before .before .before .before .before .before .before .before .before .before .before .before .before .before in
+    let p = f .before .before in
     let l = round p in
     let r = running p in
     let v = carried p in
-    let w = whole-with (l .loop .decided) (p .propagate .ensures .1 .0 .whole) in
     let deep : l .loop .depth < length (l .loop .levels) = omega (arith, r .levelsLong, depth-small r) in
     let d = c .decide .ensures in
-    let next = running-decides r (f .found .given .0 .0) (here p) w (propagates r (here p) (p .propagate .result) (answered p) _ (decide-at f)) in
     record {
-      running = λ e. rw (d .0 .bound, d .0 .cause) next;
+      running = λ e. rw (d .0 .bound, d .0 .cause) (running-decides r (f .found .given .0 .0) (here p) (whole-here p) (moved p _ (decide-at f)));
       carried = λ e.
           record {
             falsified = d .0 .told;
@@ -239,10 +219,11 @@ loop-again c =
       open-ended = l .loop .inv .open-ended;
       ended = λ e. clash (going p) e;
       deep = l .loop .inv .deep;
-      levelsLong = length-set (l .loop .levels) (l .loop .depth) (here p) ∙ r .levelsLong;
+      levelsLong = levels-long p;
       bytes = l .loop .inv .bytes;
     }
 
+-- ---- the solution
 enum-told : tie.Need-enum-told Inv-loop μ-loop
 enum-told c = search needs
 
@@ -263,12 +244,13 @@ loop-again-2 c =
       carried = λ e. clash e refl;
       more = λ e. clash e refl;
       open-ended = λ e. clash e refl;
-      ended = λ e. finishes r (here p) (l .loop .inv .more (going p)) (omega (arith, r .levelsLong, depth-small r)) (propagates r (here p) (p .propagate .result) (answered p) finish (finish-at c));
+      ended = λ e. rw set-set (finishes r (here p) (l .loop .inv .more (going p)) (omega (arith, r .levelsLong, depth-small r)) (moved p finish (finish-at c)));
       deep = depth-small r;
-      levelsLong = r .levelsLong;
+      levelsLong = levels-long p;
       bytes = l .loop .inv .bytes;
     }
 
+-- ---- a conflict: out of budget, or counted
 enum-known-found-2 : tie.Need-enum-known-found-2 Inv-loop μ-loop
 enum-known-found-2 c = search needs
 
@@ -281,8 +263,8 @@ conflict-at c = ap stopOf (c .found2 .given .1)
 
 loop-again-3 : tie.Need-loop-again-3 Inv-loop μ-loop
 loop-again-3 c =
-    let p = c .before .before .before .before in
     let f = c .before .before in
+    let p = f .before .before in
     let l = round p in
     let r = running p in
     record {
@@ -292,119 +274,69 @@ loop-again-3 c =
       open-ended = λ e. clash e refl;
       ended = λ e.
           rw (l .loop .inv .open-ended (going p) .1)
-          (spends r (here p) (f .found2 .given .0 .0) (l .loop .inv .more (going p)) (omega (arith, r .levelsLong, l .loop .inv .deep)) (c .if1 .taken) (propagates r (here p) (p .propagate .result) (answered p) (conflict (f .found2 .given .0 .0)) (conflict-at f)));
+          (spends r (here p) (f .found2 .given .0 .0) (l .loop .inv .more (going p)) (omega (arith, r .levelsLong, l .loop .inv .deep)) (c .if1 .taken) (moved p _ (conflict-at f)));
       deep = l .loop .inv .deep;
-      levelsLong = r .levelsLong;
+      levelsLong = levels-long p;
       bytes = l .loop .inv .bytes;
     }
 
--- what learning from the conflict asks
-met : (c : tie.After-found2 Inv-loop μ-loop) →
-    let p = c .before .before in
-    let l = round p in
-    let s = start l .args .s in
-    Learnable (s .n) (s .m) (l .loop .made) (l .loop .rows) (l .loop .numbers) (here p) (c .found2 .given .0 .0)
-met c =
-    let p = c .before .before in
+afford : (c : tie.Else1 Inv-loop μ-loop) → round (c .before .before .before .before) .loop .conflicts < start (round (c .before .before .before .before)) .args .s .budget
+afford c = omega (arith, running (c .before .before .before .before) .counts .afford, c .if1 .left)
+
+add-conflicts : tie.Need-add-conflicts Inv-loop μ-loop
+add-conflicts c = omega (arith, afford c, running (c .before .before .before .before) .counts .limited)
+
+conflict-requires : tie.Need-conflict-requires Inv-loop μ-loop
+conflict-requires c κs =
+    let f = c .before .before .before .before .before .before .before .before .before .before .before .before in
+    let p = f .before .before in
     let q = p .propagate .ensures .1 .0 in
-    learnable (running p) (here p) (p .propagate .result) (answered p) (c .found2 .given .0 .0) (conflict-at c) (whole-with (round p .loop .decided) (q .whole), q .bounds)
+    let v = carried p in
+    countable (running p) (here p) (f .found2 .given .0 .0) (moved p _ (conflict-at f)) _ _ (v .bounds) 0 _ (v .masks .cutRoom) (round p .loop .inv .more (going p))
+    (learnable (running p) (here p) (p .propagate .result) (answered p) (f .found2 .given .0 .0) (conflict-at f) (whole-here p, q .bounds))
 
-number-of-requires : tie.Need-number-of-requires Inv-loop μ-loop
-unfolding keptCuts
-number-of-requires c κs =
-    let r = running (c .before .before .before .before) in
-    (omega (arith, met (c .before .before) .position, r .counts .inputs), made-small r)
-
-learn-requires : tie.Need-learn-requires Inv-loop μ-loop
-learn-requires c κs = (learnable-at 0 (met (c .before .before .before .before .before .before .before .before .before .before)), carried (c .before .before .before .before .before .before .before .before .before .before .before .before) .masks .cutRoom)
-
-mul-levels-2 : tie.Need-mul-levels-2 Inv-loop μ-loop
-mul-levels-2 c = omega (arith, depth-small (running (c .before .before .before .before .before .before .before .before .before .before .before .before .before)))
-
-array-set-from-levels-2 : tie.Need-array-set-from-levels-2 Inv-loop μ-loop
-array-set-from-levels-2 c = omega (arith, depth-small (running (c .before .before .before .before .before .before .before .before .before .before .before .before .before)))
-
-slice-aggregate-backjump-level : tie.Need-slice-aggregate-backjump-level Inv-loop μ-loop
-slice-aggregate-backjump-level c = sym (carried (c .before .before .before .before .before .before .before .before .before .before .before .before .before .before .before .before .before) .bounds .lowersLong)
-
-slice-aggregate-backjump-level-2 : tie.Need-slice-aggregate-backjump-level-2 Inv-loop μ-loop
-slice-aggregate-backjump-level-2 c = sym (carried (c .before .before .before .before .before .before .before .before .before .before .before .before .before .before .before .before .before .before) .bounds .uppersLong)
-
--- what was learned, of the level in hand
-learnt : (c : tie.After-learn Inv-loop μ-loop) →
-    let p = c .before .before .before .before .before .before .before .before .before .before .before .before .before in
-    let l = round p in
-    let s = start l .args .s in
-    LearnedFrom (s .n) (s .m) (l .loop .made) (l .loop .rows) (l .loop .numbers) (here p) (c .before .before .before .before .before .before .before .before .before .before .before .found2 .given .0 .0) (c .learn .result) (c .learn .last .1 .1 .1 .1 .1 .1 .1 .1 .0) (c .learn .last .1 .1 .1 .1 .1 .1 .1 .1 .1 .0)
-learnt c = c .learn .ensures .0 (round (c .before .before .before .before .before .before .before .before .before .before .before .before .before) .loop .decided)
-
-backjump-level-requires : tie.Need-backjump-level-requires Inv-loop μ-loop
-backjump-level-requires c κs =
-    let p = c .before .before .before .before .before .before .before .before .before .before .before .before .before .before .before .before .before .before in
-    let f = c .before .before .before .before .before .before .before .before .before .before .before .before .before .before .before .before in
-    let x = c .before .before .before .before .before in
-    (cut-row (running p) (here p) (p .propagate .result) (answered p) (f .found2 .given .0 .0) (conflict-at f) (x .learn .result) (learnt x), (depth-small (running p), boxes-fit (running p) (here p) (p .propagate .result) (answered p) (f .found2 .given .0 .0) (conflict-at f) (x .learn .result) (learnt x) _ _ (carried p .bounds)))
-
--- the conflict is counted, and the search found the level to go back to
-counted : (c : tie.After-backjump-level Inv-loop μ-loop) →
-    let p = c .before .before .before .before .before .before .before .before .before .before .before .before .before .before .before .before .before .before .before in
+-- what the conflict left
+met : (c : tie.After-conflict Inv-loop μ-loop) →
+    let p = c .before .before .before .before .before .before .before .before .before .before .before .before .before .before .before in
     let l = round p in
     let a = start l .args in
     let s = a .s in
-    CountedAt (a .limit) (l .loop .done) (l .loop .conflicts) (s .budget) (l .loop .depth) (c .backjump-level .result) (c .before .before .before .before .before .before .before .before .before .before .before .before .before .before .number-of .result) (constraintAt (s .n) (c .before .before .before .before .before .before .learn .result .cut) 0)
-    (coreHere (s .n) (s .m) (l .loop .rows) (l .loop .numbers) (l .loop .levels) (l .loop .made) (l .loop .depth) (here p)) (c .before .before .before .before .before .before .before .before .before .before .before .before .before .before .before .before .before .found2 .given .0 .0)
-counted c =
-    let p = c .before .before .before .before .before .before .before .before .before .before .before .before .before .before .before .before .before .before .before in
-    let f = c .before .before .before .before .before .before .before .before .before .before .before .before .before .before .before .before .before in
-    let x = c .before .before .before .before .before .before in
-    let r = running p in
-    record {
-      left = round p .loop .inv .more (going p);
-      afford = omega (arith, r .counts .afford, c .before .before .before .before .before .before .before .before .before .before .before .before .before .before .before .if1 .left);
-      level = level-is (running p) (here p) (p .propagate .result) (answered p) (f .found2 .given .0 .0) (conflict-at f) (x .learn .result) (learnt x) _ _ (carried p .bounds) _ (c .backjump-level .ensures);
-      reach = c .backjump-level .ensures .most;
-      numbered = c .before .before .before .before .before .before .before .before .before .before .before .before .before .before .number-of .ensures _ _ _ _ _;
-    }
-
-add-conflicts : tie.Need-add-conflicts Inv-loop μ-loop
-add-conflicts c = omega (arith, counted c .afford, running (c .before .before .before .before .before .before .before .before .before .before .before .before .before .before .before .before .before .before .before) .counts .limited)
-
-emit-requires : tie.Need-emit-requires Inv-loop μ-loop
-emit-requires c κs =
-    let p = c .before .before .before .before .before .before .before .before .before .before .before .before .before .before .before .before .before .before .before .before .before .before in
-    let f = c .before .before .before .before .before .before .before .before .before .before .before .before .before .before .before .before .before .before .before .before in
-    let x = c .before .before .before .before .before .before .before .before .before in
-    block-fits (running p) (here p) (p .propagate .result) (answered p) (f .found2 .given .0 .0) (conflict-at f) (x .learn .result) (learnt x) (counted (c .before .before .before) .left)
+    let v = l .loop in
+    Meets (view (startOf s)) (now (a .buffer)) (a .limit) (a .keep) (s .n) (s .m) (s .budget) (v .buffer) (v .rows) (v .numbers) (v .levels) (v .made) (v .conflicts) (v .depth) (held (v .lower) (v .upper) (v .below) (v .above) (v .decided)) (v .before) (v .start) (v .done)
+    (here p) (c .conflict .result .back) (c .conflict .result .made) (c .conflict .last .1 .1 .1 .1 .1 .1 .1 .1 .1 .1 .1 .1 .1 .1 .0) (c .conflict .last .1 .1 .1 .1 .1 .1 .1 .1 .1 .1 .1 .1 .1 .1 .1 .0) (c .conflict .last .1 .1 .1 .1 .1 .1 .1 .1 .1 .1 .1 .1 .1 .1 .1 .1 .1 .0)
+met c =
+    let f = c .before .before .before .before .before .before .before .before .before .before .before .before .before in
+    let p = f .before .before in
+    meets (running p) _ _ _ _ (round p .loop .decided) (f .found2 .given .0 .0) (moved p _ (conflict-at f)) (carried p .bounds) (round p .loop .inv .more (going p)) (afford (c .before .before .before .before .before .before .before .before .before .before .before)) (c .conflict .ensures)
 
 add-done : tie.Need-add-done Inv-loop μ-loop
-add-done c = omega (arith, counted (c .before .before .before .before .before .before) .left, start (c .before .before .before .before .before .before .before .before .before .before .before .before .before .before .before .before .before .before .before .before .before .before .before .before .before .before .before .before .before .before .before .before .before .before .before .before) .fits .limit)
+add-done c = omega (arith, met (c .before .before) .left, c .before .before .before .before .before .before .before .before .before .before .before .before .before .before .before .before .before .before .before .before .before .before .before .before .before .before .before .before .before .before .before .before .before .before .before .before .before .before .before .before .before .before .before .before .before .before .before .before .before .before .fits .limit)
 
+-- ---- none
 loop-less-4 : tie.Need-loop-less-4 Inv-loop μ-loop
-loop-less-4 c = rw (going (c .before .before .before .before .before .before .before .before .before .before .before .before .before .before .before .before .before .before .before .before .before .before .before .before .before .before)) (omega arith)
+loop-less-4 c = rw (going (c .before .before .before .before .before .before .before .before .before .before .before .before .before .before .before .before .before .before)) (omega arith)
 
 loop-again-4 : tie.Need-loop-again-4 Inv-loop μ-loop
 loop-again-4 c =
-    let p = c .before .before .before .before .before .before .before .before .before .before .before .before .before .before .before .before .before .before .before .before .before .before .before .before .before .before in
-    let f = c .before .before .before .before .before .before .before .before .before .before .before .before .before .before .before .before .before .before .before .before .before .before .before .before in
-    let x = c .before .before .before .before .before .before .before .before .before .before .before .before .before in
-    let l = round p in
-    let r = running p in
+    let x = c .before .before .before in
+    let p = x .before .before .before .before .before .before .before .before .before .before .before .before .before .before .before in
     record {
       running = λ e. clash e refl;
       carried = λ e. clash e refl;
       more = λ e. clash e refl;
       open-ended = λ e. clash e refl;
-      ended = λ e. rw set-set (counted-none (running p) (here p) (p .propagate .result) (answered p) (f .found2 .given .0 .0) (conflict-at f) (x .learn .result) (learnt x) (counted (c .before .before .before .before .before .before .before)) _ (c .before .before .before .emit .ensures) (c .if2 .taken));
-      deep = depth-small r;
-      levelsLong = length-set (l .loop .levels) (l .loop .depth) (here p) ∙ r .levelsLong;
-      bytes = c .before .before .before .emit .kept .0 ∙ l .loop .inv .bytes;
+      ended = λ e. rw set-set (counted-none (met x) (c .if2 .taken));
+      deep = depth-small (running p);
+      levelsLong = levels-long p;
+      bytes = x .conflict .kept .1 .1 .1 .1 .1 .1 .1 .1 .1 .1 .1 .1 .1 .1 .1 .1 .1 .0 ∙ round p .loop .inv .bytes;
     }
 
+-- ---- back to a level
 mul-whole-2 : tie.Need-mul-whole-2 Inv-loop μ-loop
-mul-whole-2 c = omega (arith, counted (c .before .before .before .before .before .before .before) .reach, depth-small (running (c .before .before .before .before .before .before .before .before .before .before .before .before .before .before .before .before .before .before .before .before .before .before .before .before .before .before)))
+mul-whole-2 c = omega (arith, met (c .before .before .before) .reach, depth-small (running (c .before .before .before .before .before .before .before .before .before .before .before .before .before .before .before .before .before .before)))
 
 array-copy-out-whole-2 : tie.Need-array-copy-out-whole-2 Inv-loop μ-loop
-array-copy-out-whole-2 c = omega (arith, counted (c .before .before .before .before .before .before .before) .reach, depth-small (running (c .before .before .before .before .before .before .before .before .before .before .before .before .before .before .before .before .before .before .before .before .before .before .before .before .before .before)))
+array-copy-out-whole-2 c = omega (arith, met (c .before .before .before) .reach, depth-small (running (c .before .before .before .before .before .before .before .before .before .before .before .before .before .before .before .before .before .before)))
 
 whole-requires-2 : tie.Need-whole-requires-2 Inv-loop μ-loop
 whole-requires-2 c κs = tt
@@ -413,23 +345,23 @@ sub-depth : tie.Need-sub-depth Inv-loop μ-loop
 sub-depth c = omega (arith, c .before .before .if2 .left)
 
 mul-whole-3 : tie.Need-mul-whole-3 Inv-loop μ-loop
-mul-whole-3 c = omega (arith, counted (c .before .before .before .before .before .before .before .before .before) .reach, depth-small (running (c .before .before .before .before .before .before .before .before .before .before .before .before .before .before .before .before .before .before .before .before .before .before .before .before .before .before .before .before)), round (c .before .before .before .before .before .before .before .before .before .before .before .before .before .before .before .before .before .before .before .before .before .before .before .before .before .before .before .before) .loop .inv .deep)
+mul-whole-3 c = omega (arith, met (c .before .before .before .before .before) .reach, depth-small (running (c .before .before .before .before .before .before .before .before .before .before .before .before .before .before .before .before .before .before .before .before)))
 
 array-copy-out-whole-3 : tie.Need-array-copy-out-whole-3 Inv-loop μ-loop
-array-copy-out-whole-3 c = omega (arith, counted (c .before .before .before .before .before .before .before .before .before) .reach, depth-small (running (c .before .before .before .before .before .before .before .before .before .before .before .before .before .before .before .before .before .before .before .before .before .before .before .before .before .before .before .before)), round (c .before .before .before .before .before .before .before .before .before .before .before .before .before .before .before .before .before .before .before .before .before .before .before .before .before .before .before .before) .loop .inv .deep)
+array-copy-out-whole-3 c = omega (arith, met (c .before .before .before .before .before) .reach, depth-small (running (c .before .before .before .before .before .before .before .before .before .before .before .before .before .before .before .before .before .before .before .before)))
 
 whole-requires-3 : tie.Need-whole-requires-3 Inv-loop μ-loop
 whole-requires-3 c κs = tt
 
 backjump-requires : tie.Need-backjump-requires Inv-loop μ-loop
 backjump-requires c κs =
-    let p = c .before .before .before .before .before .before .before .before .before .before .before .before .before .before .before .before .before .before .before .before .before .before .before .before .before .before .before .before .before .before .before .before .before .before .before .before .before .before .before .before .before .before .before .before in
-    let f = c .before .before .before .before .before .before .before .before .before .before .before .before .before .before .before .before .before .before .before .before .before .before .before .before .before .before .before .before .before .before .before .before .before .before .before .before .before .before .before .before .before .before in
-    let x = c .before .before .before .before .before .before .before .before .before .before .before .before .before .before .before .before .before .before .before .before .before .before .before .before .before .before .before .before .before .before .before in
+    let b = c .before .before .before .before .before .before .before .before .before .before .before .before .before .before in
+    let x = b .before .before .before .before .before .before .before in
+    let p = x .before .before .before .before .before .before .before .before .before .before .before .before .before .before .before in
     let v = carried p in
     let t = p .propagate .ensures .1 .1 .0 in
-    rw (c .before .before .before .before .before .before .before .before .before .before .before .before .before .before .before .before .whole2 .ensures .0, c .before .before .before .before .before .before .before .before .before .before .before .before .before .before .whole3 .ensures .0)
-    (flippable (running p) (here p) (p .propagate .result) (answered p) (f .found2 .given .0 .0) (conflict-at f) (x .learn .result) (learnt x) (counted (c .before .before .before .before .before .before .before .before .before .before .before .before .before .before .before .before .before .before .before .before .before .before .before .before .before)) _ (c .before .before .before .before .before .before .before .before .before .before .before .before .before .before .before .before .before .before .before .before .before .emit .ensures) (omega (arith, c .before .before .before .before .before .before .before .before .before .before .before .before .before .before .before .before .before .before .if2 .left)) (c .before .before .before .before .before .before .before .before .before .before .before .before .before .before .whole3 .ensures .1) _ _ _ _ (v .saved) (v .room), tracked-none _ _ _ _ _ _ (learnt x .rowsLong) (t .room) (t .reachRoom))
+    rw (b .before .before .whole2 .ensures .0, b .whole3 .ensures .0)
+    (flippable (met x) (omega (arith, b .before .before .before .before .if2 .left)) (b .whole3 .ensures .1) (v .saved) (v .room), tracked-none _ _ _ _ _ _ (met x .learned .rowsLong) (t .room) (t .reachRoom))
 
 -- whether the loop goes on or not, the measure falls
 lighter : (b : Bool) (k l : ℕ) → k < l → weight b k < suc l
@@ -438,49 +370,49 @@ lighter false k l h = omega arith
 
 loop-less-5 : tie.Need-loop-less-5 Inv-loop μ-loop
 loop-less-5 c =
-    let p = c .before .before .before .before .before .before .before .before .before .before .before .before .before .before .before .before .before .before .before .before .before .before .before .before .before .before .before .before .before .before .before .before .before .before .before .before .before .before .before .before .before .before .before .before .before in
-    let f = c .before .before .before .before .before .before .before .before .before .before .before .before .before .before .before .before .before .before .before .before .before .before .before .before .before .before .before .before .before .before .before .before .before .before .before .before .before .before .before .before .before .before .before in
-    let x = c .before .before .before .before .before .before .before .before .before .before .before .before .before .before .before .before .before .before .before .before .before .before .before .before .before .before .before .before .before .before .before .before in
-    rw (going p, c .backjump .ensures .bound, c .before .before .before .before .before .before .before .before .before .before .before .before .before .before .before .before .before .whole2 .ensures .0, c .before .before .before .before .before .before .before .before .before .before .before .before .before .before .before .whole3 .ensures .0)
-    (lighter (ltb (round p .loop .done + 1) (start (round p) .args .limit)) _ _ (counted-less (running p) (here p) (p .propagate .result) (answered p) (f .found2 .given .0 .0) (conflict-at f) (x .learn .result) (learnt x) (counted (c .before .before .before .before .before .before .before .before .before .before .before .before .before .before .before .before .before .before .before .before .before .before .before .before .before .before)) _ (c .before .before .before .before .before .before .before .before .before .before .before .before .before .before .before .before .before .before .before .before .before .before .emit .ensures) (omega (arith, c .before .before .before .before .before .before .before .before .before .before .before .before .before .before .before .before .before .before .before .if2 .left)) (c .before .before .before .before .before .before .before .before .before .before .before .before .before .before .before .whole3 .ensures .1)))
+    let b = c .before .before .before .before .before .before .before .before .before .before .before .before .before .before .before in
+    let x = b .before .before .before .before .before .before .before in
+    let p = x .before .before .before .before .before .before .before .before .before .before .before .before .before .before .before in
+    rw (going p, c .backjump .ensures .bound, b .before .before .whole2 .ensures .0, b .whole3 .ensures .0)
+    (lighter (ltb (round p .loop .done + 1) (start (round p) .args .limit)) _ _ (counted-less (met x) (omega (arith, b .before .before .before .before .if2 .left)) (b .whole3 .ensures .1)))
 
 loop-again-5 : tie.Need-loop-again-5 Inv-loop μ-loop
 loop-again-5 c =
-    let p = c .before .before .before .before .before .before .before .before .before .before .before .before .before .before .before .before .before .before .before .before .before .before .before .before .before .before .before .before .before .before .before .before .before .before .before .before .before .before .before .before .before .before .before .before .before in
-    let f = c .before .before .before .before .before .before .before .before .before .before .before .before .before .before .before .before .before .before .before .before .before .before .before .before .before .before .before .before .before .before .before .before .before .before .before .before .before .before .before .before .before .before .before in
-    let x = c .before .before .before .before .before .before .before .before .before .before .before .before .before .before .before .before .before .before .before .before .before .before .before .before .before .before .before .before .before .before .before .before in
+    let b = c .before .before .before .before .before .before .before .before .before .before .before .before .before .before .before in
+    let x = b .before .before .before .before .before .before .before in
+    let p = x .before .before .before .before .before .before .before .before .before .before .before .before .before .before .before in
     let l = round p in
     let v = carried p in
-    let g = counted (c .before .before .before .before .before .before .before .before .before .before .before .before .before .before .before .before .before .before .before .before .before .before .before .before .before .before) in
+    let k = met x in
     let w = c .backjump .ensures in
-    let o = c .before .before .before .before .before .before .before .before .before .before .before .before .before .before .before .whole3 .ensures .0 in
-    let i = c .before .before .before .before .before .before .before .before .before .before .before .before .before .before .before .before .before .whole2 .ensures .0 in
-    let on = running-with (flipped-level _ _ _ _ _ _ o (ap (λ (k : Level). k .decided) i) (w .bound) (w .cause)) (counted-on (running p) (here p) (p .propagate .result) (answered p) (f .found2 .given .0 .0) (conflict-at f) (x .learn .result) (learnt x) (counted (c .before .before .before .before .before .before .before .before .before .before .before .before .before .before .before .before .before .before .before .before .before .before .before .before .before .before)) _ (c .before .before .before .before .before .before .before .before .before .before .before .before .before .before .before .before .before .before .before .before .before .before .emit .ensures) (omega (arith, c .before .before .before .before .before .before .before .before .before .before .before .before .before .before .before .before .before .before .before .if2 .left)) (c .before .before .before .before .before .before .before .before .before .before .before .before .before .before .before .whole3 .ensures .1)) in
-    let deep : c .before .before .before .before .before .before .before .before .before .before .before .before .before .before .before .before .before .before .before .before .before .before .before .before .before .before .backjump-level .result - 1 ≤ 32 = omega (arith, g .reach, depth-small (running p)) in
-    let long = length-set (l .loop .levels) (l .loop .depth) (here p) ∙ running p .levelsLong in
+    let wo = b .whole3 .ensures .1 in
+    let some : 1 ≤ x .conflict .result .back = omega (arith, b .before .before .before .before .if2 .left) in
+    let on = running-with (flipped-level _ _ _ _ _ _ (b .whole3 .ensures .0) (ap (λ (k : Level). k .decided) (b .before .before .whole2 .ensures .0)) (w .bound) (w .cause)) (counted-on k some wo) in
+    let deep : x .conflict .result .back - 1 ≤ 32 = omega (arith, k .reach, depth-small (running p)) in
     record {
       running = λ e. on;
       carried = λ e.
           record {
             falsified = w .told;
             room = v .room;
-            saved = saved-on (running p) (here p) (p .propagate .result) (answered p) (f .found2 .given .0 .0) (conflict-at f) (x .learn .result) (learnt x) (counted (c .before .before .before .before .before .before .before .before .before .before .before .before .before .before .before .before .before .before .before .before .before .before .before .before .before .before)) _ (c .before .before .before .before .before .before .before .before .before .before .before .before .before .before .before .before .before .before .before .before .before .before .emit .ensures) (omega (arith, c .before .before .before .before .before .before .before .before .before .before .before .before .before .before .before .before .before .before .before .if2 .left)) (c .before .before .before .before .before .before .before .before .before .before .before .before .before .before .before .whole3 .ensures .1) _ _ _ _ (v .saved);
-            bounds = mirrored-on (running p) (here p) (p .propagate .result) (answered p) (f .found2 .given .0 .0) (conflict-at f) (x .learn .result) (learnt x) (counted (c .before .before .before .before .before .before .before .before .before .before .before .before .before .before .before .before .before .before .before .before .before .before .before .before .before .before)) _ (c .before .before .before .before .before .before .before .before .before .before .before .before .before .before .before .before .before .before .before .before .before .before .emit .ensures) (omega (arith, c .before .before .before .before .before .before .before .before .before .before .before .before .before .before .before .before .before .before .before .if2 .left)) (c .before .before .before .before .before .before .before .before .before .before .before .before .before .before .before .whole3 .ensures .1) _ _ _ _ (v .saved) _ _ (v .bounds);
-            masks = c .before .before .before .before .before .before .before .before .before .before .before .before .before .before .before .before .before .before .before .before .before .before .before .before .before .before .before .before .before .before .before .before .learn .ensures .1 _ (v .masks);
+            saved = saved-on k some wo (v .saved);
+            bounds = mirrored-on k some wo (v .bounds);
+            masks = x .conflict .ensures .marked _ (v .masks);
           };
       more = λ e. ltb-true _ _ e;
       open-ended = λ e. l .loop .inv .open-ended (going p);
-      ended = λ e. rw (l .loop .inv .open-ended (going p) .0, l .loop .inv .open-ended (going p) .1) (exits on (ltb-false _ _ e) (omega (arith, long, deep)));
+      ended = λ e. rw (l .loop .inv .open-ended (going p) .0, l .loop .inv .open-ended (going p) .1) (exits on (ltb-false _ _ e) (omega (arith, levels-long p, deep)));
       deep = deep;
-      levelsLong = long;
-      bytes = c .before .before .before .before .before .before .before .before .before .before .before .before .before .before .before .before .before .before .before .before .before .before .emit .kept .0 ∙ l .loop .inv .bytes;
+      levelsLong = levels-long p;
+      bytes = x .conflict .kept .1 .1 .1 .1 .1 .1 .1 .1 .1 .1 .1 .1 .1 .1 .1 .1 .1 .0 ∙ l .loop .inv .bytes;
     }
 
-mul-levels-3 : tie.Need-mul-levels-3 Inv-loop μ-loop
-mul-levels-3 c = omega (arith, c .before .loop .inv .deep)
+-- ---- the end
+mul-levels-2 : tie.Need-mul-levels-2 Inv-loop μ-loop
+mul-levels-2 c = omega (arith, c .before .loop .inv .deep)
 
-array-set-from-levels-3 : tie.Need-array-set-from-levels-3 Inv-loop μ-loop
-array-set-from-levels-3 c = omega (arith, c .before .loop .inv .deep, c .before .loop .inv .levelsLong)
+array-set-from-levels-2 : tie.Need-array-set-from-levels-2 Inv-loop μ-loop
+array-set-from-levels-2 c = omega (arith, c .before .loop .inv .deep, c .before .loop .inv .levelsLong)
 
 same-length : tie.Need-same-length Inv-loop μ-loop
 same-length c = c .before .loop .inv .bytes
@@ -500,17 +432,12 @@ advance-spec =
     array-copy-out-whole
     whole-requires
     mirror-requires
-    kept-count-requires
-    measure-requires
-    first-falsified-requires
-    mark-requires
-    sub-mark
-    mark-requires-2
+    track-requires
     loop-holds
     propagate-requires
-    enum-known-found
     mul-levels
     array-set-from-levels
+    enum-known-found
     keep-bounds-requires
     decide-requires
     add-depth
@@ -522,15 +449,8 @@ advance-spec =
     enum-known-found-2
     loop-less-3
     loop-again-3
-    number-of-requires
-    learn-requires
-    mul-levels-2
-    array-set-from-levels-2
-    slice-aggregate-backjump-level
-    slice-aggregate-backjump-level-2
-    backjump-level-requires
     add-conflicts
-    emit-requires
+    conflict-requires
     add-done
     loop-less-4
     loop-again-4
@@ -544,7 +464,7 @@ advance-spec =
     backjump-requires
     loop-less-5
     loop-again-5
-    mul-levels-3
-    array-set-from-levels-3
+    mul-levels-2
+    array-set-from-levels-2
     same-length
     returns)

@@ -1,4 +1,4 @@
--- The masks of the kept constraints, made when a call starts.
+-- What is kept of the constraints, made when a call starts.
 use Prim.Native.Nat.{ℕ, _+_, _*_, _≤_, _<_}
 use mathlib.Core.List.{List}
 use mathlib.Core.Path.{_≡_}
@@ -6,8 +6,11 @@ use lib.IntN.{ℤ}
 use lib.ListN.{getD, length}
 use Rattle.model.specs.Ranges.{maxVariables, maxConstraints, maxCuts}
 use Rattle.layout.specs.Rows.{rowLength}
+use Rattle.state.specs.View.{keptCuts}
 use Rattle.propagate.specs.Masks.{Mentions}
+use Rattle.propagate.specs.Tracked.{ScanFits, Tracked}
 
+-- ---- the masks of `count` constraints from row `from` on
 pub record Markable (n from count : ℕ) (rows : List ℤ) (masks : List ℕ) : Type 0 where
   pub few : n ≤ maxVariables
   pub most : count ≤ maxCuts
@@ -15,7 +18,14 @@ pub record Markable (n from count : ℕ) (rows : List ℤ) (masks : List ℕ) : 
   pub long : length rows ≡ rowLength * (maxConstraints + maxCuts)
   pub room : length masks ≡ maxCuts
 
--- of `count` constraints from row `from` on
 pub record Marks (n from count : ℕ) (rows : List ℤ) (masks : List ℕ) : Type 0 where
   pub room : length masks ≡ maxCuts
   pub at : (p : ℕ) → p < count → Mentions n rows (rowLength * (from + p)) (getD masks p 0)
+
+-- ---- all that is kept of the constraints: the arrays are as long as they are declared
+pub record Trackable (n m made : ℕ) (rows lower upper activities reaches : List ℤ) (inputs cuts : List ℕ) : Type 0 where
+  pub most : m ≤ maxConstraints
+  pub fits : ScanFits n (m + keptCuts made) rows lower upper
+  pub lengths : Tracked n rows lower upper activities reaches 0
+  pub inputRoom : length inputs ≡ maxConstraints
+  pub cutRoom : length cuts ≡ maxCuts

@@ -1,4 +1,4 @@
--- `turns::advance::mark` meets its contract. Assumes nothing.
+-- `turns::track::mark` meets its contract. Assumes nothing.
 use Prim.Native.Nat.{_+_, _-_, _≤_, _<_}
 use native.Mathlib.Nat.{eq-or-lt-of-le}
 use native.Mathlib.Omega.{arith}
@@ -7,11 +7,11 @@ use mathlib.Core.Path.{_≡_, _∙_}
 use borrow.Author.Needs.{needs}
 use lib.ListN.{length-set}
 use lib.Seq.{getD-set-same, getD-set-other}
-use Rattle.turns.specs.Marking.{Marks}
-use Rattle.turns.proofs.advance.mark.Statement.{statement}
-use Rattle.turns.proofs.advance.mark.Tie as tie
-use Rattle.turns.proofs.advance.mark.Reads as reads
-use Rattle.turns.proofs.advance.mark.Lts as lts
+use Rattle.turns.specs.Tracking.{Marks}
+use Rattle.turns.proofs.track.mark.Statement.{statement}
+use Rattle.turns.proofs.track.mark.Tie as tie
+use Rattle.turns.proofs.track.mark.Reads as reads
+use Rattle.turns.proofs.track.mark.Lts as lts
 use Rattle.propagate.proofs.masks.row_mask.Reads as row-mask-reads
 
 abbrev Inv-loop : tie.InvT-loop
