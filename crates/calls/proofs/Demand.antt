@@ -1,23 +1,24 @@
 -- Demand 3, of the calls.
-use Prim.Native.Nat.{ℕ, suc, _-_}
+use Prim.Native.Nat.{ℕ, zero, suc, _+_, _-_, _≤_, _<_}
 use native.Mathlib.Omega.{arith}
 use mathlib.Core.Bool.{cond}
 use mathlib.Core.List.{List, [], _∷_, _++_}
-use mathlib.Core.Logic.{_⊎_, inl, inr}
+use mathlib.Core.Logic.{_⊎_, inl, inr, ⊎-elim}
 use mathlib.Core.Path.{_≡_, refl, sym, ap, subst, _∙_}
 use lib.Dec.{eqb}
-use lib.ListN.{length}
+use lib.ListN.{length, take}
 use Rattle.model.specs.Problem.{Problem, Result, ok, error}
 use Rattle.model.specs.File.{problemIn}
 use Rattle.model.specs.Search as model
 use Rattle.model.specs.Search.{openProblem, openFile}
 use Rattle.model.specs.Points.{Point, points, Solution, First}
-use Rattle.model.specs.Step.{Verdict as ModelVerdict, outOfBudget, solution, step, run}
-use Rattle.model.specs.Demand.{stateAfter, answerAt, journal, verdictWith, Decides, Turns, Accepted}
+use Rattle.model.specs.Step.{Verdict as ModelVerdict, Outcome, outOfBudget, solution, step, run}
+use Rattle.model.specs.Demand.{stateAfter, journal, withBudget, verdictWith, Decides, Agree, Turns, Accepted}
 use Rattle.problem.specs.declared.Answer.{Answer}
 use Rattle.problem.specs.declared.Answer.the-variants.{Done, Truncated, BadChecksum, BadMagic, SizeRange, DomainRange, CoefficientRange, NonzeroPadding, ShortBuffer, InvalidSearch}
 use Rattle.problem.specs.Answer.{number}
 use Rattle.fields.specs.Fields.{zeros}
+use Rattle.lists.proofs.Bools.{lt-or-le}
 use Rattle.state.specs.View.{view}
 use Rattle.state.specs.declared.Search.{Search}
 use Rattle.validity.proofs.Steps.{impossible}
@@ -25,12 +26,16 @@ use Rattle.soundness.proofs.Demand.{demand-3}
 use Rattle.search.specs.Opening.{SeenOpening, seenOpened, opening}
 use Rattle.search.specs.Seen.{valuesOf}
 use Rattle.search.specs.declared.Opened.{Opened}
-use Rattle.search.specs.declared.Stepped.{Stepped}
 use Rattle.search.specs.declared.Ran.{Ran}
 use Rattle.search.specs.declared.Verdict.the-variants as verdict
-use Rattle.calls.specs.Calls.{Opens, Steps, Runs, ListFrom, stateIn, journalOf, Turn, Decided, Opening, SameAnswer, RunOf, CallsHold}
-use Rattle.calls.proofs.Shown.{caseOf, case-valid, case-goes, case-none, Tells, run-tells, step-tells}
-use Rattle.calls.proofs.Lists.{follows, one-more, length-more}
+use Rattle.calls.specs.Calls.{Opens, Call, stepped, traced, ran, Makes, told, ListFrom, stateIn, journalOf, NoRun, untilRun, turnsIn, turnsOf, SameAnswer, CallAfter, Decided, Opening, RunOf, CallsHold}
+use Rattle.calls.proofs.Shown.{caseOf, case-valid, case-goes, case-none}
+use Rattle.calls.proofs.Lists.{journal-end, journal-prefix, CallTells, call-tells, Follows, follows, one-more, turns-more, no-run}
+
+-- a run's answer is that of the model's
+pub record RunTells (q : Ran) (o : Outcome) : Type 0 where
+  pub verdict : q .verdict ≡ caseOf (o .verdict)
+  pub values : q .values ≡ valuesOf (o .verdict)
 
 -- ---- an accepted file
 record Fresh (o : Opened) (m : model.Search) : Type 0 where
@@ -72,84 +77,155 @@ decided p q v e u d =
     first : ((x : Point) × (v ≡ solution x) × First p x) → (q .verdict ≡ verdict.Solution) × (x : Point) × (q .values ≡ x ++ zeros (32 - length x)) × First p x
     first (x, h, l) = (e ∙ ap caseOf h ∙ (unfold caseOf in refl), x, u ∙ ap valuesOf h ∙ (unfold valuesOf in refl), l)
 
--- ---- the turns and the run from one opening
-module _ (f : List ℕ) (a : Accepted f) (o : Opened) (h : Opens f o) (q : Ran) (g : Runs (o .state) q) where
+-- ---- the calls and the run from one opening
+module _ (f : List ℕ) (a : Accepted f) (o : Opened) (h : Opens f o) (q : Ran) (g : Makes (o .state) (ran q)) where
   abbrev p : Problem
   p = problemIn f
 
   abbrev m : model.Search
   m = openProblem (problemIn f)
 
-  t : Turns (problemIn f) (openProblem (problemIn f))
+  abbrev t : Turns (problemIn f) (openProblem (problemIn f))
   t = demand-3 .turns f a
 
-  start : view (o .state) ≡ openProblem (problemIn f)
+  start : view (o .state) ≡ stateAfter 0 (openProblem (problemIn f))
+  unfolding stateAfter
   start = fresh f a o h .start
 
-  pub ran : Tells (q .verdict) (q .values) (q .count) (run (openProblem (problemIn f)))
-  ran = run-tells (o .state) q (openProblem (problemIn f)) (run (openProblem (problemIn f))) g start (t .ran)
+  -- the run's answer is that of the model's run, which gives the first verdict
+  first : run m .verdict ≡ step (stateAfter (t .last) m) .verdict
+  unfolding stateAfter
+  first = t .ran 0 .0
 
-  turn : (rs : List Stepped) (r : Stepped) → ListFrom (o .state) rs → Steps (stateIn (o .state) rs) r → Turn (problemIn f) q (t .last) rs r
-  unfolding answerAt
-  turn rs r l e =
-      let k = length rs in
-      let n = step (stateAfter k m) in
-      let x = step-tells (stateIn (o .state) rs) r (stateAfter k m) n e (follows rs (o .state) m start (t .taken) l .state) (t .taken k) .answer in
-      let all = follows (rs ++ (r ∷ [])) (o .state) m start (t .taken) (one-more rs (o .state) r l e) .blocks in
-      let j : journalOf (rs ++ (r ∷ [])) ≡ journal (suc k) m = rw (length-more rs r) at all in
-      record {
-        taken = λ i. case-valid (n .verdict) (sym (x .verdict) ∙ i);
-        counted = rw j (x .count ∙ t .counted k);
-        bounded = rw (x .count) (t .bounded k);
-        cuts = λ v s. rw j (t .cuts (suc k) v s);
-        before = λ b. x .verdict ∙ ap caseOf (t .before k b) ∙ (unfold caseOf in refl);
-        later = λ b.
-            let w : n .verdict ≡ run m .verdict = t .later k b .0 ∙ sym (t .run-same .0) in
-            (x .verdict ∙ ap caseOf w ∙ sym (ran .verdict), x .values ∙ ap valuesOf w ∙ sym (ran .values), x .count ∙ t .later k b .1 ∙ sym (t .run-same .1) ∙ sym (ran .count));
-      }
+  run-call : CallTells p m t 0 (ran q)
+  run-call = call-tells p m t 0 (o .state) (ran q) start g
+
+  pub run-is : RunTells q (run (openProblem (problemIn f)))
+  unfolding told turnsIn
+  run-is =
+      let y = run-call .answer (t .last) refl in
+      let z : 0 + t .last ≡ t .last = omega arith in
+      let e : step (stateAfter (0 + t .last) m) .verdict ≡ run m .verdict = ap (λ (i : ℕ). step (stateAfter i m) .verdict) z ∙ sym first in
+      record { verdict = y .0 ∙ ap caseOf e; values = y .1 ∙ ap valuesOf e }
+
+  run-count : q .count ≡ length (journal (suc (t .last)) m)
+  unfolding told turnsIn
+  run-count = let z : 0 + suc (t .last) ≡ suc (t .last) = omega arith in run-call .count ∙ ap (λ (i : ℕ). length (journal i m)) z
+
+  -- the calls cs, and c after them
+  module _ (cs : List Call) (c : Call) (l : ListFrom (o .state) cs) (e : Makes (stateIn (o .state) cs) c) where
+    abbrev k : ℕ
+    k = turnsOf (t .last) cs
+
+    abbrev n : ℕ
+    n = turnsIn (t .last) c
+
+    x : CallTells p m t (turnsOf (t .last) cs) c
+    x = call-tells p m t (turnsOf (t .last) cs) (stateIn (o .state) cs) c (let z : 0 + turnsOf (t .last) cs ≡ turnsOf (t .last) cs = omega arith in rw z at (follows p m t cs 0 (o .state) start l .state)) e
+
+    all : Follows p m t 0 (o .state) (cs ++ (c ∷ []))
+    all = follows p m t (cs ++ (c ∷ [])) 0 (o .state) start (one-more cs (o .state) c l e)
+
+    -- without a run these are the blocks of as many turns
+    blocks : NoRun (cs ++ (c ∷ [])) → journalOf (cs ++ (c ∷ [])) ≡ journal (k + n) m
+    unfolding stateAfter
+    blocks h = all .silent ∙ all .heard ∙ ap (λ (i : ℕ). journal i m) (ap (turnsOf (t .last)) (no-run (cs ++ (c ∷ [])) h) ∙ turns-more (t .last) cs c)
+
+    answered : (i : ℕ) → n ≡ suc i → t .last ≤ k + i → SameAnswer (told c) q
+    answered i b w =
+        let y = x .answer i b in
+        let v : step (stateAfter (k + i) m) .verdict ≡ run m .verdict = t .later (k + i) w .0 ∙ sym first in
+        (y .0 ∙ ap caseOf v ∙ sym (run-is .verdict), y .1 ∙ ap valuesOf v ∙ sym (run-is .values))
+
+    by-turns : (i : ℕ) → n ≡ i → ¬ (told c .verdict ≡ verdict.Invalid) × (k + n ≤ t .last → told c .verdict ≡ verdict.GoOn)
+    by-turns zero b = ((λ w. impossible (let y = x .idle b in cc)), λ w. x .idle b)
+    by-turns (suc i) b =
+        let y = x .answer i b in
+        ((λ w. case-valid _ (sym (y .0) ∙ w)), λ w. y .0 ∙ ap caseOf (t .before (k + i) (omega arith)) ∙ (unfold caseOf in refl))
+
+    pub call : CallAfter (problemIn f) q (t .last) (journal (suc (t .last)) m) cs c
+    unfolding stateAfter
+    call =
+        let more = turns-more (t .last) cs c in
+        record {
+          taken = by-turns n refl .0;
+          bounded = rw (x .count) (t .bounded (k + n));
+          counted = λ h. x .count ∙ ap length (sym (blocks h));
+          blocksSoFar = λ h. blocks h ∙ sym (journal-prefix p m t (k + n)) ∙ ap (λ (i : ℕ). take i (journal (suc (t .last)) m)) (sym (x .count));
+          silent = all .silent;
+          cuts = λ y s. rw (all .silent, all .heard) (t .cuts (turnsOf (t .last) (untilRun (cs ++ (c ∷ [])))) y s);
+          before = λ b. by-turns n refl .1 (omega (arith, more));
+          later = λ b w. (
+            answered (n - 1) (omega arith) (omega (arith, more)),
+            x .count ∙ same-end (omega (arith, more)) ∙ sym run-count,
+          );
+          idle = x .idle;
+        }
+      where
+        same-end : t .last < k + n → length (journal (k + n) m) ≡ length (journal (suc (t .last)) m)
+        same-end b = let z : suc (k + n - 1) ≡ k + n = omega arith in rw z at (journal-end p m t (k + n - 1) (omega arith))
 
   -- the budget of the file, and one of as many as the points
   or-spent : ((verdictWith p (p .budget) ≡ verdictWith p (points (p .domain))) ⊎ (verdictWith p (p .budget) ≡ outOfBudget)) → Decided p q ⊎ (q .verdict ≡ verdict.OutOfBudget)
-  or-spent (inl e) = inl (decided p q (run m .verdict) (ran .verdict) (ran .values) (subst (Decides p) (sym (t .own ∙ e)) (t .decides-with (points (p .domain)) (omega arith))))
-  or-spent (inr e) = inr (ran .verdict ∙ ap caseOf (t .own ∙ e) ∙ (unfold caseOf in refl))
+  or-spent (inl e) = inl (decided p q (run m .verdict) (run-is .verdict) (run-is .values) (subst (Decides p) (sym (t .own ∙ e)) (t .decides-with (points (p .domain)) (omega arith))))
+  or-spent (inr e) = inr (run-is .verdict ∙ ap caseOf (t .own ∙ e) ∙ (unfold caseOf in refl))
+
+  enough : points (p .domain) ≤ p .budget → Decided p q
+  enough e = decided p q (run m .verdict) (run-is .verdict) (run-is .values) (t .decides e)
 
   pub opening-holds : Opening f o q
   opening-holds =
       record {
         accepted = fresh f a o h .done;
         last = t .last;
-        turn = turn;
-        ended = ((λ e. t .reached (sym (t .run-same .0) ∙ case-goes (run m .verdict) (sym (ran .verdict) ∙ e))), (λ e. case-valid (run m .verdict) (sym (ran .verdict) ∙ e)));
-        decides = λ e. decided p q (run m .verdict) (ran .verdict) (ran .values) (t .decides e);
-        or-spent = or-spent (t .smaller (points (p .domain)) (p .budget) (omega arith));
+        blocks = journal (suc (t .last)) m;
+        whole = sym run-count;
+        call = call;
+        ended = ((λ e. t .reached (sym first ∙ case-goes (run m .verdict) (sym (run-is .verdict) ∙ e))), (λ e. case-valid (run m .verdict) (sym (run-is .verdict) ∙ e)));
+        decides = enough;
+        or-spent = ⊎-elim (λ (e : points (p .domain) < p .budget). inl (enough (omega arith))) (λ (e : p .budget ≤ points (p .domain)). or-spent (t .smaller (p .budget) (points (p .domain)) e)) (lt-or-le (points (p .domain)) (p .budget));
       }
 
 -- ---- two files
-run-of : (f : List ℕ) (q : Ran) → RunOf f q → Tells (q .verdict) (q .values) (q .count) (run (openProblem (problemIn f)))
-run-of f q r = ran f (r .fine) (r .opened) (r .opens) q (r .runs)
+run-of : (f : List ℕ) (q : Ran) → RunOf f q → RunTells q (run (openProblem (problemIn f)))
+run-of f q r = run-is f (r .fine) (r .opened) (r .opens) q (r .runs)
 
 -- the verdict of a file's run is that of its problem under its budget
 own : (f : List ℕ) → Accepted f → run (openProblem (problemIn f)) .verdict ≡ verdictWith (problemIn f) (problemIn f .budget)
 own f a = demand-3 .turns f a .own
 
-same-answer : (f g : List ℕ) (q u : Ran) → RunOf f q → RunOf g u → run (openProblem (problemIn f)) .verdict ≡ run (openProblem (problemIn g)) .verdict → SameAnswer q u
+same-answer : (f g : List ℕ) (q u : Ran) → RunOf f q → RunOf g u → verdictWith (problemIn f) (problemIn f .budget) ≡ verdictWith (problemIn g) (problemIn g .budget) → SameAnswer q u
 same-answer f g q u r s e =
     let x = run-of f q r in
     let y = run-of g u s in
-    (x .verdict ∙ ap caseOf e ∙ sym (y .verdict), x .values ∙ ap valuesOf e ∙ sym (y .values))
+    let v = own f (r .fine) ∙ e ∙ sym (own g (s .fine)) in
+    (x .verdict ∙ ap caseOf v ∙ sym (y .verdict), x .values ∙ ap valuesOf v ∙ sym (y .values))
 
-smaller-holds : (f g : List ℕ) (q u : Ran) → RunOf f q → RunOf g u → run (openProblem (problemIn g)) .verdict ≡ verdictWith (problemIn f) (problemIn g .budget) →
-    ((verdictWith (problemIn f) (problemIn g .budget) ≡ verdictWith (problemIn f) (problemIn f .budget)) ⊎ (verdictWith (problemIn f) (problemIn g .budget) ≡ outOfBudget)) →
+spent : (f : List ℕ) (q : Ran) → RunOf f q → verdictWith (problemIn f) (problemIn f .budget) ≡ outOfBudget → q .verdict ≡ verdict.OutOfBudget
+spent f q r e = run-of f q r .verdict ∙ ap caseOf (own f (r .fine) ∙ e) ∙ (unfold caseOf in refl)
+
+-- g's problem is f's under g's budget
+smaller-holds : (f g : List ℕ) (q u : Ran) → RunOf f q → RunOf g u → problemIn g ≡ withBudget (problemIn f) (problemIn g .budget) → problemIn g .budget ≤ problemIn f .budget →
     SameAnswer u q ⊎ (u .verdict ≡ verdict.OutOfBudget)
-smaller-holds f g q u r s w (inl e) = inl (same-answer g f u q s r (w ∙ e ∙ sym (own f (r .fine))))
-smaller-holds f g q u r s w (inr e) = inr (run-of g u s .verdict ∙ ap caseOf (w ∙ e) ∙ (unfold caseOf in refl))
+smaller-holds f g q u r s b n = by (demand-3 .turns f (r .fine) .smaller (problemIn g .budget) (problemIn f .budget) n)
+  where
+    same : verdictWith (problemIn g) (problemIn g .budget) ≡ verdictWith (problemIn f) (problemIn g .budget)
+    same = sym (own g (s .fine)) ∙ (unfold verdictWith in ap (λ (p : Problem). run (openProblem p) .verdict) b)
+
+    by : ((verdictWith (problemIn f) (problemIn g .budget) ≡ verdictWith (problemIn f) (problemIn f .budget)) ⊎ (verdictWith (problemIn f) (problemIn g .budget) ≡ outOfBudget)) → SameAnswer u q ⊎ (u .verdict ≡ verdict.OutOfBudget)
+    by (inl e) = inl (same-answer g f u q s r (same ∙ e))
+    by (inr e) = inr (spent g u s (same ∙ e))
+
+same-holds : (f g : List ℕ) (q u : Ran) → RunOf f q → RunOf g u → Agree (verdictWith (problemIn f) (problemIn f .budget)) (verdictWith (problemIn g) (problemIn g .budget)) →
+    SameAnswer q u ⊎ ((q .verdict ≡ verdict.OutOfBudget) ⊎ (u .verdict ≡ verdict.OutOfBudget))
+same-holds f g q u r s (inl e) = inl (same-answer f g q u r s e)
+same-holds f g q u r s (inr (inl e)) = inr (inl (spent f q r e))
+same-holds f g q u r s (inr (inr e)) = inr (inr (spent g u s e))
 
 pub calls-hold : CallsHold
 calls-hold =
     record {
       opening = opening-holds;
-      smaller = λ f g q u r s b n.
-          smaller-holds f g q u r s (unfold verdictWith in ap (λ (p : Problem). run (openProblem p) .verdict) b) (demand-3 .turns f (r .fine) .smaller (problemIn f .budget) (problemIn g .budget) n);
-      same = λ f g q u r s e n k.
-          same-answer f g q u r s (own f (r .fine) ∙ demand-3 .same f g (r .fine) (s .fine) e (problemIn f .budget) (problemIn g .budget) n k ∙ sym (own g (s .fine)));
+      smaller = smaller-holds;
+      same = λ f g q u r s e. same-holds f g q u r s (demand-3 .same f g (r .fine) (s .fine) e (problemIn f .budget) (problemIn g .budget));
     }

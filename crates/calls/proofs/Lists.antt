@@ -1,52 +1,238 @@
--- A list of turns that somebody takes is the model's list.
-use Prim.Native.Nat.{ℕ, suc, _+_}
+-- A list of calls that somebody makes takes turns of the model's list.
+use Prim.Native.Nat.{ℕ, zero, suc, _+_, _-_, _*_, _/_, _≤_, _<_}
+use native.Mathlib.Numerals.{add-one}
 use native.Mathlib.Omega.{arith}
-use mathlib.Core.List.{List, [], _∷_, _++_}
-use mathlib.Core.Path.{_≡_, refl, _∙_}
-use lib.ListN.{length, length-append}
-use Rattle.model.specs.Problem.{ok}
+use mathlib.Core.Bool.{Bool, true, cond}
+use mathlib.Core.List.{List, [], _∷_, _++_, append-nil, append-assoc}
+use mathlib.Core.Logic.{_⊎_, inl, inr, ⊎-elim}
+use mathlib.Core.Path.{_≡_, refl, sym, ap, ap₂, subst, _∙_}
+use lib.ListN.{length, take, drop, length-append}
+use lib.Seq.{take-at, drop-at, take-append-seam, take-length}
+use Rattle.model.specs.Bytes.{blockLength}
+use Rattle.model.specs.Problem.{Problem, Result, ok}
 use Rattle.model.specs.Search as model
-use Rattle.model.specs.Step.{step, stepCall}
-use Rattle.model.specs.Demand.{after, stateAfter, answerAt, blocksIn, journal}
+use Rattle.model.specs.Validity.{valid}
+use Rattle.model.specs.Step.{goOn, Outcome, blockIn, step, stepCall, checked, runCall, run, withoutBlock}
+use Rattle.model.specs.Trace.{Trace, Traced as ModelTraced, lastTurn, advance, joined, written, tracedBy, traceCall}
+use Rattle.model.specs.Demand.{after, stateAfter, answerAt, blocksIn, journal, turnsTogether, Turns}
+use Rattle.lists.proofs.Bools.{lt-or-le}
+use Rattle.soundness.proofs.Together.{state-add, journal-add, Long, journal-long}
 use Rattle.state.specs.View.{view}
 use Rattle.state.specs.declared.Search.{Search}
+use Rattle.search.specs.Seen.{valuesOf}
 use Rattle.search.specs.declared.Stepped.{Stepped}
-use Rattle.calls.specs.Calls.{Steps, ListFrom, stateIn, given, journalOf}
-use Rattle.calls.proofs.Shown.{step-tells}
+use Rattle.search.specs.declared.Ran.{Ran}
+use Rattle.search.specs.declared.Traced.{Traced}
+use Rattle.search.specs.declared.Verdict.the-variants.{GoOn}
+use Rattle.calls.specs.Calls.{Call, stepped, traced, ran, Makes, told, ListFrom, stateIn, blocksAt, given, journalOf, NoRun, untilRun, turnsIn, turnsOf}
+use Rattle.calls.proofs.Shown.{caseOf, Tells, run-tells, trace-tells, step-tells}
 
--- no turn of the model's list is refused
-abbrev pub Taken : model.Search → Type 0
-Taken m = (k : ℕ) → answerAt k m ≡ ok (step (stateAfter k m))
+-- ---- blocks in a buffer
+blocks-back : (bs : List (List ℕ)) (rest : List ℕ) → Long bs → blocksAt (length bs) (joined bs ++ rest) ≡ bs
+unfolding blocksAt joined
+blocks-back [] rest h = refl
+blocks-back (b ∷ bs) rest h =
+    rw (append-assoc, take-at b (joined bs ++ rest) blockLength (h .0), drop-at b (joined bs ++ rest) blockLength (h .0)) (ap (λ (xs : List (List ℕ)). b ∷ xs) (blocks-back bs rest (h .1)))
 
--- the first turn
-first-taken : (m : model.Search) → Taken m → stepCall m ≡ ok (step m)
-first-taken m t = unfold answerAt stateAfter in t 0
+empty : (bs : List (List ℕ)) → length bs ≡ 0 → bs ≡ []
+empty [] h = refl
+empty (b ∷ bs) h = let z : ⊥ = omega arith in absurd z
 
-rest-taken : (m : model.Search) → Taken m → Taken (after m (stepCall m))
-rest-taken m t k = unfold answerAt stateAfter in t (suc k)
+-- ---- the model's list, from the state m
+module _ (p : Problem) (m : model.Search) (t : Turns p m) where
+  taken : (k : ℕ) → stepCall (stateAfter k m) ≡ ok (step (stateAfter k m))
+  unfolding answerAt
+  taken k = t .taken k
 
-after-first : (m : model.Search) → Taken m → step m .state ≡ after m (stepCall m)
-after-first m t = rw (first-taken m t) (unfold after in refl)
+  next : (k : ℕ) → stateAfter (k + 1) m ≡ step (stateAfter k m) .state
+  unfolding stateAfter after
+  next k = state-add k 1 m ∙ ap (after (stateAfter k m)) (taken k)
 
--- what a list shows: the state after it, and its journal
-pub record Follows (s : Search) (m : model.Search) (rs : List Stepped) : Type 0 where
-  pub state : view (stateIn s rs) ≡ stateAfter (length rs) m
-  pub blocks : journalOf rs ≡ journal (length rs) m
+  one-block : (k : ℕ) → journal 1 (stateAfter k m) ≡ blockIn (step (stateAfter k m) .block)
+  unfolding journal blocksIn
+  one-block k = append-nil (blocksIn (stepCall (stateAfter k m))) ∙ ap blocksIn (taken k)
 
-pub follows : (rs : List Stepped) (s : Search) (m : model.Search) → view s ≡ m → Taken m → ListFrom s rs → Follows s m rs
-unfolding stateIn journalOf stateAfter journal
-follows [] s m v t h = record { state = v; blocks = refl }
-follows (r ∷ rs) s m v t h =
-    let x = step-tells s r m (step m) (h .0) v (first-taken m t) in
-    let n = follows rs (r .state) (after m (stepCall m)) (x .state ∙ after-first m t) (rest-taken m t) (h .1) in
-    let b : given r ≡ blocksIn (stepCall m) = x .blocks ∙ rw (first-taken m t) (unfold blocksIn in refl) in
-    record { state = n .state; blocks = rw (b, n .blocks) }
+  -- from the verdict on the journal stays
+  pub journal-end : (i : ℕ) → t .last ≤ i → length (journal (suc i) m) ≡ length (journal (suc (t .last)) m)
+  journal-end i h = sym (t .counted i) ∙ t .later i h .1 ∙ t .counted (t .last)
 
--- one turn more
-pub one-more : (rs : List Stepped) (s : Search) (r : Stepped) → ListFrom s rs → Steps (stateIn s rs) r → ListFrom s (rs ++ (r ∷ []))
+  pub none-later : (k j : ℕ) → t .last < k → journal j (stateAfter k m) ≡ []
+  none-later k j h =
+      let a : suc (k - 1) ≡ k = omega arith in
+      let b : suc (k - 1 + j) ≡ k + j = omega arith in
+      let x : length (journal k m) ≡ length (journal (suc (t .last)) m) = rw a at (journal-end (k - 1) (omega arith)) in
+      let y : length (journal (k + j) m) ≡ length (journal (suc (t .last)) m) = rw b at (journal-end (k - 1 + j) (omega arith)) in
+      empty (journal j (stateAfter k m)) (omega (arith, x, y, ap length (journal-add k j m), length-append (journal k m) (journal j (stateAfter k m))))
+
+  -- the blocks of the first k turns are the whole journal's first
+  pub journal-prefix : (k : ℕ) → take (length (journal k m)) (journal (suc (t .last)) m) ≡ journal k m
+  journal-prefix k = ⊎-elim within beyond (lt-or-le (suc (t .last)) k)
+    where
+      within : suc (t .last) < k → take (length (journal k m)) (journal (suc (t .last)) m) ≡ journal k m
+      within h =
+          let a : suc (t .last) + (k - suc (t .last)) ≡ k = omega arith in
+          let e : journal k m ≡ journal (suc (t .last)) m =
+          ap (λ (i : ℕ). journal i m) (sym a) ∙ journal-add (suc (t .last)) (k - suc (t .last)) m ∙
+          ap (λ (bs : List (List ℕ)). journal (suc (t .last)) m ++ bs) (none-later (suc (t .last)) (k - suc (t .last)) (omega arith)) ∙ append-nil (journal (suc (t .last)) m) in
+          rw e (take-length (journal (suc (t .last)) m))
+
+      beyond : k ≤ suc (t .last) → take (length (journal k m)) (journal (suc (t .last)) m) ≡ journal k m
+      beyond h =
+          let a : k + (suc (t .last) - k) ≡ suc (t .last) = omega arith in
+          let e : journal (suc (t .last)) m ≡ journal k m ++ journal (suc (t .last) - k) (stateAfter k m) = rw a at (journal-add k (suc (t .last) - k) m) in
+          rw e (take-append-seam (journal k m) (journal (suc (t .last) - k) (stateAfter k m)))
+
+  -- ---- one call, after k turns
+  pub record CallTells (k : ℕ) (c : Call) : Type 0 where
+    pub state : view (told c .state) ≡ stateAfter (k + turnsIn (t .last) c) m
+    pub count : told c .count ≡ length (journal (k + turnsIn (t .last) c) m)
+    pub blocks : NoRun (c ∷ []) → given c ≡ journal (turnsIn (t .last) c) (stateAfter k m)
+    pub idle : turnsIn (t .last) c ≡ 0 → told c .verdict ≡ GoOn
+    pub answer : (i : ℕ) → turnsIn (t .last) c ≡ suc i → (told c .verdict ≡ caseOf (step (stateAfter (k + i) m) .verdict)) × (told c .values ≡ valuesOf (step (stateAfter (k + i) m) .verdict))
+
+  step-call : (k : ℕ) (s : Search) (r : Stepped) → view s ≡ stateAfter k m → Makes s (stepped r) → CallTells k (stepped r)
+  unfolding told turnsIn given lastTurn
+  step-call k s r v e =
+      let x = step-tells s r (stateAfter k m) (step (stateAfter k m)) e v (taken k) in
+      let a = x .answer in
+      record {
+        state = a .state ∙ sym (next k);
+        count = a .count ∙ t .counted k ∙ ap (λ (i : ℕ). length (journal i m)) (sym (add-one k));
+        blocks = λ n. x .blocks ∙ sym (one-block k);
+        idle = λ h. absurd (omega arith);
+        answer = λ i h. let z : k ≡ k + i = omega arith in rw (← z) (a .verdict, a .values);
+      }
+
+  -- a trace with room for n blocks
+  record TraceTells (n k : ℕ) (old new : List ℕ) (r : Traced) : Type 0 where
+    state : view (r .state) ≡ stateAfter (k + n) m
+    count : r .count ≡ length (journal (k + n) m)
+    blocks : blocksAt (r .blocks) new ≡ journal n (stateAfter k m)
+    idle : n ≡ 0 → r .verdict ≡ GoOn
+    answer : (i : ℕ) → n ≡ suc i → (r .verdict ≡ caseOf (step (stateAfter (k + i) m) .verdict)) × (r .values ≡ valuesOf (step (stateAfter (k + i) m) .verdict))
+
+  trace-more : (n k : ℕ) (old new : List ℕ) (r : Traced) → Tells r new (turnsTogether n (stateAfter k m)) (written (turnsTogether n (stateAfter k m)) old .buffer) → TraceTells (suc n) k old new r
+  unfolding turnsTogether written
+  trace-more n k old new r x =
+      let z : suc (k + n) ≡ k + suc n = omega arith in
+      let w : stateAfter n (stateAfter k m) ≡ stateAfter (k + n) m = sym (state-add k n m) in
+      record {
+        state = x .state ∙ sym (state-add k (suc n) m);
+        count = x .count ∙ ap (λ (y : model.Search). step y .count) w ∙ t .counted (k + n) ∙ ap (λ (i : ℕ). length (journal i m)) z;
+        blocks = rw (x .blocks, x .buffer) (blocks-back (journal (suc n) (stateAfter k m)) _ (journal-long (suc n) (stateAfter k m)));
+        idle = λ h. absurd (omega arith);
+        answer = λ i h. let y : n ≡ i = omega arith in rw (← y, ← w) (x .verdict, x .values);
+      }
+
+  trace-takes : (n k : ℕ) (old : List ℕ) → length old / blockLength ≡ n → traceCall (stateAfter k m) old ≡ written (advance n (stateAfter k m)) old
+  unfolding traceCall
+  trace-takes n k old f =
+      ap (λ (b : Bool). tracedBy b (stateAfter k m) old) (t .accepted k) ∙ (unfold tracedBy in ap (λ (i : ℕ). written (advance i (stateAfter k m)) old) f)
+
+  trace-with : (n k : ℕ) (s : Search) (old new : List ℕ) (r : Traced) → length old / blockLength ≡ n → view s ≡ stateAfter k m → Makes s (traced old new r) → TraceTells n k old new r
+  unfolding advance caseOf blocksAt journal
+  trace-with zero k s old new r f v e =
+      let x = trace-tells s r old new (stateAfter k m) (advance 0 (stateAfter k m)) e v (trace-takes 0 k old f) in
+      let z : k + 0 ≡ k = omega arith in
+      record { state = rw z (x .state); count = rw z (x .count ∙ t .carried k); blocks = rw (x .blocks) refl; idle = λ h. x .verdict; answer = λ i h. absurd (omega arith) }
+  trace-with (suc n) k s old new r f v e = trace-more n k old new r (trace-tells s r old new (stateAfter k m) (turnsTogether n (stateAfter k m)) e v (trace-takes (suc n) k old f ∙ ap (λ (y : Trace). written y old) (t .together k n)))
+
+  trace-call : (k : ℕ) (s : Search) (old new : List ℕ) (r : Traced) → view s ≡ stateAfter k m → Makes s (traced old new r) → CallTells k (traced old new r)
+  unfolding told turnsIn given
+  trace-call k s old new r v e =
+      let x = trace-with (length old / blockLength) k s old new r refl v e in
+      record { state = x .state; count = x .count; blocks = λ n. x .blocks; idle = x .idle; answer = x .answer }
+
+  run-call : (k : ℕ) (s : Search) (q : Ran) → view s ≡ stateAfter k m → Makes s (ran q) → CallTells k (ran q)
+  unfolding told turnsIn given lastTurn
+  run-call k s q v e =
+      let c : runCall (stateAfter k m) ≡ ok (run (stateAfter k m)) = unfold runCall checked in rw (t .accepted k) in
+      let x = run-tells s q (stateAfter k m) (run (stateAfter k m)) e v c in
+      let z : suc (k + t .last) ≡ k + suc (t .last) = omega arith in
+      let o = t .ran k in
+      let l = t .later (k + t .last) (omega arith) in
+      record {
+        state = x .state ∙ o .2 ∙ sym (t .stays (k + suc (t .last)) (omega arith));
+        count = x .count ∙ o .1 ∙ sym (l .1) ∙ t .counted (k + t .last) ∙ ap (λ (i : ℕ). length (journal i m)) z;
+        blocks = λ h. absurd h;
+        idle = λ h. absurd (omega arith);
+        answer = λ i h. let y : t .last ≡ i = omega arith in rw (← y, l .0, ← o .0) (x .verdict, x .values);
+      }
+
+  pub call-tells : (k : ℕ) (s : Search) (c : Call) → view s ≡ stateAfter k m → Makes s c → CallTells k c
+  call-tells k s (stepped r) v e = step-call k s r v e
+  call-tells k s (traced old new r) v e = trace-call k s old new r v e
+  call-tells k s (ran q) v e = run-call k s q v e
+
+  -- ---- a list of calls, after k turns
+  pub record Follows (k : ℕ) (s : Search) (cs : List Call) : Type 0 where
+    pub state : view (stateIn s cs) ≡ stateAfter (k + turnsOf (t .last) cs) m
+    -- the blocks given before the first run
+    pub heard : journalOf (untilRun cs) ≡ journal (turnsOf (t .last) (untilRun cs)) (stateAfter k m)
+    -- and from there on none
+    pub silent : journalOf cs ≡ journalOf (untilRun cs)
+
+  -- after the verdict no call gives a block
+  quiet : (k : ℕ) (s : Search) (cs : List Call) → t .last < k → view s ≡ stateAfter k m → ListFrom s cs → journalOf cs ≡ []
+  unfolding journalOf
+  quiet k s [] h v l = refl
+  quiet k s (c ∷ cs) h v l =
+      let x = call-tells k s c v (l .0) in
+      rw (quiet-call c x, quiet (k + turnsIn (t .last) c) (told c .state) cs (omega arith) (x .state) (l .1))
+    where
+      quiet-call : (c : Call) → CallTells k c → given c ≡ []
+      quiet-call (stepped r) x = x .blocks tt ∙ none-later k _ h
+      quiet-call (traced old new r) x = x .blocks tt ∙ none-later k _ h
+      quiet-call (ran q) x = unfold given in refl
+
+  -- a call that is no run, and a list after it
+  more : (k : ℕ) (s : Search) (c : Call) (cs : List Call) → NoRun (c ∷ []) → untilRun (c ∷ cs) ≡ c ∷ untilRun cs → CallTells k c → Follows (k + turnsIn (t .last) c) (told c .state) cs → Follows k s (c ∷ cs)
+  unfolding stateIn journalOf turnsOf
+  more k s c cs h u x n =
+      let a = turnsIn (t .last) c in
+      let b = turnsOf (t .last) (untilRun cs) in
+      let z : k + a + turnsOf (t .last) cs ≡ k + (a + turnsOf (t .last) cs) = omega arith in
+      let e : given c ++ journalOf (untilRun cs) ≡ journal (a + b) (stateAfter k m) =
+      ap₂ (λ (xs ys : List (List ℕ)). xs ++ ys) (x .blocks h) (n .heard ∙ ap (journal b) (state-add k a m)) ∙ sym (journal-add a b (stateAfter k m)) in
+      record {
+        state = n .state ∙ ap (λ (i : ℕ). stateAfter i m) z;
+        heard = rw u e;
+        silent = rw u (ap (λ (bs : List (List ℕ)). given c ++ bs) (n .silent));
+      }
+
+  pub follows : (cs : List Call) (k : ℕ) (s : Search) → view s ≡ stateAfter k m → ListFrom s cs → Follows k s cs
+  unfolding stateIn journalOf turnsOf untilRun journal given
+  follows [] k s v l = let z : k + 0 ≡ k = omega arith in record { state = rw z v; heard = refl; silent = refl }
+  follows (stepped r ∷ cs) k s v l =
+      let x = call-tells k s (stepped r) v (l .0) in
+      more k s (stepped r) cs tt refl x (follows cs (k + turnsIn (t .last) (stepped r)) (told (stepped r) .state) (x .state) (l .1))
+  follows (traced old new r ∷ cs) k s v l =
+      let x = call-tells k s (traced old new r) v (l .0) in
+      more k s (traced old new r) cs tt refl x (follows cs (k + turnsIn (t .last) (traced old new r)) (told (traced old new r) .state) (x .state) (l .1))
+  follows (ran q ∷ cs) k s v l =
+      let x = call-tells k s (ran q) v (l .0) in
+      let n = follows cs (k + turnsIn (t .last) (ran q)) (told (ran q) .state) (x .state) (l .1) in
+      let z : k + turnsIn (t .last) (ran q) + turnsOf (t .last) cs ≡ k + (turnsIn (t .last) (ran q) + turnsOf (t .last) cs) = omega arith in
+      record {
+        state = n .state ∙ ap (λ (i : ℕ). stateAfter i m) z;
+        heard = refl;
+        silent = quiet (k + turnsIn (t .last) (ran q)) (told (ran q) .state) cs (unfold turnsIn in omega arith) (x .state) (l .1);
+      }
+
+-- ---- one call more
+pub one-more : (cs : List Call) (s : Search) (c : Call) → ListFrom s cs → Makes (stateIn s cs) c → ListFrom s (cs ++ (c ∷ []))
 unfolding stateIn
-one-more [] s r h e = (e, tt)
-one-more (q ∷ rs) s r h e = (h .0, one-more rs (q .state) r (h .1) e)
+one-more [] s c h e = (e, tt)
+one-more (d ∷ cs) s c h e = (h .0, one-more cs (told d .state) c (h .1) e)
 
-pub length-more : (rs : List Stepped) (r : Stepped) → length (rs ++ (r ∷ [])) ≡ suc (length rs)
-length-more rs r = omega (arith, length-append rs (r ∷ []))
+pub turns-more : (last : ℕ) (cs : List Call) (c : Call) → turnsOf last (cs ++ (c ∷ [])) ≡ turnsOf last cs + turnsIn last c
+unfolding turnsOf
+turns-more last [] c = omega arith
+turns-more last (d ∷ cs) c = omega (arith, turns-more last cs c)
+
+pub no-run : (cs : List Call) → NoRun cs → untilRun cs ≡ cs
+unfolding untilRun
+no-run [] h = refl
+no-run (stepped r ∷ cs) h = ap (λ (ds : List Call). stepped r ∷ ds) (no-run cs h)
+no-run (traced old new r ∷ cs) h = ap (λ (ds : List Call). traced old new r ∷ ds) (no-run cs h)
+no-run (ran q ∷ cs) h = absurd h

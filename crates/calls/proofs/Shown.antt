@@ -10,17 +10,17 @@ use lib.ListN.{length}
 use Rattle.model.specs.Problem.{Result, ok, error}
 use Rattle.model.specs.Search as model
 use Rattle.model.specs.Step.{Verdict as ModelVerdict, goOn, noSolution, outOfBudget, solution, Outcome, blockIn as blocksIn, stepCall, runCall}
-use Rattle.model.specs.Trace.{lastTurn}
+use Rattle.model.specs.Trace.{Trace, Traced as ModelTraced, lastTurn, written, traceCall}
 use Rattle.state.specs.View.{view}
 use Rattle.state.specs.declared.Search.{Search}
 use Rattle.validity.proofs.Steps.{impossible}
-use Rattle.search.specs.Seen.{Seen, verdictOf, seenTraced, seenStepped, seenRan, valuesOf, blockOr, shown, turn, blockIn, stepSeen, runSeen}
+use Rattle.search.specs.Seen.{Seen, verdictOf, seenTraced, seenStepped, seenRan, valuesOf, blockOr, shown, turn, blockIn, stepSeen, runSeen, traceSeen}
 use Rattle.search.specs.declared.Stepped.{Stepped}
 use Rattle.search.specs.declared.Ran.{Ran}
 use Rattle.search.specs.declared.Traced.{Traced}
 use Rattle.search.specs.declared.Verdict.{Verdict}
 use Rattle.search.specs.declared.Verdict.the-variants.{GoOn, NoSolution, OutOfBudget, Solution, Invalid}
-use Rattle.calls.specs.Calls.{Steps, Runs, given}
+use Rattle.calls.specs.Calls.{Makes, stepped, traced, ran}
 
 -- ---- the case of a verdict
 unfoldable pub caseOf : ModelVerdict → Verdict
@@ -63,24 +63,37 @@ case-none outOfBudget e = impossible (cc)
 case-none (solution x) e = impossible (cc)
 
 -- ---- what an answer that is not refused tells
-pub record Tells (v : Verdict) (vs : List ℤ) (k : ℕ) (o : Outcome) : Type 0 where
-  pub verdict : v ≡ caseOf (o .verdict)
-  pub values : vs ≡ valuesOf (o .verdict)
-  pub count : k ≡ o .count
+pub record Tells (r : Traced) (new : List ℕ) (t : Trace) (bytes : List ℕ) : Type 0 where
+  pub verdict : r .verdict ≡ caseOf (t .verdict)
+  pub values : r .values ≡ valuesOf (t .verdict)
+  pub count : r .count ≡ t .count
+  pub blocks : r .blocks ≡ length (t .blocks)
+  pub buffer : new ≡ bytes
+  pub state : view (r .state) ≡ t .state
 
-seen-tells : (t : Traced) (bytes old : List ℕ) (s : Search) (o : Outcome) → seenTraced t bytes ≡ shown s (ok (lastTurn o)) old → Tells (t .verdict) (t .values) (t .count) o
-unfolding seenTraced shown lastTurn caseIn
-seen-tells t bytes old s o e =
+seen-tells : (r : Traced) (new : List ℕ) (s : Search) (t : Trace) (bytes : List ℕ) → seenTraced r new ≡ shown s (ok t) bytes → Tells r new t bytes
+unfolding seenTraced shown caseIn
+seen-tells r new s t bytes e =
     record {
-      verdict = sym (case-of-verdict (t .verdict) _) ∙ ap (λ (x : Seen). caseIn (x .verdict)) e;
+      verdict = sym (case-of-verdict (r .verdict) _) ∙ ap (λ (x : Seen). caseIn (x .verdict)) e;
       values = ap (λ (x : Seen). x .values) e;
       count = ap (λ (x : Seen). x .count) e;
+      blocks = ap (λ (x : Seen). x .blocks) e;
+      buffer = ap (λ (x : Seen). x .bytes) e;
+      state = ap (λ (x : Seen). x .state) e;
     }
 
 -- ---- a run
-pub run-tells : (s : Search) (q : Ran) (m : model.Search) (o : Outcome) → Runs s q → view s ≡ m → runCall m ≡ ok o → Tells (q .verdict) (q .values) (q .count) o
+pub run-tells : (s : Search) (q : Ran) (m : model.Search) (o : Outcome) → Makes s (ran q) → view s ≡ m → runCall m ≡ ok o →
+    Tells (record { verdict = q .verdict; values = q .values; count = q .count; blocks = 0; state = q .state }) [] (lastTurn o) []
 unfolding seenRan runSeen
-run-tells s q m o e v c = seen-tells (record { verdict = q .verdict; values = q .values; count = q .count; blocks = 0; state = q .state }) [] [] s o (e ∙ rw (v, c) (unfold turn in refl))
+run-tells s q m o e v c = seen-tells (record { verdict = q .verdict; values = q .values; count = q .count; blocks = 0; state = q .state }) [] s (lastTurn o) [] (e ∙ rw (v, c) (unfold turn in refl))
+
+-- ---- a trace
+pub trace-tells : (s : Search) (r : Traced) (old new : List ℕ) (m : model.Search) (t : Trace) → Makes s (traced old new r) → view s ≡ m → traceCall m old ≡ written t old →
+    Tells r new t (written t old .buffer)
+unfolding traceSeen
+trace-tells s r old new m t e v c = seen-tells r new s t (written t old .buffer) (e ∙ rw (v, c) (unfold written in refl))
 
 -- ---- a turn
 given-blocks : (b : Bool) (bytes : List ℕ) (x : Option (List ℕ)) → cond b 1 0 ≡ length (blocksIn x) → bytes ≡ blockOr x → cond b (bytes ∷ []) [] ≡ blocksIn x
@@ -91,19 +104,12 @@ given-blocks false bytes none e f = refl
 given-blocks false bytes (some y) e f = absurd (omega arith)
 
 pub record StepTells (r : Stepped) (o : Outcome) : Type 0 where
-  pub answer : Tells (r .verdict) (r .values) (r .count) o
-  pub blocks : given r ≡ blocksIn (o .block)
-  pub state : view (r .state) ≡ o .state
+  pub answer : Tells (record { verdict = r .verdict; values = r .values; count = r .count; blocks = cond (r .recorded) 1 0; state = r .state }) (r .block) (lastTurn o) (blockOr (o .block))
+  pub blocks : cond (r .recorded) (r .block ∷ []) [] ≡ blocksIn (o .block)
 
-step-shows : (s : Search) (r : Stepped) (o : Outcome) → seenStepped r ≡ shown s (ok (lastTurn o)) (blockOr (o .block)) → StepTells r o
-unfolding seenStepped given
-step-shows s r o e =
+pub step-tells : (s : Search) (r : Stepped) (m : model.Search) (o : Outcome) → Makes s (stepped r) → view s ≡ m → stepCall m ≡ ok o → StepTells r o
+unfolding seenStepped stepSeen turn blockIn lastTurn
+step-tells s r m o e v c =
     let t : Traced = record { verdict = r .verdict; values = r .values; count = r .count; blocks = cond (r .recorded) 1 0; state = r .state } in
-    let k : cond (r .recorded) 1 0 ≡ length (blocksIn (o .block)) = unfold seenStepped seenTraced shown lastTurn in ap (λ (x : Seen). x .blocks) e in
-    let b : r .block ≡ blockOr (o .block) = unfold seenStepped seenTraced shown in ap (λ (x : Seen). x .bytes) e in
-    let v : view (r .state) ≡ o .state = unfold seenStepped seenTraced shown lastTurn in ap (λ (x : Seen). x .state) e in
-    record { answer = seen-tells t (r .block) (blockOr (o .block)) s o e; blocks = given-blocks (r .recorded) (r .block) (o .block) k b; state = v }
-
-pub step-tells : (s : Search) (r : Stepped) (m : model.Search) (o : Outcome) → Steps s r → view s ≡ m → stepCall m ≡ ok o → StepTells r o
-unfolding stepSeen
-step-tells s r m o e v c = step-shows s r o (e ∙ rw (v, c) (unfold turn blockIn in refl))
+    let x = seen-tells t (r .block) s (lastTurn o) (blockOr (o .block)) (e ∙ rw (v, c)) in
+    record { answer = x; blocks = given-blocks (r .recorded) (r .block) (o .block) (x .blocks) (x .buffer) }

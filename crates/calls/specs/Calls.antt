@@ -1,10 +1,11 @@
--- Demand 3 of whoever calls `open` on an accepted file, then `step` any number of times, each on the state that the one before returned, or `run`.
-use Prim.Native.Nat.{ℕ, _-_, _≤_, _<_}
+-- Demand 3 of whoever calls `open` on an accepted file, and then `step`, `trace` and `run` in any mixture, each on the state that the call before returned.
+use Prim.Native.Nat.{ℕ, zero, suc, _+_, _-_, _/_, _≤_, _<_}
 use mathlib.Core.Bool.{cond}
 use mathlib.Core.List.{List, [], _∷_, _++_}
 use mathlib.Core.Logic.{_⊎_, _↔_}
 use mathlib.Core.Path.{_≡_}
-use lib.ListN.{length}
+use lib.ListN.{length, take, drop}
+use Rattle.model.specs.Bytes.{blockLength}
 use Rattle.model.specs.Problem.{Problem, variables}
 use Rattle.model.specs.File.{problemIn}
 use Rattle.model.specs.Search.{openFile}
@@ -14,86 +15,138 @@ use Rattle.fields.specs.Fields.{room, zeros}
 use Rattle.problem.specs.declared.Answer.the-variants.{Done}
 use Rattle.state.specs.declared.Search.{Search}
 use Rattle.search.specs.Opening.{seenOpened, opening}
-use Rattle.search.specs.Seen.{seenStepped, seenRan, stepSeen, runSeen}
+use Rattle.search.specs.Seen.{seenStepped, seenRan, seenTraced, stepSeen, runSeen, traceSeen}
 use Rattle.search.specs.declared.Opened.{Opened}
 use Rattle.search.specs.declared.Stepped.{Stepped}
 use Rattle.search.specs.declared.Ran.{Ran}
+use Rattle.search.specs.declared.Traced.{Traced}
 use Rattle.search.specs.declared.Verdict.the-variants as verdict
 
 -- ---- the calls: what their contracts say of an answer
 abbrev pub Opens : List ℕ → Opened → Type 0
 Opens file o = seenOpened o ≡ opening (openFile file)
 
-abbrev pub Steps : Search → Stepped → Type 0
-Steps s r = seenStepped r ≡ stepSeen s
+-- a call on a search with its answer; of a trace the buffer's bytes too, before and after
+pub data Call : Type 0 where
+  stepped : Stepped → Call
+  traced : List ℕ → List ℕ → Traced → Call
+  ran : Ran → Call
 
-abbrev pub Runs : Search → Ran → Type 0
-Runs s q = seenRan q ≡ runSeen s
+abbrev pub Makes : Search → Call → Type 0
+Makes s (stepped r) = seenStepped r ≡ stepSeen s
+Makes s (traced old new r) = seenTraced r new ≡ traceSeen s old
+Makes s (ran q) = seenRan q ≡ runSeen s
 
--- ---- a list of turns, each on the state that the one before returned
-abbrev pub ListFrom : Search → List Stepped → Type 0
+-- the verdict, its values, the count and the state that a call gives: what a run's answer holds
+unfoldable pub told : Call → Ran
+told (stepped r) = record { verdict = r .verdict; values = r .values; count = r .count; state = r .state }
+told (traced old new r) = record { verdict = r .verdict; values = r .values; count = r .count; state = r .state }
+told (ran q) = q
+
+-- ---- a list of calls, each on the state that the one before returned
+abbrev pub ListFrom : Search → List Call → Type 0
 ListFrom s [] = Unit {0}
-ListFrom s (r ∷ rs) = Steps s r × ListFrom (r .state) rs
+ListFrom s (c ∷ cs) = Makes s c × ListFrom (told c .state) cs
 
 -- the state after them
-unfoldable pub stateIn : Search → List Stepped → Search
+unfoldable pub stateIn : Search → List Call → Search
 stateIn s [] = s
-stateIn s (r ∷ rs) = stateIn (r .state) rs
+stateIn s (c ∷ cs) = stateIn (told c .state) cs
 
--- their journal: the blocks that were given, in order
-unfoldable pub given : Stepped → List (List ℕ)
-given r = cond (r .recorded) (r .block ∷ []) []
+-- ---- their journal: the blocks that were given, in order
+-- the first k blocks of a buffer
+unfoldable pub blocksAt : ℕ → List ℕ → List (List ℕ)
+blocksAt zero bytes = []
+blocksAt (suc k) bytes = take blockLength bytes ∷ blocksAt k (drop blockLength bytes)
 
-unfoldable pub journalOf : List Stepped → List (List ℕ)
+-- a run gives none
+unfoldable pub given : Call → List (List ℕ)
+given (stepped r) = cond (r .recorded) (r .block ∷ []) []
+given (traced old new r) = blocksAt (r .blocks) new
+given (ran q) = []
+
+unfoldable pub journalOf : List Call → List (List ℕ)
 journalOf [] = []
-journalOf (r ∷ rs) = given r ++ journalOf rs
+journalOf (c ∷ cs) = given c ++ journalOf cs
+
+-- no call of the list is a run
+abbrev pub NoRun : List Call → Type 0
+NoRun [] = Unit {0}
+NoRun (stepped r ∷ cs) = NoRun cs
+NoRun (traced old new r ∷ cs) = NoRun cs
+NoRun (ran q ∷ cs) = ⊥
+
+-- the calls before the first run
+unfoldable pub untilRun : List Call → List Call
+untilRun [] = []
+untilRun (stepped r ∷ cs) = stepped r ∷ untilRun cs
+untilRun (traced old new r ∷ cs) = traced old new r ∷ untilRun cs
+untilRun (ran q ∷ cs) = []
+
+-- ---- turns
+-- how many turns a call may take: a step one, a trace as many as its buffer has room for blocks, a run as many as there are to the first verdict
+unfoldable pub turnsIn : ℕ → Call → ℕ
+turnsIn last (stepped r) = 1
+turnsIn last (traced old new r) = length old / blockLength
+turnsIn last (ran q) = suc last
+
+unfoldable pub turnsOf : ℕ → List Call → ℕ
+turnsOf last [] = 0
+turnsOf last (c ∷ cs) = turnsIn last c + turnsOf last cs
 
 -- ---- the claims
--- of a turn r after the turns rs, where q is the run from the same opening and `last` the first turn with a verdict
-pub record Turn (p : Problem) (q : Ran) (last : ℕ) (rs : List Stepped) (r : Stepped) : Type 0 where
+-- the same verdict and values
+abbrev pub SameAnswer : Ran → Ran → Type 0
+SameAnswer q u = (q .verdict ≡ u .verdict) × (q .values ≡ u .values)
+
+-- of the calls cs with c as the last of them. q is the run from the same opening, the first verdict comes with turn `last`, counted from 0, and `blocks`
+-- is the whole journal
+pub record CallAfter (p : Problem) (q : Ran) (last : ℕ) (blocks : List (List ℕ)) (cs : List Call) (c : Call) : Type 0 where
   -- it is not refused
-  pub taken : ¬ (r .verdict ≡ verdict.Invalid)
-  -- its count is the number of journal blocks so far, and at most the number of points
-  pub counted : r .count ≡ length (journalOf (rs ++ (r ∷ [])))
-  pub bounded : r .count ≤ points (p .domain)
-  -- every solution meets every cut in those blocks
-  pub cuts : (x : Point) → Solution p x → MeetsCuts (variables p) x (journalOf (rs ++ (r ∷ [])))
-  -- it says 'go on' before turn `last`, and from there on what the run says
-  pub before : length rs < last → r .verdict ≡ verdict.GoOn
-  pub later : last ≤ length rs → (r .verdict ≡ q .verdict) × (r .values ≡ q .values) × (r .count ≡ q .count)
+  pub taken : ¬ (told c .verdict ≡ verdict.Invalid)
+  -- its count is at most the number of points; without a run it is the number of blocks given so far, and these are the journal's first
+  pub bounded : told c .count ≤ points (p .domain)
+  pub counted : NoRun (cs ++ (c ∷ [])) → told c .count ≡ length (journalOf (cs ++ (c ∷ [])))
+  pub blocksSoFar : NoRun (cs ++ (c ∷ [])) → journalOf (cs ++ (c ∷ [])) ≡ take (told c .count) blocks
+  -- from the first run on no block is given
+  pub silent : journalOf (cs ++ (c ∷ [])) ≡ journalOf (untilRun (cs ++ (c ∷ [])))
+  -- every solution meets every cut in the blocks
+  pub cuts : (x : Point) → Solution p x → MeetsCuts (variables p) x (journalOf (cs ++ (c ∷ [])))
+  -- it says 'go on' up to turn `last`, and from there on what the run says; a trace with no room for a block takes no turn and says 'go on'
+  pub before : turnsOf last (cs ++ (c ∷ [])) ≤ last → told c .verdict ≡ verdict.GoOn
+  pub later : last < turnsOf last (cs ++ (c ∷ [])) → 0 < turnsIn last c → SameAnswer (told c) q × (told c .count ≡ q .count)
+  pub idle : turnsIn last c ≡ 0 → told c .verdict ≡ verdict.GoOn
 
 -- 'none' exactly when there is no solution, else the first solution, zeros past its values
 pub record Decided (p : Problem) (q : Ran) : Type 0 where
   pub none-iff : (q .verdict ≡ verdict.NoSolution) ↔ ((x : Point) → Solution p x → ⊥)
   pub else-first : ¬ (q .verdict ≡ verdict.NoSolution) → (q .verdict ≡ verdict.Solution) × (x : Point) × (q .values ≡ x ++ zeros (room - length x)) × First p x
 
--- of all turns and the run from one opening
+-- of all lists of calls from one opening, and the run q from there
 pub record Opening (f : List ℕ) (o : Opened) (q : Ran) : Type 0 where
   pub accepted : o .answer ≡ Done
   pub last : ℕ
-  pub turn : (rs : List Stepped) (r : Stepped) → ListFrom (o .state) rs → Steps (stateIn (o .state) rs) r → Turn (problemIn f) q last rs r
+  pub blocks : List (List ℕ)
+  pub whole : length blocks ≡ q .count
+  pub call : (cs : List Call) (c : Call) → ListFrom (o .state) cs → Makes (stateIn (o .state) cs) c → CallAfter (problemIn f) q last blocks cs c
   -- the run ends with a verdict
   pub ended : ¬ (q .verdict ≡ verdict.GoOn) × ¬ (q .verdict ≡ verdict.Invalid)
   -- with a budget of at least the points it decides; under every budget it decides or says 'spent'
   pub decides : points (problemIn f .domain) ≤ problemIn f .budget → Decided (problemIn f) q
   pub or-spent : Decided (problemIn f) q ⊎ (q .verdict ≡ verdict.OutOfBudget)
 
--- the same verdict and values
-abbrev pub SameAnswer : Ran → Ran → Type 0
-SameAnswer q u = (q .verdict ≡ u .verdict) × (q .values ≡ u .values)
-
 -- a run after an opening
 pub record RunOf (f : List ℕ) (q : Ran) : Type 0 where
   pub fine : Accepted f
   pub opened : Opened
   pub opens : Opens f opened
-  pub runs : Runs (opened .state) q
+  pub runs : Makes (opened .state) (ran q)
 
 pub record CallsHold : Type 0 where
-  pub opening : (f : List ℕ) → Accepted f → (o : Opened) → Opens f o → (q : Ran) → Runs (o .state) q → Opening f o q
-  -- a smaller budget: the same answer, or 'spent'
-  pub smaller : (f g : List ℕ) (q u : Ran) → RunOf f q → RunOf g u → problemIn g ≡ withBudget (problemIn f) (problemIn g .budget) →
-      points (problemIn f .domain) ≤ problemIn f .budget → SameAnswer u q ⊎ (u .verdict ≡ verdict.OutOfBudget)
-  -- equal answers for equal solution sets
+  pub opening : (f : List ℕ) → Accepted f → (o : Opened) → Opens f o → (q : Ran) → Makes (o .state) (ran q) → Opening f o q
+  -- a smaller budget: the same answer, or 'spent', whatever the number of points
+  pub smaller : (f g : List ℕ) (q u : Ran) → RunOf f q → RunOf g u → problemIn g ≡ withBudget (problemIn f) (problemIn g .budget) → problemIn g .budget ≤ problemIn f .budget →
+      SameAnswer u q ⊎ (u .verdict ≡ verdict.OutOfBudget)
+  -- equal answers for equal solution sets, whatever the budgets, but for 'spent'
   pub same : (f g : List ℕ) (q u : Ran) → RunOf f q → RunOf g u → SameSolutions (problemIn f) (problemIn g) →
-      points (problemIn f .domain) ≤ problemIn f .budget → points (problemIn g .domain) ≤ problemIn g .budget → SameAnswer q u
+      SameAnswer q u ⊎ ((q .verdict ≡ verdict.OutOfBudget) ⊎ (u .verdict ≡ verdict.OutOfBudget))

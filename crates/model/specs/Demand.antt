@@ -1,5 +1,6 @@
 -- Demand 3: what is claimed of every list of turns from a fresh opening of an accepted file.
 use Prim.Native.Nat.{ℕ, zero, suc, _≤_, _<_}
+use mathlib.Core.Bool.{true}
 use mathlib.Core.List.{List, [], _∷_, _++_}
 use mathlib.Core.Logic.{_⊎_, _↔_}
 use mathlib.Core.Path.{_≡_}
@@ -9,7 +10,9 @@ use Rattle.model.specs.Bytes.{Bytes}
 use Rattle.model.specs.File.{readError, problemIn}
 use Rattle.model.specs.Search.{Search, openProblem, openFile}
 use Rattle.model.specs.Journal.{cutIn}
-use Rattle.model.specs.Step.{Verdict, goOn, noSolution, outOfBudget, solution, Outcome, blockIn, step, run, stepCall, runCall}
+use Rattle.model.specs.Validity.{valid}
+use Rattle.model.specs.Step.{Verdict, goOn, noSolution, outOfBudget, solution, Outcome, blockIn, step, run, stepCall}
+use Rattle.model.specs.Trace.{Trace, advance}
 use Rattle.model.specs.Points.{Point, Inside, allPoints, points, Meets, Solution, First}
 
 -- ---- a list of turns, each on the walk that the one before returned
@@ -35,6 +38,10 @@ blocksIn (error e) = []
 unfoldable pub journal : ℕ → Search → List (List ℕ)
 journal zero s = []
 journal (suc k) s = blocksIn (stepCall s) ++ journal k (after s (stepCall s))
+
+-- k + 1 turns of the list taken by one call: their blocks, and the answer and walk of the last
+unfoldable pub turnsTogether : ℕ → Search → Trace
+turnsTogether k s = record { verdict = step (stateAfter k s) .verdict; count = step (stateAfter k s) .count; blocks = journal (suc k) s; state = stateAfter (suc k) s }
 
 -- the point meets the cut, of n coefficients, in each block
 abbrev pub MeetsCuts : ℕ → Point → List (List ℕ) → Type 0
@@ -68,34 +75,43 @@ pub record Decides (p : Problem) (v : Verdict) : Type 0 where
   pub none-iff : (v ≡ noSolution) ↔ ((x : Point) → Solution p x → ⊥)
   pub else-first : ¬ (v ≡ noSolution) → (x : Point) × (v ≡ solution x) × First p x
 
+-- equal, or one of them is 'spent'
+abbrev pub Agree : Verdict → Verdict → Type 0
+Agree u v = (u ≡ v) ⊎ ((u ≡ outOfBudget) ⊎ (v ≡ outOfBudget))
+
 -- ---- the claim
 pub record Turns (p : Problem) (s : Search) : Type 0 where
   pub listed : Listed p
-  -- no turn of the list is refused
+  -- no call on a walk of the list is refused: no turn, and no run or trace
+  pub accepted : (k : ℕ) → valid (stateAfter k s) ≡ true
   pub taken : (k : ℕ) → answerAt k s ≡ ok (step (stateAfter k s))
-  -- after each turn the count is the number of journal blocks so far, and at most the number of points
+  -- after each turn the count, in the answer and in the walk, is the number of journal blocks so far, and at most the number of points
   pub counted : (k : ℕ) → step (stateAfter k s) .count ≡ length (journal (suc k) s)
-  pub bounded : (k : ℕ) → step (stateAfter k s) .count ≤ points (p .domain)
+  pub carried : (k : ℕ) → stateAfter k s .conflicts ≡ length (journal k s)
+  pub bounded : (k : ℕ) → length (journal k s) ≤ points (p .domain)
   -- every solution meets every cut in those blocks
   pub cuts : (k : ℕ) (x : Point) → Solution p x → MeetsCuts (variables p) x (journal k s)
-  -- turns kept up reach a verdict, at turn `last`; every later turn, and a run, gives that verdict and its count
+  -- turns kept up reach a verdict, at turn `last`; every later turn gives that verdict and its count, and leaves the walk as it is
   pub last : ℕ
   pub before : (k : ℕ) → k < last → step (stateAfter k s) .verdict ≡ goOn
   pub reached : ¬ (step (stateAfter last s) .verdict ≡ goOn)
   pub later : (k : ℕ) → last ≤ k → (step (stateAfter k s) .verdict ≡ step (stateAfter last s) .verdict) × (step (stateAfter k s) .count ≡ step (stateAfter last s) .count)
-  pub ran : runCall s ≡ ok (run s)
-  pub run-same : (run s .verdict ≡ step (stateAfter last s) .verdict) × (run s .count ≡ step (stateAfter last s) .count)
+  pub stays : (k : ℕ) → last < k → stateAfter k s ≡ stateAfter (suc last) s
+  -- turns that one call takes are turns of the list
+  pub together : (k t : ℕ) → advance (suc t) (stateAfter k s) ≡ turnsTogether t (stateAfter k s)
+  -- a run, from any walk of the list, gives that verdict and its count, and leaves the walk that the verdict leaves
+  pub ran : (k : ℕ) →
+      (run (stateAfter k s) .verdict ≡ step (stateAfter last s) .verdict) × (run (stateAfter k s) .count ≡ step (stateAfter last s) .count) × (run (stateAfter k s) .state ≡ stateAfter (suc last) s)
   -- with a budget of at least the points the verdict is 'none' exactly when there is no solution, else the first solution; also where no file can hold so large a budget
   pub decides : points (p .domain) ≤ p .budget → Decides p (run s .verdict)
   pub decides-with : (b : ℕ) → points (p .domain) ≤ b → Decides p (verdictWith p b)
-  -- under every budget it is that verdict, or 'spent'
-  pub smaller : (b c : ℕ) → points (p .domain) ≤ b → (verdictWith p c ≡ verdictWith p b) ⊎ (verdictWith p c ≡ outOfBudget)
+  -- under every smaller budget it is the same verdict, or 'spent', whatever the number of points
+  pub smaller : (b c : ℕ) → b ≤ c → (verdictWith p b ≡ verdictWith p c) ⊎ (verdictWith p b ≡ outOfBudget)
   pub own : run s .verdict ≡ verdictWith p (p .budget)
 
--- Two files: equally many variables and the same solutions
-pub record SameSolutions (p q : Problem) : Type 0 where
-  pub sizes : variables p ≡ variables q
-  pub solutions : (x : Point) → Solution p x ↔ Solution q x
+-- Two files with the same solutions. Where there is one, it tells that both have equally many variables.
+abbrev pub SameSolutions : Problem → Problem → Type 0
+SameSolutions p q = (x : Point) → Solution p x ↔ Solution q x
 
 -- An accepted file: none of the table's conditions on files holds.
 pub record Accepted (f : List ℕ) : Type 0 where
@@ -106,6 +122,5 @@ pub record Demand3 : Type 0 where
   -- a list starts at the walk that opening returns
   pub opens : (f : List ℕ) → Accepted f → openFile f ≡ ok (openProblem (problemIn f))
   pub turns : (f : List ℕ) → Accepted f → Turns (problemIn f) (openProblem (problemIn f))
-  -- equal verdicts for equal solution sets, whatever the lines and limits
-  pub same : (f g : List ℕ) → Accepted f → Accepted g → SameSolutions (problemIn f) (problemIn g) → (b c : ℕ) →
-      points (problemIn f .domain) ≤ b → points (problemIn g .domain) ≤ c → verdictWith (problemIn f) b ≡ verdictWith (problemIn g) c
+  -- equal verdicts for equal solution sets, whatever the lines, the limits and the budgets, but for 'spent'
+  pub same : (f g : List ℕ) → Accepted f → Accepted g → SameSolutions (problemIn f) (problemIn g) → (b c : ℕ) → Agree (verdictWith (problemIn f) b) (verdictWith (problemIn g) c)

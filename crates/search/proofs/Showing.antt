@@ -29,7 +29,7 @@ use Rattle.turns.specs.Advancing.{verdictOf as modelVerdictOf, traceOf, Advance
 use Rattle.turns.specs.declared.Ending.{Ending}
 use Rattle.turns.specs.declared.Ending.the-variants as ending
 use Rattle.turns.specs.declared.Advanced.{Advanced}
-use Rattle.turns.proofs.Calls.{advance-one, Same, run-same}
+use Rattle.validity.proofs.Repeating.{advance-one, Same, run-same}
 use Rattle.search.specs.declared.Traced.{Traced}
 use Rattle.search.specs.Seen.{Seen, verdictOf, refusedIn, seenTraced, seenStepped, seenRan, valuesOf, noBlock, blockOr, shown, turn, blockIn, stepSeen, runSeen, traceSeen}
 use Rattle.search.specs.Answered.{caseOf, valuesAt, answered, refusal, ranOf}

@@ -14,18 +14,21 @@ use Rattle.model.specs.File.{readError, problemIn, readFile}
 use Rattle.model.specs.Search.{undecided, Search, coreOf, openProblem, openedBy, openFile}
 use Rattle.model.specs.Validity.{constraintShaped, statusValid, valid}
 use Rattle.model.specs.Points.{points}
-use Rattle.model.specs.Step.{Outcome, step, runFor, withoutBlock, run, checked, runCall}
+use Rattle.model.specs.Step.{goOn, Outcome, step, runFor, withoutBlock, run}
 use Rattle.model.specs.Demand.{stateAfter, answerAt, Listed, withBudget, verdictWith, Turns, SameSolutions, Accepted, Demand3}
 use Rattle.format.proofs.AcceptedShape as Small
 use Rattle.format.proofs.AcceptedShape.{tests, sizes, accepted-domain, accepted-constraints, problem-shaped}
 use Rattle.integer.specs.Tests.{and-left, and-right}
+use Rattle.lists.proofs.Bools.{true-of}
 use Rattle.soundness.proofs.Sizes.{size, points-size, points-every, points-once}
 use Rattle.validity.proofs.States.{Every, Sizes, fits-shaped, fits-valid}
 use Rattle.validity.proofs.Steps.{Valid}
 use Rattle.soundness.proofs.Turns.{Open}
 use Rattle.soundness.proofs.Runs.{ProblemFits, opened-fits, opened-open}
-use Rattle.soundness.proofs.Verdicts.{decides-with, smaller-budget, same-verdict}
-use Rattle.soundness.proofs.TurnLists.{checked-true, call-taken, valid-after, Reached, still, list-counted, list-few, list-cuts, Ends, run-ends-list}
+use Rattle.soundness.proofs.Verdicts.{decides-with, same-verdict}
+use Rattle.soundness.proofs.Budgets.{smaller-budget}
+use Rattle.soundness.proofs.TurnLists.{call-taken, valid-after, Reached, still, reached-after, list-conflicts, list-counted, list-few, list-cuts, Ends, run-ends-list}
+use Rattle.soundness.proofs.Together.{together, stays, ran-after}
 
 -- ---- an accepted file
 coefficients : (n : ℕ) (ks : List Constraint) → T (allOf (constraintShaped n) ks) → Every (λ (k : Constraint). length (k .coefficients) ≡ n) ks
@@ -69,10 +72,6 @@ module _ (p : Problem) (z : Small.Sizes p) (f : ProblemFits p) where
   unfolding withBudget
   own-budget = refl
 
-  run-taken : runCall (openProblem p) ≡ ok (run (openProblem p))
-  unfolding runCall
-  run-taken = checked-true (valid (openProblem p)) (run (openProblem p)) (opened-valid .tests)
-
   turns-of : Turns p (openProblem p)
   unfolding run withoutBlock answerAt
   turns-of =
@@ -80,23 +79,28 @@ module _ (p : Problem) (z : Small.Sizes p) (f : ProblemFits p) where
       let v = opened-valid in
       let o = opened-open p f in
       let e = run-ends-list p (s .budget - s .conflicts) s v o opened-fuel in
+      let reached : ¬ (step (stateAfter (e .last) s) .verdict ≡ goOn) = λ h. e .reached (ap (λ (x : Outcome). x .verdict) (e .ran) ∙ h) in
+      let later : (k : ℕ) → e .last ≤ k → (step (stateAfter k s) .verdict ≡ step (stateAfter (e .last) s) .verdict) × (step (stateAfter k s) .count ≡ step (stateAfter (e .last) s) .count) =
+      λ k h. (e .later k h .0 ∙ ap (λ (x : Outcome). x .verdict) (e .ran), e .later k h .1 ∙ ap (λ (x : Outcome). x .count) (e .ran)) in
       let own : run s .verdict ≡ verdictWith p (p .budget) = unfold verdictWith in ap (λ (x : Search). run x .verdict) own-budget in
       record {
         listed = record { every = points-every (p .domain); once = points-once (p .domain) };
+        accepted = λ k. true-of _ (valid-after k s v .tests);
         taken = λ k. call-taken (stateAfter k s) (valid-after k s v);
         counted = λ k. omega (arith, list-counted p k s v (still o), opened-conflicts);
+        carried = λ k. omega (arith, list-conflicts p k s v (still o), opened-conflicts);
         bounded = λ k. omega (arith, list-few p k s v (still o), points-size (p .domain));
         cuts = λ k x q. list-cuts p k s (z .few-variables) v (still o) x q;
         last = e .last;
         before = e .before;
-        reached = λ h. e .reached (ap (λ (x : Outcome). x .verdict) (e .ran) ∙ h);
-        later = λ k h.
-            (e .later k h .0 ∙ ap (λ (x : Outcome). x .verdict) (e .ran), e .later k h .1 ∙ ap (λ (x : Outcome). x .count) (e .ran));
-        ran = run-taken;
-        run-same = (ap (λ (x : Outcome). x .verdict) (e .ran), ap (λ (x : Outcome). x .count) (e .ran));
+        reached = reached;
+        later = later;
+        stays = stays p s v (still o) (e .last) (e .before) reached later;
+        together = λ k t. together p t (stateAfter k s) (valid-after k s v) (reached-after p k s v (still o));
+        ran = ran-after p s v (still o) (e .last) (e .before) reached later;
         decides = λ h. rw own (decides-with p (p .budget) f h);
         decides-with = λ b h. decides-with p b f h;
-        smaller = λ b c h. smaller-budget p b c f h;
+        smaller = λ b c h. smaller-budget b c h p;
         own = own;
       }
 
@@ -109,5 +113,5 @@ demand-3 =
     record {
       opens = opens-of;
       turns = λ f a. turns-of (problemIn f) (sizes (problemIn f) (tests f (a .fine) .sized)) (fits-of f a);
-      same = λ f g a b e c d h k. same-verdict (problemIn f) (problemIn g) c d (fits-of f a) (fits-of g b) (e .solutions) h k;
+      same = λ f g a b e c d. same-verdict (problemIn f) (problemIn g) c d (fits-of f a) (fits-of g b) e;
     }

@@ -5,5 +5,7 @@ pub mod Opened
 pub mod Turns
 pub mod Runs
 pub mod Verdicts
+pub mod Budgets
 pub mod TurnLists
+pub mod Together
 pub mod Demand

@@ -4,7 +4,7 @@ use native.Mathlib.Omega.{arith}
 use mathlib.Core.Bool.{Bool, true, false}
 use mathlib.Core.List.{List, [], _∷_, _++_}
 use mathlib.Core.Option.{Option, none, some}
-use mathlib.Core.Path.{_≡_, refl, sym, ap, subst, _∙_}
+use mathlib.Core.Path.{_≡_, refl, sym, ap, ap₂, subst, _∙_}
 use lib.Dec.{T}
 use lib.ListN.{length, length-append}
 use Rattle.model.specs.Ranges.{maxVariables}
@@ -28,7 +28,7 @@ pub call-taken : (s : Search) → Valid s → stepCall s ≡ ok (step s)
 unfolding stepCall
 call-taken s v = checked-true (valid s) (step s) (v .tests)
 
-after-step : (s : Search) → Valid s → after s (stepCall s) ≡ step s .state
+pub after-step : (s : Search) → Valid s → after s (stepCall s) ≡ step s .state
 unfolding after
 after-step s v = ap (after s) (call-taken s v)
 
@@ -103,14 +103,14 @@ says-next p s outOfBudget t e h = done (repeats-done p s t (says-repeats p s out
 says-next p s (solution x) t e h = done (repeats-done p s t (says-repeats p s (solution x) t e h (λ n. impossible (cc))))
 
 -- what one turn gives, whatever was reached
-record Stepped (p : Problem) (s : Search) : Type 0 where
-  next : Reached p (step s .state)
+pub record Stepped (p : Problem) (s : Search) : Type 0 where
+  pub next : Reached p (step s .state)
   count : step s .count ≡ step s .state .conflicts
   few : step s .state .conflicts ≤ size (p .domain)
   blocks : length (blockIn (step s .block)) + s .conflicts ≡ step s .state .conflicts
   cuts : variables p ≤ maxVariables → (x : Point) → Solution p x → MeetsCuts (variables p) x (blockIn (step s .block))
 
-stepped : (p : Problem) (s : Search) → Reached p s → Stepped p s
+pub stepped : (p : Problem) (s : Search) → Reached p s → Stepped p s
 unfolding blockIn
 stepped p s (still o) =
     let t = turned p s o in
@@ -125,8 +125,12 @@ stepped p s (done d) =
       cuts = λ m x z. subst (λ (b : Option (List ℕ)). MeetsCuts (variables p) x (blockIn b)) (sym (d .block)) tt;
     }
 
+reached-few : (p : Problem) (s : Search) → Reached p s → s .conflicts ≤ size (p .domain)
+reached-few p s (still o) = omega (arith, o .total)
+reached-few p s (done d) = d .few
+
 -- ---- every list
-blocks-taken : (s : Search) → Valid s → blocksIn (stepCall s) ≡ blockIn (step s .block)
+pub blocks-taken : (s : Search) → Valid s → blocksIn (stepCall s) ≡ blockIn (step s .block)
 unfolding blocksIn
 blocks-taken s v = ap blocksIn (call-taken s v)
 
@@ -136,18 +140,32 @@ reached-after p zero s v r = r
 reached-after p (suc k) s v r =
     reached-after p k (after s (stepCall s)) (rw (after-step s v) (step-valid s v)) (rw (after-step s v) (stepped p s r .next))
 
-pub list-counted : (p : Problem) (k : ℕ) (s : Search) → Valid s → Reached p s → step (stateAfter k s) .count ≡ length (journal (suc k) s) + s .conflicts
-unfolding stateAfter journal
-list-counted p zero s v r =
-    let t = stepped p s r in
-    rw (blocks-taken s v) (omega (arith, t .count, t .blocks, length-append (blockIn (step s .block)) []))
-list-counted p (suc k) s v r =
-    let t = stepped p s r in
-    rw (blocks-taken s v, after-step s v)
-    (omega (arith, t .blocks, length-append (blockIn (step s .block)) (journal (suc k) (step s .state)), list-counted p k (step s .state) (step-valid s v) (t .next)))
+-- a list is its first turn, and the list from there
+state-first : (k : ℕ) (s : Search) → Valid s → stateAfter (suc k) s ≡ stateAfter k (step s .state)
+unfolding stateAfter
+state-first k s v = ap (stateAfter k) (after-step s v)
 
-pub list-few : (p : Problem) (k : ℕ) (s : Search) → Valid s → Reached p s → step (stateAfter k s) .count ≤ size (p .domain)
-list-few p k s v r = let t = stepped p (stateAfter k s) (reached-after p k s v r) in omega (arith, t .count, t .few)
+journal-first : (k : ℕ) (s : Search) → Valid s → journal (suc k) s ≡ blockIn (step s .block) ++ journal k (step s .state)
+unfolding journal
+journal-first k s v = ap₂ (λ (bs : List (List ℕ)) (x : Search). bs ++ journal k x) (blocks-taken s v) (after-step s v)
+
+pub list-conflicts : (p : Problem) (k : ℕ) (s : Search) → Valid s → Reached p s → stateAfter k s .conflicts ≡ length (journal k s) + s .conflicts
+list-conflicts p zero s v r = unfold stateAfter journal in omega arith
+list-conflicts p (suc k) s v r =
+    let t = stepped p s r in
+    rw (state-first k s v, journal-first k s v)
+    (omega (arith, t .blocks, length-append (blockIn (step s .block)) (journal k (step s .state)), list-conflicts p k (step s .state) (step-valid s v) (t .next)))
+
+pub state-next : (k : ℕ) (s : Search) → Valid s → stateAfter (suc k) s ≡ step (stateAfter k s) .state
+unfolding stateAfter
+state-next zero s v = after-step s v
+state-next (suc k) s v = rw (after-step s v) (state-next k (step s .state) (step-valid s v))
+
+pub list-counted : (p : Problem) (k : ℕ) (s : Search) → Valid s → Reached p s → step (stateAfter k s) .count ≡ length (journal (suc k) s) + s .conflicts
+list-counted p k s v r = stepped p (stateAfter k s) (reached-after p k s v r) .count ∙ ap (λ (x : Search). x .conflicts) (sym (state-next k s v)) ∙ list-conflicts p (suc k) s v r
+
+pub list-few : (p : Problem) (k : ℕ) (s : Search) → Valid s → Reached p s → length (journal k s) + s .conflicts ≤ size (p .domain)
+list-few p k s v r = omega (arith, list-conflicts p k s v r, reached-few p (stateAfter k s) (reached-after p k s v r))
 
 cuts-append : (n : ℕ) (x : Point) (a b : List (List ℕ)) → MeetsCuts n x a → MeetsCuts n x b → MeetsCuts n x (a ++ b)
 cuts-append n x [] b h g = g
@@ -169,12 +187,12 @@ pub record Ends (s : Search) (o : Outcome) : Type 0 where
   pub reached : ¬ (o .verdict ≡ goOn)
   pub later : (k : ℕ) → last ≤ k → (step (stateAfter k s) .verdict ≡ o .verdict) × (step (stateAfter k s) .count ≡ o .count)
 
-fixed-after : (k : ℕ) (s : Search) → Valid s → step s .state ≡ s → stateAfter k s ≡ s
+pub fixed-after : (k : ℕ) (s : Search) → Valid s → step s .state ≡ s → stateAfter k s ≡ s
 unfolding stateAfter
 fixed-after zero s v e = refl
 fixed-after (suc k) s v e = ap (stateAfter k) (after-step s v ∙ e) ∙ fixed-after k s v e
 
-later-same : (k : ℕ) (s : Search) → Valid s → Repeats (step s) → (step (stateAfter k s) .verdict ≡ step s .verdict) × (step (stateAfter k s) .count ≡ step s .count)
+pub later-same : (k : ℕ) (s : Search) → Valid s → Repeats (step s) → (step (stateAfter k s) .verdict ≡ step s .verdict) × (step (stateAfter k s) .count ≡ step s .count)
 unfolding stateAfter
 later-same zero s v r = (refl, refl)
 later-same (suc k) s v r =

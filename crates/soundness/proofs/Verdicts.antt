@@ -1,4 +1,4 @@
--- There is one right verdict: what it says with enough budget, under every smaller one, and for another problem with the same solutions.
+-- There is one right verdict: what it says with enough budget, and for another problem with the same solutions.
 use Prim.Native.Nat.{ℕ, zero, suc, _+_, _≤_, _<_}
 use native.Mathlib.Omega.{arith}
 use mathlib.Core.List.{List, [], _∷_}
@@ -11,7 +11,7 @@ use Rattle.model.specs.Problem.{Problem, variables, domainInRange, constraintsI
 use Rattle.model.specs.Points.{Point, Solution, Before, First, points}
 use Rattle.model.specs.Search.{openProblem}
 use Rattle.model.specs.Step.{Verdict, goOn, noSolution, outOfBudget, solution, run}
-use Rattle.model.specs.Demand.{withBudget, verdictWith, Decides}
+use Rattle.model.specs.Demand.{withBudget, verdictWith, Decides, Agree, SameSolutions}
 use Rattle.integer.specs.Parts.{up, down, lt-in}
 use Rattle.soundness.proofs.Sizes.{size, points-size}
 use Rattle.validity.proofs.Steps.{impossible}
@@ -44,19 +44,18 @@ module _ (p q : Problem) (same : (x : Point) → Solution p x ↔ Solution q x) 
   right-decides (solution x) h k =
       record { none-iff = (λ e. impossible (cc), λ n. absurd (n x (same x .0 (h .solves)))); else-first = λ n. (x, refl, first-same x h) }
 
-  -- a right verdict of p is that of q, or 'spent', where q has enough budget
-  right-either : (u v : Verdict) → Right p u → Right q v → size (q .domain) ≤ q .budget → (u ≡ v) ⊎ (u ≡ outOfBudget)
-  right-either goOn v h g k = absurd h
-  right-either outOfBudget v h g k = inr refl
-  right-either noSolution goOn h g k = absurd g
-  right-either noSolution noSolution h g k = inl refl
-  right-either noSolution outOfBudget h g k = let z : ⊥ = omega arith in absurd z
-  right-either noSolution (solution y) h g k = absurd (h y (same y .1 (g .solves)))
-  right-either (solution x) goOn h g k = absurd g
-  right-either (solution x) noSolution h g k = absurd (g x (same x .0 (h .solves)))
-  right-either (solution x) outOfBudget h g k = let z : ⊥ = omega arith in absurd z
-  right-either (solution x) (solution y) h g k =
-      inl (ap (λ (z : Point). solution z) (one-first x y (h .first y (same y .1 (g .solves))) (g .first x (same x .0 (h .solves)))))
+  -- a right verdict of p is that of q, or one of them is 'spent'
+  right-agree : (u v : Verdict) → Right p u → Right q v → Agree u v
+  right-agree goOn v h g = absurd h
+  right-agree outOfBudget v h g = inr (inl refl)
+  right-agree noSolution goOn h g = absurd g
+  right-agree noSolution noSolution h g = inl refl
+  right-agree noSolution outOfBudget h g = inr (inr refl)
+  right-agree noSolution (solution y) h g = absurd (h y (same y .1 (g .solves)))
+  right-agree (solution x) goOn h g = absurd g
+  right-agree (solution x) noSolution h g = absurd (g x (same x .0 (h .solves)))
+  right-agree (solution x) outOfBudget h g = inr (inr refl)
+  right-agree (solution x) (solution y) h g = inl (ap solution (one-first x y (h .first y (same y .1 (g .solves))) (g .first x (same x .0 (h .solves)))))
 
 -- ---- budgets
 budget-same : (p : Problem) (b : ℕ) (x : Point) → Solution (withBudget p b) x ↔ Solution p x
@@ -78,21 +77,8 @@ enough p b h = omega (arith, points-size (p .domain))
 pub decides-with : (p : Problem) (b : ℕ) → ProblemFits p → points (p .domain) ≤ b → Decides p (verdictWith p b)
 decides-with p b f h = right-decides (withBudget p b) p (budget-same p b) (verdictWith p b) (budget-right p b f) (enough p b h)
 
-pub smaller-budget : (p : Problem) (b c : ℕ) → ProblemFits p → points (p .domain) ≤ b → (verdictWith p c ≡ verdictWith p b) ⊎ (verdictWith p c ≡ outOfBudget)
-smaller-budget p b c f h =
-    right-either (withBudget p c) (withBudget p b) (λ x. (λ z. budget-same p b x .1 (budget-same p c x .0 z), λ z. budget-same p c x .1 (budget-same p b x .0 z)))
-    (verdictWith p c) (verdictWith p b) (budget-right p c f) (budget-right p b f) (enough p b h)
-
-pub same-verdict : (p q : Problem) (b c : ℕ) → ProblemFits p → ProblemFits q → ((x : Point) → Solution p x ↔ Solution q x) → points (p .domain) ≤ b → points (q .domain) ≤ c →
-    verdictWith p b ≡ verdictWith q c
-same-verdict p q b c f g e h k =
-    not-spent (verdictWith p b) (verdictWith q c) (budget-right p b f)
-    (right-either (withBudget p b) (withBudget q c)
+pub same-verdict : (p q : Problem) (b c : ℕ) → ProblemFits p → ProblemFits q → SameSolutions p q → Agree (verdictWith p b) (verdictWith q c)
+same-verdict p q b c f g e =
+    right-agree (withBudget p b) (withBudget q c)
     (λ x. (λ z. budget-same q c x .1 (e x .0 (budget-same p b x .0 z)), λ z. budget-same p b x .1 (e x .1 (budget-same q c x .0 z))))
-    (verdictWith p b) (verdictWith q c) (budget-right p b f) (budget-right q c g) (enough q c k))
-  where
-    not-spent : (u v : Verdict) → Right (withBudget p b) u → (u ≡ v) ⊎ (u ≡ outOfBudget) → u ≡ v
-    not-spent u v r (inl e) = e
-    not-spent u v r (inr e) =
-        let m : withBudget p b .budget < size (withBudget p b .domain) = subst (λ (w : Verdict). Right (withBudget p b) w) e r in
-        let z : ⊥ = omega (arith, enough p b h) in absurd z
+    (verdictWith p b) (verdictWith q c) (budget-right p b f) (budget-right q c g)

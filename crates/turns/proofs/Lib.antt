@@ -2,7 +2,6 @@
 pub mod Keeping
 pub mod Learning
 pub mod Turning
-pub mod Calls
 pub mod Backjumping
 pub mod Conflicting
 pub mod Measures

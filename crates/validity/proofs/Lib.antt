@@ -13,3 +13,4 @@ pub mod Backjump
 pub mod Conflicts
 pub mod Descent
 pub mod Steps
+pub mod Repeating
