@@ -1,5 +1,6 @@
 // Positions and numbers of the kept constraints.
-use crate::MAX_CUTS;
+use layout::MAX_CUTS;
+use layout::MAX_ROWS;
 ghost use mathlib.Core.Path.{_≡_};
 ghost use Prim.Native.Nat.{ℕ, _+_, _-_, _≤_, _<_};
 ghost use mathlib.Core.List.{List};
@@ -7,11 +8,11 @@ ghost use lib.IntN.{ℤ};
 ghost use Rattle.model.specs.Ranges.{maxConstraints, maxCuts, maxBudget};
 ghost use Rattle.model.specs.Search.{Level, numberAt};
 ghost use Rattle.state.specs.View.{coreWith};
-ghost use Rattle.rows.specs.Rows.{maxRows};
+ghost use Rattle.layout.specs.Rows.{maxRows};
 ghost use Rattle.analyze.specs.Position.{PositionOf};
 
 // The position of a constraint that is not kept: there are fewer rows.
-pub const ABSENT: usize = 128;
+pub const ABSENT: usize = MAX_ROWS;
 
 // How many cuts were made and are no longer kept.
 fn dropped(made: usize) -> usize

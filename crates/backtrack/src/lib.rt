@@ -2,6 +2,7 @@
 // to it.
 pub mod mirror;
 
+use layout::MAX_ROWS;
 use propagate::bounds::lower_upper;
 use propagate::bounds::next_value;
 use propagate::bounds::raise_lower;
@@ -19,7 +20,7 @@ ghost use Rattle.backtrack.specs.Saved.{placeOf, goneOf, savedRoom, Save
 ghost use Rattle.backtrack.specs.Jumps.{Decidable, Decided, LevelSaved, Flippable, Flipped};
 
 // The numbers saved for one level.
-const ROOM: usize = 128;
+const ROOM: usize = MAX_ROWS;
 
 const MAX_CUTS: usize = 64;
 

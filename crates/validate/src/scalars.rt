@@ -1,4 +1,6 @@
 // The sizes and counters of a search state, and the numbers of its kept cuts.
+use layout::MAX_CUTS;
+use layout::range::sizes_in_range;
 ghost use mathlib.Core.Path.{_≡_};
 ghost use Prim.Native.Nat.{_+_, _-_, _≤_};
 ghost use lib.Dec.{eqb};
@@ -7,14 +9,6 @@ ghost use Rattle.model.specs.Ranges.{maxCuts};
 ghost use Rattle.model.specs.Lists.{tab, allPairs};
 ghost use Rattle.state.specs.View.{keptCuts, storedNumber};
 ghost use Rattle.validate.specs.Sizes.{sizesValid, numberFrom, maxFirst};
-
-const MAX_VARIABLES: usize = 32;
-
-const MAX_CONSTRAINTS: usize = 64;
-
-const MAX_CUTS: usize = 64;
-
-const MAX_BUDGET: usize = 1000000000;
 
 // Whether n, m, B, the dead ends, the cuts made and the depth are in range.
 pub fn are_sizes_valid(
@@ -27,16 +21,7 @@ pub fn are_sizes_valid(
 ) -> bool
     ensures { λ r. ⌜ r ≡ sizesValid n m budget conflicts made depth ⌝ }
 {
-    if n < 1 {
-        return false;
-    }
-    if MAX_VARIABLES < n {
-        return false;
-    }
-    if MAX_CONSTRAINTS < m {
-        return false;
-    }
-    if MAX_BUDGET < budget {
+    if !sizes_in_range(n, m, budget) {
         return false;
     }
     if n < depth {
