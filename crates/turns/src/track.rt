@@ -1,9 +1,9 @@
 // What is kept of the constraints when a call starts.
 use layout::ROW;
 use propagate::masks::row_mask;
-use propagate::propagate::kept_count;
 use propagate::scan::first_falsified;
 use propagate::scan::measure;
+use state::kept::kept_count;
 ghost use Prim.Native.Nat.{_+_};
 ghost use Rattle.state.specs.View.{keptCuts};
 ghost use Rattle.propagate.specs.Masks.{Masked};

@@ -1,8 +1,8 @@
--- `validate::scalars::kept_cuts` meets its contract. Assumes nothing.
+-- `state::kept::kept_cuts` meets its contract. Assumes nothing.
 use Rattle.state.specs.View.{keptCuts}
 use native.Mathlib.Omega.{arith}
-use Rattle.validate.proofs.scalars.kept_cuts.Statement.{statement}
-use Rattle.validate.proofs.scalars.kept_cuts.Tie as tie
+use Rattle.state.proofs.kept.kept_cuts.Statement.{statement}
+use Rattle.state.proofs.kept.kept_cuts.Tie as tie
 
 returns : tie.Need-returns
 unfolding keptCuts
