@@ -12,7 +12,7 @@ use lib.ListN.{getElem?}
 use Rattle.model.specs.Lists.{tab}
 use Rattle.model.specs.Ranges.{maxConstraints, maxCuts, maxBudget}
 use Rattle.model.specs.Constraint.{Constraint}
-use Rattle.model.specs.Search.{domain, decision, flipped, constraint, Level, Core, dropped, numberAt, keptNumber}
+use Rattle.model.specs.Search.{domain, decision, flipped, constraint, Level, Core, dropped, keptNumber}
 use Rattle.model.specs.Conflict.{resolveBy, resolveKept}
 use Rattle.lists.proofs.Tab.{length-tab}
 use Rattle.layout.specs.Rows.{rowAt}
@@ -92,16 +92,6 @@ module _ (m made : ℕ) where
             rw (length-tab (rowAt n rows) 0 m, le-ltb k m (omega arith), le-ltb k (m + (made - maxCuts)) (omega arith))
             (elem-past (rowAt n rows) m (keptCuts made) (k - (m + (made - maxCuts))) (omega arith) ∙ sym (at-absent n rows));
       }
-
--- ---- the numbers of the positions
-module _ (n m made : ℕ) (rows : List ℤ) (numbers : List ℕ) (l : Level) (ls : List Level) (j : ℕ) where
-  pub number-input : j < m → numberAt (coreWith n m made rows numbers l ls) j ≡ j + 1
-  unfolding numberAt coreWith
-  number-input h = rw (length-tab (rowAt n rows) 0 m, lt-ltb j m h) (omega arith)
-
-  pub number-cut : m ≤ j → numberAt (coreWith n m made rows numbers l ls) j ≡ j + (made - maxCuts) + 1
-  unfolding numberAt coreWith dropped
-  number-cut h = rw (length-tab (rowAt n rows) 0 m, le-ltb j m h) (omega arith)
 
 -- ---- a reason: the three that are named are no constraint's number
 module _ (c : Core) (i : ℕ) (f : Constraint) (k : ℕ) where

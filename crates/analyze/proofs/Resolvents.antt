@@ -21,7 +21,7 @@ use Rattle.lists.proofs.Tab.{getD-tab, tab-ext, tab-end, tab-down, getD-const}
 use Rattle.layout.specs.Rows.{rowLength, constraintAt, rowAt, boxOf}
 use Rattle.linear.specs.Excess.{RoundedOrOut}
 use Rattle.linear.proofs.Sizes.{rounded-range}
-use Rattle.rows.specs.Rows.{Copied}
+use Rattle.layout.specs.Copies.{Copied}
 use Rattle.state.specs.View.{reasonOf, reasonsIn, keptCuts, coreWith}
 use Rattle.analyze.specs.Position.{absent, constraintIn, PositionOf}
 use Rattle.analyze.specs.Analyzed.{Analyzable, Resolving, coreAt, analysisOf, Analyzed}

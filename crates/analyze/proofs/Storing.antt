@@ -15,8 +15,8 @@ use Rattle.model.specs.Search.{newest}
 use Rattle.lists.proofs.Tab.{length-tab, tab-ext, tab-shift, tab-snoc}
 use Rattle.layout.specs.Rows.{rowLength, numberIn, constraintAt, rowAt}
 use Rattle.layout.proofs.Rows.{row-same}
-use Rattle.rows.specs.Rows.{Placed}
-use Rattle.rows.proofs.Placing.{placed-here, placed-before}
+use Rattle.layout.specs.Copies.{Placed}
+use Rattle.layout.proofs.Placing.{placed-here, placed-before}
 use Rattle.state.specs.View.{keptCuts, storedNumber}
 use Rattle.analyze.specs.Storing.{lastCut, Moved, RowKept, NumberKept}
 

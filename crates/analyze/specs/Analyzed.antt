@@ -12,8 +12,7 @@ use Rattle.model.specs.Constraint.{inRange}
 use Rattle.model.specs.Problem.{boundsInRange}
 use Rattle.model.specs.Search.{Level, Core}
 use Rattle.model.specs.Conflict as model
-use Rattle.layout.specs.Rows.{rowLength, numberIn, constraintAt, rowAt, boxOf}
-use Rattle.rows.specs.Rows.{maxRows, rowsLength}
+use Rattle.layout.specs.Rows.{rowLength, numberIn, constraintAt, rowAt, boxOf, maxRows, rowsLength}
 use Rattle.state.specs.View.{keptCuts, reasonsIn, coreWith}
 use Rattle.analyze.specs.declared.analysis.Analysis.{Analysis}
 

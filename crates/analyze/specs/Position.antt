@@ -8,8 +8,7 @@ use lib.Dec.{ltb}
 use lib.IntN.{ℤ}
 use Rattle.model.specs.Constraint.{Constraint}
 use Rattle.model.specs.Search.{Level, keptNumber}
-use Rattle.layout.specs.Rows.{rowAt}
-use Rattle.rows.specs.Rows.{maxRows}
+use Rattle.layout.specs.Rows.{rowAt, maxRows}
 use Rattle.state.specs.View.{keptCuts, coreWith}
 
 -- the position of a constraint that is not kept

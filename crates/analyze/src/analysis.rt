@@ -2,13 +2,13 @@
 // which its lowest value uses. The last F is the cut.
 use crate::lookup::ABSENT;
 use crate::lookup::position_of;
-use compare::is_in_range;
+use layout::ROW;
+use layout::copy_row;
+use layout::range::is_in_range;
 use linear::activity::is_falsified;
 use linear::resolving::combine_at;
 use linear::resolving::is_opposite;
 use linear::rounding::round_into_range;
-use rows::ROW;
-use rows::copy_row;
 ghost use mathlib.Core.Bool.{true, false};
 ghost use mathlib.Core.List.{List};
 ghost use mathlib.Core.Path.{_≡_};

@@ -1,8 +1,8 @@
 // Keeping a cut: 'input lines and the 64 newest cuts are kept', in the rows after the inputs, oldest first.
-use crate::MAX_CUTS;
-use compare::is_equal;
-use rows::ROW;
-use rows::store_row;
+use layout::MAX_CUTS;
+use layout::ROW;
+use layout::is_equal;
+use layout::store_row;
 ghost use mathlib.Core.Path.{_≡_};
 ghost use Prim.Native.Nat.{_+_, _*_, _≤_, _<_};
 ghost use lib.IntN.{pos};
@@ -10,8 +10,7 @@ ghost use lib.ListN.{length};
 ghost use Rattle.model.specs.Lists.{tab};
 ghost use Rattle.model.specs.Ranges.{maxVariables, maxConstraints, maxCuts};
 ghost use Rattle.model.specs.Conflict.{firstEqual};
-ghost use Rattle.layout.specs.Rows.{rowLength, constraintAt, rowAt};
-ghost use Rattle.rows.specs.Rows.{maxRows, rowsLength};
+ghost use Rattle.layout.specs.Rows.{rowLength, constraintAt, rowAt, maxRows, rowsLength};
 ghost use Rattle.analyze.specs.Storing.{lastCut, Moved, RowKept, NumberKept};
 ghost use Rattle.analyze.specs.Position.{foundBelow};
 

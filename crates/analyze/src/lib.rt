@@ -2,6 +2,3 @@
 pub mod analysis;
 pub mod keeping;
 pub mod lookup;
-
-// The newest cuts that are kept.
-pub const MAX_CUTS: usize = 64;

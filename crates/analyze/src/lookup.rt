@@ -1,27 +1,13 @@
-// Positions and numbers of the kept constraints.
-use crate::MAX_CUTS;
+// The kept constraints by number.
+use layout::MAX_ROWS;
+use state::kept::dropped;
 ghost use mathlib.Core.Path.{_≡_};
-ghost use Prim.Native.Nat.{ℕ, _+_, _-_, _≤_, _<_};
-ghost use mathlib.Core.List.{List};
-ghost use lib.IntN.{ℤ};
-ghost use Rattle.model.specs.Ranges.{maxConstraints, maxCuts, maxBudget};
-ghost use Rattle.model.specs.Search.{Level, numberAt};
-ghost use Rattle.state.specs.View.{coreWith};
-ghost use Rattle.rows.specs.Rows.{maxRows};
+ghost use Prim.Native.Nat.{_≤_};
+ghost use Rattle.model.specs.Ranges.{maxConstraints, maxBudget};
 ghost use Rattle.analyze.specs.Position.{PositionOf};
 
 // The position of a constraint that is not kept: there are fewer rows.
-pub const ABSENT: usize = 128;
-
-// How many cuts were made and are no longer kept.
-fn dropped(made: usize) -> usize
-    ensures { λ r. ⌜ r ≡ made - maxCuts ⌝ }
-{
-    if made < MAX_CUTS {
-        return 0;
-    }
-    made - MAX_CUTS
-}
+pub const ABSENT: usize = MAX_ROWS;
 
 // The position of the kept constraint with a number, or ABSENT where none has it.
 pub fn position_of(m: usize, made: usize, number: usize) -> usize
@@ -42,15 +28,4 @@ pub fn position_of(m: usize, made: usize, number: usize) -> usize
         return number - gone - 1;
     }
     ABSENT
-}
-
-// The number of the kept constraint in row j.
-pub fn number_of(m: usize, made: usize, j: usize) -> usize
-    requires { ⌜ (j < maxRows) × (made ≤ maxBudget) ⌝ }
-    ensures { λ r. ⌜ ((n : ℕ) (rows : List ℤ) (numbers : List ℕ) (l : Level) (ls : List Level) → r ≡ numberAt (coreWith n m made rows numbers l ls) j) ⌝ }
-{
-    if j < m {
-        return j + 1;
-    }
-    j + dropped(made) + 1
 }

@@ -19,11 +19,11 @@ use Rattle.lists.proofs.Tab.{getD-const}
 use Rattle.linear.specs.Reach.{Reaches, spanOf}
 use Rattle.layout.specs.Rows.{rowLength, numberIn, cell, rowAt, boundsAt, boxOf}
 use Rattle.layout.proofs.Rows.{coefficient-at}
-use Rattle.state.specs.View.{keptCuts, noLevel}
+use Rattle.state.specs.View.{keptCuts, noLevel, droppedCuts}
 use Rattle.state.specs.declared.Level.{Level}
 use Rattle.propagate.specs.Tracked.{Known, Tracked}
 use Rattle.propagate.proofs.Tracking.{number-same, number-other}
-use Rattle.backtrack.specs.Saved.{placeOf, goneOf, savedRoom, SavedAt, Saved, RowsMoved, Copied}
+use Rattle.backtrack.specs.Saved.{placeOf, savedRoom, SavedAt, Saved, RowsMoved, Copied}
 
 -- ---- places
 module _ (m by j : ℕ) where
@@ -68,15 +68,15 @@ unfolding keptCuts
 saved-at-moved n m made made₁ rows rows₁ lower upper olds limits gone count t moved s =
     record { order = omega (arith, s .order, moved .more); bound = omega (arith, s .bound, moved .more); most = s .most; at = at }
   where
-    at : (j : ℕ) → j < m + keptCuts made₁ → placeOf m (goneOf made₁ - gone) j < count →
-        Known n rows₁ lower upper j (numberIn olds (savedRoom * t + placeOf m (goneOf made₁ - gone) j)) (numberIn limits (savedRoom * t + placeOf m (goneOf made₁ - gone) j))
+    at : (j : ℕ) → j < m + keptCuts made₁ → placeOf m (droppedCuts made₁ - gone) j < count →
+        Known n rows₁ lower upper j (numberIn olds (savedRoom * t + placeOf m (droppedCuts made₁ - gone) j)) (numberIn limits (savedRoom * t + placeOf m (droppedCuts made₁ - gone) j))
     at j h l =
-        let q = placeOf m (goneOf made₁ - goneOf made) j in
-        let e : placeOf m (goneOf made - gone) q ≡ placeOf m (goneOf made₁ - gone) j = place-again m gone (goneOf made) (goneOf made₁) j (s .order) (omega (arith, moved .more)) in
+        let q = placeOf m (droppedCuts made₁ - droppedCuts made) j in
+        let e : placeOf m (droppedCuts made - gone) q ≡ placeOf m (droppedCuts made₁ - gone) j = place-again m gone (droppedCuts made) (droppedCuts made₁) j (s .order) (omega (arith, moved .more)) in
         let b : q < m + keptCuts made =
         ⊎-elim
-        (λ (x : j < m). omega (arith, place-less m (goneOf made₁ - goneOf made) j x))
-        (λ (x : m ≤ j). omega (arith, place-more m (goneOf made₁ - goneOf made) j x, place-more m (goneOf made₁ - gone) j x, s .bound, s .order, moved .more))
+        (λ (x : j < m). omega (arith, place-less m (droppedCuts made₁ - droppedCuts made) j x))
+        (λ (x : m ≤ j). omega (arith, place-more m (droppedCuts made₁ - droppedCuts made) j x, place-more m (droppedCuts made₁ - gone) j x, s .bound, s .order, moved .more))
         (lt-or-le j m) in
         known-moved n rows rows₁ lower upper j q _ _ (moved .at j h b)
         (subst (λ (p : ℕ). Known n rows lower upper q (numberIn olds (savedRoom * t + p)) (numberIn limits (savedRoom * t + p))) e (s .at q b (rw e l)))
@@ -109,7 +109,7 @@ saved-none n m made rows levels olds limits k depth =
 
 pub rows-stay : (n m made : ℕ) (rows : List ℤ) → RowsMoved n m made made rows rows
 rows-stay n m made rows =
-    let z : goneOf made - goneOf made ≡ 0 = omega arith in
+    let z : droppedCuts made - droppedCuts made ≡ 0 = omega arith in
     record { more = omega arith; at = λ j h l. rw z (ap (rowAt n rows) (sym (place-none m j))) }
 
 -- ---- numbers copied
@@ -138,11 +138,11 @@ module _ (n m made : ℕ) (rows : List ℤ) (levels : List Level) (here : Level)
         bound = s .bound;
         most = s .most;
         at = λ j l k.
-            rw (a .below (savedRoom * t + placeOf m (goneOf made - gone) j) (omega (arith, s .most)), b .below (savedRoom * t + placeOf m (goneOf made - gone) j) (omega (arith, s .most))) (s .at j l k);
+            rw (a .below (savedRoom * t + placeOf m (droppedCuts made - gone) j) (omega (arith, s .most)), b .below (savedRoom * t + placeOf m (droppedCuts made - gone) j) (omega (arith, s .most))) (s .at j l k);
       }
 
   saved-here : m ≤ maxConstraints → Tracked n rows (here .lower) (here .upper) activities reaches (m + keptCuts made) → Copied (m + keptCuts made) (savedRoom * depth) activities olds olds₁ → Copied (m + keptCuts made) (savedRoom * depth) reaches limits limits₁ →
-      SavedAt n m made rows (here .lower) (here .upper) olds₁ limits₁ (goneOf made) (m + keptCuts made) depth
+      SavedAt n m made rows (here .lower) (here .upper) olds₁ limits₁ (droppedCuts made) (m + keptCuts made) depth
   unfolding keptCuts
   saved-here inputs tracked a b =
       record {
@@ -150,20 +150,20 @@ module _ (n m made : ℕ) (rows : List ℤ) (levels : List Level) (here : Level)
         bound = omega arith;
         most = omega arith;
         at = λ j l k.
-            let z : goneOf made - goneOf made ≡ 0 = omega arith in
+            let z : droppedCuts made - droppedCuts made ≡ 0 = omega arith in
             rw (z, place-none m j, a .inside j l, b .inside j l) (tracked .at j l);
       }
 
   pub saved-decided : m ≤ maxConstraints → depth < length levels → depth < length gones → depth < length counts → Tracked n rows (here .lower) (here .upper) activities reaches (m + keptCuts made) →
       Copied (m + keptCuts made) (savedRoom * depth) activities olds olds₁ → Copied (m + keptCuts made) (savedRoom * depth) reaches limits limits₁ → Saved n m made rows levels olds limits gones counts depth →
-      Saved n m made rows (set levels depth here) olds₁ limits₁ (set gones depth (goneOf made)) (set counts depth (m + keptCuts made)) (depth + 1)
+      Saved n m made rows (set levels depth here) olds₁ limits₁ (set gones depth (droppedCuts made)) (set counts depth (m + keptCuts made)) (depth + 1)
   saved-decided inputs lh gh ch tracked a b s = record { at = at }
     where
-      at : (t : ℕ) → t < depth + 1 → SavedAt n m made rows (getD (set levels depth here) t noLevel .lower) (getD (set levels depth here) t noLevel .upper) olds₁ limits₁ (getD (set gones depth (goneOf made)) t 0) (getD (set counts depth (m + keptCuts made)) t 0) t
+      at : (t : ℕ) → t < depth + 1 → SavedAt n m made rows (getD (set levels depth here) t noLevel .lower) (getD (set levels depth here) t noLevel .upper) olds₁ limits₁ (getD (set gones depth (droppedCuts made)) t 0) (getD (set counts depth (m + keptCuts made)) t 0) t
       at t h =
           ⊎-elim
-          (λ (e : t ≡ depth). rw (e, getD-set-same levels depth here noLevel lh, getD-set-same gones depth (goneOf made) 0 gh, getD-set-same counts depth (m + keptCuts made) 0 ch) (saved-here inputs tracked a b))
+          (λ (e : t ≡ depth). rw (e, getD-set-same levels depth here noLevel lh, getD-set-same gones depth (droppedCuts made) 0 gh, getD-set-same counts depth (m + keptCuts made) 0 ch) (saved-here inputs tracked a b))
           (λ (e : t < depth).
-          rw (getD-set-other levels depth t here noLevel (λ z. omega arith), getD-set-other gones depth t (goneOf made) 0 (λ z. omega arith), getD-set-other counts depth t (m + keptCuts made) 0 (λ z. omega arith))
+          rw (getD-set-other levels depth t here noLevel (λ z. omega arith), getD-set-other gones depth t (droppedCuts made) 0 (λ z. omega arith), getD-set-other counts depth t (m + keptCuts made) 0 (λ z. omega arith))
           (saved-before _ _ _ _ t e a b (s .at t e)))
           (eq-or-lt-of-le (omega arith))

@@ -8,7 +8,7 @@ use lib.IntN.{ℤ, pos, _+ℤ_}
 use lib.ListN.{getD, set, length}
 use Rattle.model.specs.Ranges.{maxConstraints, maxCuts, maxBudget}
 use Rattle.layout.specs.Rows.{rowLength, numberIn, rowAt}
-use Rattle.state.specs.View.{keptCuts, noLevel, flippedReason}
+use Rattle.state.specs.View.{keptCuts, droppedCuts, noLevel, flippedReason}
 use Rattle.state.specs.Change.{Whole, raised, decidedAt}
 use Rattle.state.specs.declared.Level.{Level}
 use Rattle.propagate.specs.Tracked.{Known, Tracked}
@@ -22,17 +22,13 @@ savedRoom = maxConstraints + maxCuts
 unfoldable pub placeOf : ℕ → ℕ → ℕ → ℕ
 placeOf m by j = cond (ltb j m) j (j + by)
 
--- how many cuts are gone
-abbrev pub goneOf : ℕ → ℕ
-goneOf made = made - maxCuts
-
 -- level t: `count` constraints were saved when `gone` cuts were gone; those that are still kept are known
 pub record SavedAt (n m made : ℕ) (rows lower upper olds limits : List ℤ) (gone count t : ℕ) : Type 0 where
-  pub order : gone ≤ goneOf made
+  pub order : gone ≤ droppedCuts made
   pub bound : count + gone ≤ m + made
   pub most : count ≤ savedRoom
-  pub at : (j : ℕ) → j < m + keptCuts made → placeOf m (goneOf made - gone) j < count →
-      Known n rows lower upper j (numberIn olds (savedRoom * t + placeOf m (goneOf made - gone) j)) (numberIn limits (savedRoom * t + placeOf m (goneOf made - gone) j))
+  pub at : (j : ℕ) → j < m + keptCuts made → placeOf m (droppedCuts made - gone) j < count →
+      Known n rows lower upper j (numberIn olds (savedRoom * t + placeOf m (droppedCuts made - gone) j)) (numberIn limits (savedRoom * t + placeOf m (droppedCuts made - gone) j))
 
 -- the levels above depth
 pub record Saved (n m made : ℕ) (rows : List ℤ) (levels : List Level) (olds limits : List ℤ) (gones counts : List ℕ) (depth : ℕ) : Type 0 where
@@ -42,7 +38,7 @@ pub record Saved (n m made : ℕ) (rows : List ℤ) (levels : List Level) (olds 
 -- each constraint that was kept before stands where it stood, or further down by the cuts that went
 pub record RowsMoved (n m made made₁ : ℕ) (rows rows₁ : List ℤ) : Type 0 where
   pub more : made ≤ made₁
-  pub at : (j : ℕ) → j < m + keptCuts made₁ → placeOf m (goneOf made₁ - goneOf made) j < m + keptCuts made → rowAt n rows₁ j ≡ rowAt n rows (placeOf m (goneOf made₁ - goneOf made) j)
+  pub at : (j : ℕ) → j < m + keptCuts made₁ → placeOf m (droppedCuts made₁ - droppedCuts made) j < m + keptCuts made → rowAt n rows₁ j ≡ rowAt n rows (placeOf m (droppedCuts made₁ - droppedCuts made) j)
 
 -- `count` numbers copied to place `at`; what stands before it stays
 pub record Copied (count at : ℕ) (from before after : List ℤ) : Type 0 where

@@ -2,36 +2,26 @@
 // to it.
 pub mod mirror;
 
+use layout::MAX_ROWS;
 use propagate::bounds::lower_upper;
 use propagate::bounds::next_value;
 use propagate::bounds::raise_lower;
-use propagate::propagate::kept_count;
 use propagate::scan::measure;
 use state::DECISION;
 use state::FLIPPED;
+use state::kept::dropped;
+use state::kept::kept_count;
 ghost use mathlib.Core.Path.{_≡_};
 ghost use Prim.Native.Nat.{_+_, _-_, _*_, _≤_, _<_};
 ghost use lib.ListN.{length};
 ghost use Rattle.model.specs.Ranges.{maxConstraints, maxCuts, maxBudget};
 ghost use Rattle.state.specs.View.{keptCuts};
 ghost use Rattle.propagate.specs.Tracked.{Tracked};
-ghost use Rattle.backtrack.specs.Saved.{placeOf, goneOf, savedRoom, SavedAt, Copied};
+ghost use Rattle.backtrack.specs.Saved.{placeOf, savedRoom, SavedAt, Copied};
 ghost use Rattle.backtrack.specs.Jumps.{Decidable, Decided, LevelSaved, Flippable, Flipped};
 
 // The numbers saved for one level.
-const ROOM: usize = 128;
-
-const MAX_CUTS: usize = 64;
-
-// How many cuts were made and are no longer kept.
-fn gone(made: usize) -> usize
-    ensures { λ r. ⌜ r ≡ goneOf made ⌝ }
-{
-    if made < MAX_CUTS {
-        return 0;
-    }
-    made - MAX_CUTS
-}
+const ROOM: usize = MAX_ROWS;
 
 // The position that the constraint now at position j had when `by` fewer cuts were gone.
 fn place(m: usize, by: usize, j: usize) -> usize
@@ -77,7 +67,7 @@ fn take_back<'a>(
     ensures { λ r. ⌜ (r ≤ m + keptCuts made) × Tracked n (now (rows .entry)) (now (lower .entry)) (now (upper .entry)) (now (activities .exit)) (now (reaches .exit)) r ⌝ }
 {
     let kept = kept_count(m, made);
-    let by = gone(made) - earlier;
+    let by = dropped(made) - earlier;
     let at = ROOM * t;
     let mut j: usize = 0;
     while j < kept {
@@ -121,7 +111,7 @@ pub fn decide<'a>(
     let at = ROOM * depth;
     copy_to(activities, count, at, olds);
     copy_to(reaches, count, at, limits);
-    gones[depth] = gone(made);
+    gones[depth] = dropped(made);
     counts[depth] = count;
     let v = lower[i];
     lower_upper(rows, i, v, DECISION, count, upper, above, activities)

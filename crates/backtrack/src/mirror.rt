@@ -1,5 +1,6 @@
 // The bounds of the levels above the one in hand, in flat arrays, 32 numbers for each level: levels themselves are structs, which cannot be lent.
 use crate::copy_to;
+use layout::MAX_VARIABLES;
 use linear::activity::is_falsified;
 use state::Level;
 ghost use mathlib.Core.Path.{_≡_};
@@ -10,7 +11,7 @@ ghost use Rattle.model.specs.Ranges.{maxVariables};
 ghost use Rattle.backtrack.specs.Mirror.{mirrorLength, BoundsKept, Mirrored, BoxesFit, BackjumpLevel};
 
 // The numbers of one level.
-const ROOM: usize = 32;
+const ROOM: usize = MAX_VARIABLES;
 
 // The bounds of the level at depth t are kept.
 pub fn keep_bounds<'a>(

@@ -18,7 +18,8 @@ use Rattle.lists.proofs.Bools.{same-test}
 use Rattle.format.proofs.AcceptedShape.{variables-in, constraints-in}
 use Rattle.format.proofs.ByteLaws.{u32-read, u32-written}
 use Rattle.fields.specs.Fields.{sizesMatch}
-use Rattle.fields.specs.Sizes.{SizesTest}
+use Rattle.layout.specs.Sizes.{sizesFit}
+use Rattle.layout.proofs.Limits.{sizes-fit}
 
 -- ---- 1
 module _ (f : List ℕ) where
@@ -73,10 +74,10 @@ magic-test f r y l e =
     (λ t. eq-eqb r magicNumber (e ∙ u32-read f 0 magicNumber (omega arith) (pairs-equal eqb eqb-true (take 4 f) magic t ∙ sym magic-bytes)))
 
 -- ---- 4
-module _ (f : List ℕ) (n m b : ℕ) (en : n ≡ variablesIn f) (em : m ≡ constraintsIn f) (eb : b ≡ budgetIn f) (r : Bool) (t : SizesTest n m b r) where
+module _ (f : List ℕ) (n m b : ℕ) (en : n ≡ variablesIn f) (em : m ≡ constraintsIn f) (eb : b ≡ budgetIn f) (r : Bool) (t : r ≡ sizesFit n m b) where
   sizes-test : sizesInRange (problemIn f) ≡ r
   unfolding problemIn
-  sizes-test = sym (t (problemIn f) (variables-in f ∙ sym en) (constraints-in f ∙ sym em) (sym eb))
+  sizes-test = sym (t ∙ sizes-fit n m b (problemIn f) (variables-in f ∙ sym en) (constraints-in f ∙ sym em) (sym eb))
 
   pub sizes-fail : not r ≡ true → false ≡ sizesMatch f
   unfolding sizesMatch

@@ -1,5 +1,4 @@
 -- Laws of the groups of functions.
-pub mod Ranges
 pub mod FileTests
 pub mod Arrays
 pub mod Writing

@@ -23,7 +23,7 @@ use Rattle.layout.specs.Rows.{numberIn, cell, constraintAt}
 use Rattle.block.proofs.Placing.{then, more-placed}
 use Rattle.block.proofs.Sealing.{sealed-content}
 use Rattle.block.specs.Placed.{Placed, cleared}
-use Rattle.compare.proofs.Tests.{smallAt, range-tests}
+use Rattle.layout.proofs.Tests.{smallAt, range-tests}
 use Rattle.fields.proofs.FileTests.{magicNumber, magic-bytes}
 
 -- a number that passed its test has room in 32 bits, as the machine reads it back

@@ -1,3 +1,2 @@
 -- What the contracts of `fields` cite.
-pub mod Sizes
 pub mod Fields

@@ -29,9 +29,6 @@ pub fn bounds_offset(i: usize) -> usize
     12 + 8 * i
 }
 
-// The numbers of a constraint: its constant, then a coefficient for each of 32 variables.
-pub const ROW_LENGTH: usize = 33;
-
 // Number i of a constraint in its block: the constant, then the coefficients.
 pub fn number_offset(i: usize) -> usize
     requires { ⌜ i ≤ rowLength ⌝ }

@@ -1,8 +1,9 @@
 // The bytes of a problem file: its tests on bytes, document 01's errors 1 to 4 and 7, and the arrays of the problem in it.
 use crate::offsets;
-use crate::range;
 use block::check;
 use block::number;
+use layout::ROW;
+use layout::range::sizes_in_range;
 ghost use mathlib.Core.Path.{_≡_};
 ghost use Prim.Native.Nat.{_*_, _<_, _≤_};
 ghost use lib.ListN.{length};
@@ -77,7 +78,7 @@ pub fn sizes_match(file: &[u8]) -> bool
     let n = variables_in(file);
     let m = constraints_in(file);
     let budget = budget_in(file);
-    if !range::sizes_in_range(n, m, budget) {
+    if !sizes_in_range(n, m, budget) {
         return false;
     }
     file.len() == block::LENGTH * (m + 1)
@@ -124,11 +125,11 @@ fn cell_in(file: &[u8], n: usize, c: usize) -> i64
     requires { ⌜ Blocks (now file) × (n ≡ variablesIn (now file)) × (c < rowLength * constraintsIn (now file)) ⌝ }
     ensures { λ r. ⌜ r ≡ cellIn (now (file .entry)) c ⌝ }
 {
-    let i = c % offsets::ROW_LENGTH;
+    let i = c % ROW;
     if n < i {
         return 0;
     }
-    let start = block::LENGTH * (c / offsets::ROW_LENGTH + 1);
+    let start = block::LENGTH * (c / ROW + 1);
     let end = start + block::LENGTH;
     number::i32_at(&file[start..end], offsets::number_offset(i))
 }
@@ -138,7 +139,7 @@ pub fn rows_in(file: &[u8], n: usize, m: usize) -> [i64; 2112]
     requires { ⌜ Blocks (now file) × (n ≡ variablesIn (now file)) × (m ≡ constraintsIn (now file)) ⌝ }
     ensures { λ r. ⌜ r ≡ filled (cellIn (now (file .entry))) (rowLength * m) cells ⌝ }
 {
-    let count = offsets::ROW_LENGTH * m;
+    let count = ROW * m;
     let mut rows = [0i64; 2112];
     let mut c: usize = 0;
     while c < count {

@@ -5,11 +5,19 @@ use mathlib.Core.List.{List}
 use lib.IntN.{ℤ, pos}
 use lib.ListN.{getD}
 use Rattle.model.specs.Lists.{tab}
+use Rattle.model.specs.Ranges.{maxVariables, maxConstraints, maxCuts}
 use Rattle.model.specs.Constraint.{Constraint, Bounds, Box}
 
 -- the numbers of a row
 abbrev pub rowLength : ℕ
-rowLength = 33
+rowLength = 1 + maxVariables
+
+-- the rows of a search state, and their numbers
+abbrev pub maxRows : ℕ
+maxRows = maxConstraints + maxCuts
+
+abbrev pub rowsLength : ℕ
+rowsLength = rowLength * maxRows
 
 -- element i of an array, 0 past its end
 unfoldable pub numberIn : List ℤ → ℕ → ℤ

@@ -16,7 +16,7 @@ ghost use Rattle.linear.specs.Sized.{maxCombined, Sized};
 ghost use Rattle.linear.specs.Excess.{Excess, RoundedInRange};
 
 // What a coefficient's size may be.
-const MAX_COEFFICIENT: u64 = 1073741824;
+const MAX_COEFFICIENT: u64 = layout::MAX_COEFFICIENT as u64;
 
 // A number so small that division by it, or by a smaller one, leaves the constraint out of range: the first coefficient out of range over 2^30 + 1, or 0
 // where there is none.

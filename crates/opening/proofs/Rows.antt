@@ -15,9 +15,9 @@ use Rattle.integer.specs.Size.{weaken}
 use Rattle.lists.proofs.Bools.{true-of}
 use Rattle.lists.proofs.Tab.{tab-ext-0, tab-map}
 use Rattle.lists.proofs.Loops.{every-at}
-use Rattle.layout.specs.Rows.{rowLength, constraintAt, rowAt}
-use Rattle.rows.specs.Rows.{rowsLength, Placed}
-use Rattle.rows.proofs.Placing.{placed-here, placed-before}
+use Rattle.layout.specs.Rows.{rowLength, constraintAt, rowAt, rowsLength}
+use Rattle.layout.specs.Copies.{Placed}
+use Rattle.layout.proofs.Placing.{placed-here, placed-before}
 use Rattle.linear.specs.Sized.{maxCombined, Sized}
 use Rattle.linear.proofs.Sizes.{range-sized}
 use Rattle.problem.specs.declared.Problem.{Problem}

@@ -5,8 +5,7 @@ use mathlib.Core.List.{List}
 use lib.IntN.{ℤ}
 use lib.ListN.{length}
 use Rattle.model.specs.Constraint.{rounded}
-use Rattle.layout.specs.Rows.{rowAt}
-use Rattle.rows.specs.Rows.{rowsLength}
+use Rattle.layout.specs.Rows.{rowAt, rowsLength}
 
 -- the first `count` rows hold the constraints of n variables, rounded
 pub record RowsRounded (n : ℕ) (constraints : List ℤ) (count : ℕ) (rows : List ℤ) : Type 0 where

@@ -1,9 +1,9 @@
 // Document 01's 'opening': the search state at the start, from a problem.
+use layout::ROW;
+use layout::copy_row;
+use layout::store_row;
 use linear::rounding;
 use problem::Problem;
-use rows::ROW;
-use rows::copy_row;
-use rows::store_row;
 use state::Level;
 use state::Search;
 use state::Status;

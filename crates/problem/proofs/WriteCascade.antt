@@ -2,7 +2,7 @@
 use Prim.Native.Nat.{ℕ, suc, _*_, _/_, _<_, _≤_}
 use native.Mathlib.Omega.{arith}
 use mathlib.Core.Bool.{Bool, true, false, not}
-use mathlib.Core.Path.{_≡_, refl}
+use mathlib.Core.Path.{_≡_, refl, _∙_}
 use mathlib.Core.List.{List, _++_}
 use lib.ListN.{drop, length}
 use borrow.Author.Tests.{lt-leb, le-leb}
@@ -18,7 +18,8 @@ use Rattle.problem.specs.declared.Answer.the-variants.{Done, SizeRange, 
 use Rattle.problem.specs.declared.Problem.{Problem}
 use Rattle.problem.specs.Answer.{number, written}
 use Rattle.problem.specs.Writable.{Writable}
-use Rattle.fields.specs.Sizes.{SizesTest}
+use Rattle.layout.specs.Sizes.{sizesFit}
+use Rattle.layout.proofs.Limits.{sizes-fit}
 use Rattle.problem.specs.View.{problemOf}
 use Rattle.lists.proofs.Bools.{said-no, said-yes}
 
@@ -36,11 +37,11 @@ module _ (p : Problem) where
   length-is = rw constraint-count
 
   -- the code's test of the three numbers
-  sizes-are : (r : Bool) → SizesTest (p .n) (p .m) (p .budget) r → r ≡ sizesInRange (problemOf p)
+  sizes-are : (r : Bool) → r ≡ sizesFit (p .n) (p .m) (p .budget) → r ≡ sizesInRange (problemOf p)
   unfolding problemOf
-  sizes-are r t = t (problemOf p) variable-count constraint-count refl
+  sizes-are r t = t ∙ sizes-fit (p .n) (p .m) (p .budget) (problemOf p) variable-count constraint-count refl
 
-  pub sized : (r : Bool) → SizesTest (p .n) (p .m) (p .budget) r → not r ≡ false → sizesInRange (problemOf p) ≡ true
+  pub sized : (r : Bool) → r ≡ sizesFit (p .n) (p .m) (p .budget) → not r ≡ false → sizesInRange (problemOf p) ≡ true
   sized r t h = said-yes (sizes-are r t) h
 
   module _ (t₄ : sizesInRange (problemOf p) ≡ true) where
@@ -58,7 +59,7 @@ module _ (p : Problem) where
         record { few-variables = variables-few; few-constraints = constraints-few; bounded = t₅; light = t₆; long = omega arith }
 
 module _ (p : Problem) (b : List ℕ) where
-  pub size-range : (r : Bool) → SizesTest (p .n) (p .m) (p .budget) r → not r ≡ true → written SizeRange b ≡ writeFile (problemOf p) b
+  pub size-range : (r : Bool) → r ≡ sizesFit (p .n) (p .m) (p .budget) → not r ≡ true → written SizeRange b ≡ writeFile (problemOf p) b
   unfolding written number writeFile writeError writtenBy firstError
   size-range r t h = rw (said-no (sizes-are p r t) h)
 

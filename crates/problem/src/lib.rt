@@ -3,12 +3,12 @@ mod range;
 mod reader;
 mod writer;
 
-use fields::range::sizes_in_range;
 use fields::reader::checks_match;
 use fields::reader::is_whole;
 use fields::reader::magic_matches;
 use fields::reader::padding_zero;
 use fields::reader::sizes_match;
+use layout::range::sizes_in_range;
 ghost use mathlib.Core.Path.{_≡_};
 ghost use Rattle.model.specs.File.{readFile, writeFile};
 ghost use Rattle.problem.specs.Answer.{number, written};

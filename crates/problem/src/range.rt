@@ -1,8 +1,8 @@
 // The ranges of document 01, tested on a problem: its errors 5 and 6, for reading and for writing.
 use crate::Problem;
-use compare::is_in_range;
-use fields::offsets;
-use fields::range::bounds_in_range;
+use layout::ROW;
+use layout::range::bounds_in_range;
+use layout::range::is_in_range;
 ghost use mathlib.Core.Path.{_≡_};
 ghost use Prim.Native.Nat.{_≤_};
 ghost use Rattle.model.specs.Ranges.{maxVariables, maxConstraints};
@@ -34,7 +34,7 @@ pub(crate) fn constraints_in_range(problem: Problem) -> bool
     let m = problem.m;
     let mut j: usize = 0;
     while j < m {
-        if !is_in_range(&problem.constraints, offsets::ROW_LENGTH * j, n) {
+        if !is_in_range(&problem.constraints, ROW * j, n) {
             return false;
         }
         j += 1;

@@ -4,6 +4,7 @@ use block::build;
 use fields::offsets;
 use fields::writer::put_sizes;
 use fields::writer::write_constraint;
+use layout::ROW;
 ghost use mathlib.Core.Path.{_≡_};
 ghost use mathlib.Core.Bool.{true};
 ghost use mathlib.Core.List.{_++_};
@@ -62,7 +63,7 @@ pub(crate) fn write_blocks(problem: Problem, buffer: &mut [u8])
         write_constraint(
             n,
             &problem.constraints,
-            offsets::ROW_LENGTH * j,
+            ROW * j,
             j + 1,
             &mut buffer[start..end],
         );

@@ -1,24 +1,13 @@
--- The number of a kept constraint: it is the model's, and it is read back as that constraint's.
+-- The number of a kept constraint is read back as that constraint's.
 use Prim.Native.Nat.{ℕ, suc, _+_, _-_, _≤_, _<_, _^_}
 use native.Mathlib.Omega.{arith}
 use mathlib.Core.Bool.{Bool, true, false, cond}
-use mathlib.Core.List.{List}
-use mathlib.Core.Path.{_≡_, fun-ext}
+use mathlib.Core.Path.{_≡_}
 use borrow.Author.Tests.{ne-eqb}
 use lib.Dec.{ltb}
-use lib.IntN.{ℤ}
 use Rattle.model.specs.Ranges.{maxConstraints, maxCuts, maxBudget}
 use Rattle.model.specs.Search as model
-use Rattle.lists.proofs.Tab.{length-tab}
-use Rattle.layout.specs.Rows.{rowAt}
-use Rattle.state.specs.View.{reasonOf, keptCuts, coreWith}
-use Rattle.propagate.specs.Propagation.{numberFor}
-
--- the numbers of a state's kept constraints are the model's
-pub number-at : (n m made : ℕ) (rows : List ℤ) (numbers : List ℕ) (l : model.Level) (ls : List model.Level) →
-    model.numberAt (coreWith n m made rows numbers l ls) ≡ numberFor m made
-unfolding model.numberAt model.dropped coreWith numberFor
-number-at n m made rows numbers l ls = fun-ext (λ p. rw (length-tab (rowAt n rows) 0 m))
+use Rattle.state.specs.View.{reasonOf, keptCuts, numberFor}
 
 -- a number that no other reason has
 pub reason-number : (k : ℕ) → 1 ≤ k → k < 2 ^ 63 → reasonOf k ≡ model.constraint k

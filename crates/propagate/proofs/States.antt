@@ -11,19 +11,18 @@ use Rattle.model.specs.Problem.{boundsInRange}
 use Rattle.model.specs.Search as model
 use Rattle.model.specs.Move.{follow, descend}
 use Rattle.layout.specs.Rows.{boxOf}
-use Rattle.state.specs.View.{levelOf, coreWith}
+use Rattle.state.specs.View.{levelOf, coreWith, numberFor}
 use Rattle.state.specs.Change.{Whole}
 use Rattle.state.specs.declared.Level.{Level}
-use Rattle.state.proofs.Cores.{kept-rows}
+use Rattle.state.proofs.Cores.{kept-rows, number-at}
 use Rattle.validity.proofs.Every.{every-out}
 use Rattle.validity.proofs.Moves.{Chosen}
 use Rattle.validity.proofs.States.{ConstraintFits, CoreFits}
 use Rattle.propagate.specs.Moves.{stopOf}
-use Rattle.propagate.specs.Propagation.{Propagation, propagation, numberFor, propagationOf}
+use Rattle.propagate.specs.Propagation.{Propagation, propagation, propagationOf}
 use Rattle.propagate.specs.Ready.{keptRows, Ready}
 use Rattle.propagate.specs.declared.propagate.Found.{Found}
 use Rattle.propagate.proofs.Fuel.{Stopped}
-use Rattle.propagate.proofs.Numbers.{number-at}
 use Rattle.propagate.proofs.Descent.{FitsAt, propagated, descent-propagated, propagated-stopped}
 
 module _ (n m made : ℕ) (rows : List ℤ) (numbers : List ℕ) (l : Level) (ls : List model.Level) (f : CoreFits (coreWith n m made rows numbers (levelOf n l) ls)) where

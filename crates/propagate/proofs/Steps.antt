@@ -17,14 +17,14 @@ use Rattle.linear.specs.Ranges.{widestBound}
 use Rattle.linear.proofs.Ranges.{lower-within, upper-within}
 use Rattle.layout.specs.Rows.{numberIn, rowAt, boxOf}
 use Rattle.layout.proofs.Rows.{length-box, lower-at, upper-at, box-lower, box-upper}
-use Rattle.state.specs.View.{keptCuts, levelOf}
+use Rattle.state.specs.View.{keptCuts, levelOf, numberFor}
 use Rattle.state.specs.Change.{Whole, raised, lowered}
 use Rattle.state.specs.declared.Level.{Level}
 use Rattle.state.proofs.Levels.{level-raised, level-lowered}
 use Rattle.validity.proofs.Boxes.{Ordered, Nested, set-lower-ordered, set-upper-ordered, set-lower-nested, set-upper-nested, set-lower-slack, set-upper-slack}
 use Rattle.validity.proofs.Moves.{Raises, Lowers, Chosen, next-chosen}
 use Rattle.validity.proofs.Tests.{range-ordered, range-nested}
-use Rattle.propagate.specs.Propagation.{Propagation, propagateBy, propagation, numberFor, propagationOf}
+use Rattle.propagate.specs.Propagation.{Propagation, propagateBy, propagation, propagationOf}
 use Rattle.propagate.specs.Moves.{stopOf}
 use Rattle.propagate.specs.declared.propagate.Found.{Found}
 use Rattle.propagate.specs.declared.propagate.Found.the-variants.{Conflict, Decide, Finish}

@@ -1,10 +1,7 @@
 -- Document 01's move 2 repeated at one level, until the next move is a conflict, a decision or the end. The model's descent goes through it: see
 -- proofs/Descent.
-use Prim.Native.Nat.{ℕ, zero, suc, _+_, _-_}
-use mathlib.Core.Bool.{cond}
+use Prim.Native.Nat.{ℕ, zero, suc}
 use mathlib.Core.List.{List}
-use lib.Dec.{ltb}
-use Rattle.model.specs.Ranges.{maxCuts}
 use Rattle.model.specs.Constraint.{Constraint}
 use Rattle.model.specs.Search.{constraint, raiseLower, lowerUpper}
 use Rattle.model.specs.Search as model
@@ -36,9 +33,5 @@ unfoldable pub propagation : List Constraint → (ℕ → ℕ) → model.Level �
 propagation ks number l = propagateFor (suc (slack (l .box))) ks number l
 
 -- ---- what the code gives
--- the number of the kept constraint at position p, of m inputs and `made` cuts made
-unfoldable pub numberFor : ℕ → ℕ → ℕ → ℕ
-numberFor m made p = cond (ltb p m) (suc p) (suc (p + (made - maxCuts)))
-
 unfoldable pub propagationOf : ℕ → Level → Found → Propagation
 propagationOf n l found = record { level = view.levelOf n l; move = stopOf found }

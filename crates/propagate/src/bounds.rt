@@ -1,4 +1,5 @@
 // Changes of a level's bounds. Everything that sets a bound goes through these functions, and the minimum activities follow.
+use layout::ROW;
 use linear::activity::term;
 ghost use mathlib.Core.Path.{_≡_};
 ghost use Prim.Native.Nat.{_<_, _^_};
@@ -9,9 +10,6 @@ ghost use Rattle.model.specs.Ranges.{maxVariables};
 ghost use Rattle.layout.specs.Rows.{numberIn};
 ghost use Rattle.propagate.specs.Tracked.{Shiftable, Shifted};
 ghost use Rattle.propagate.specs.Bounds.{Settable, BoundSet};
-
-// The numbers of a row: the constant and a coefficient for each variable.
-const ROW: usize = 33;
 
 // The minimum activities after the bounds of variable i changed, the lower one by `rise` and the upper one by `fall`, up to the first constraint that
 // is falsified now. Returns its position, or `kept`. Past a falsified constraint the activities are stale, and nobody reads them again.

@@ -5,52 +5,27 @@ use crate::masks::open_mask;
 use crate::scan::Move;
 use crate::scan::first_improvement;
 use crate::scan::first_open;
+use state::kept::kept_count;
+use state::kept::number_of;
 ghost use mathlib.Core.Path.{_≡_};
-ghost use Prim.Native.Nat.{ℕ, _+_, _≤_, _<_};
+ghost use Prim.Native.Nat.{ℕ, _+_, _≤_};
 ghost use Rattle.model.specs.Lists.{withDefault};
-ghost use Rattle.model.specs.Ranges.{maxVariables, maxConstraints, maxCuts, maxBudget};
+ghost use Rattle.model.specs.Ranges.{maxVariables};
 ghost use Rattle.model.specs.Move.{finish, firstOpen};
 ghost use Rattle.layout.specs.Rows.{boxOf};
-ghost use Rattle.state.specs.View.{keptCuts, levelOf};
+ghost use Rattle.state.specs.View.{keptCuts, numberFor, levelOf};
 ghost use Rattle.state.specs.Change.{held};
 ghost use Rattle.propagate.specs.Moves.{stopOf};
-ghost use Rattle.propagate.specs.Propagation.{propagation, numberFor, propagationOf};
+ghost use Rattle.propagate.specs.Propagation.{propagation, propagationOf};
 ghost use Rattle.propagate.specs.Ready.{keptRows, Ready};
 ghost use Rattle.propagate.specs.Tracked.{Tracked, Told};
 ghost use Rattle.propagate.specs.Masks.{Masked};
-
-const MAX_CUTS: usize = 64;
 
 // Where propagation stops: at a conflict in the constraint at a position, at a decision at a variable, or at the solution.
 pub enum Found {
     Conflict(usize),
     Decide(usize),
     Finish,
-}
-
-// How many constraints are kept: the m inputs and the newest cuts.
-pub fn kept_count(m: usize, made: usize) -> usize
-    requires { ⌜ m ≤ maxConstraints ⌝ }
-    ensures { λ r. ⌜ r ≡ m + keptCuts made ⌝ }
-{
-    if made < MAX_CUTS {
-        return m + made;
-    }
-    m + MAX_CUTS
-}
-
-// The number of the kept constraint at position j.
-pub fn number_at(m: usize, made: usize, j: usize) -> usize
-    requires { ⌜ (made ≤ maxBudget) × (j < maxConstraints + maxCuts) ⌝ }
-    ensures { λ r. ⌜ r ≡ numberFor m made j ⌝ }
-{
-    if j < m {
-        return j + 1;
-    }
-    if made < MAX_CUTS {
-        return j + 1;
-    }
-    j + 1 + (made - MAX_CUTS)
 }
 
 // Where no constraint sets a bound: a decision at the first open variable, or the solution.
@@ -107,11 +82,11 @@ pub fn propagate<'a>(
         );
         match better {
             Move::Lower(j, i, v) => {
-                let number = number_at(m, made, j);
+                let number = number_of(m, made, j);
                 falsified = raise_lower(rows, i, v, number, kept, lower, below, activities);
             }
             Move::Upper(j, i, v) => {
-                let number = number_at(m, made, j);
+                let number = number_of(m, made, j);
                 falsified = lower_upper(rows, i, v, number, kept, upper, above, activities);
             }
             Move::Nothing => {

@@ -3,6 +3,7 @@ use crate::masks::both;
 use crate::masks::first;
 use crate::masks::mask_of;
 use crate::masks::rest;
+use layout::ROW;
 use linear::activity::Improvement;
 use linear::activity::further;
 use linear::activity::improvement_at;
@@ -20,9 +21,6 @@ ghost use Rattle.layout.specs.Rows.{numberIn, rowAt, boxOf};
 ghost use Rattle.propagate.specs.Moves.{foundOf, hitAt};
 ghost use Rattle.propagate.specs.Tracked.{ScanFits, Tracked, FirstAbove};
 ghost use Rattle.propagate.specs.Masks.{Masked, Opens};
-
-// The numbers of a row: the constant and a coefficient for each variable.
-const ROW: usize = 33;
 
 // More than any variable can move a constraint.
 const UNKNOWN: i64 = 36028797018963968;

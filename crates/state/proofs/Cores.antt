@@ -4,16 +4,16 @@ use native.Mathlib.Omega.{arith}
 use native.Mathlib.Numerals.{add-one}
 use mathlib.Core.List.{List, [], _∷_, _++_}
 use mathlib.Core.Logic.{_≢_}
-use mathlib.Core.Path.{_≡_, refl, sym, ap, ap₂, _∙_}
+use mathlib.Core.Path.{_≡_, refl, sym, ap, ap₂, fun-ext, _∙_}
 use lib.IntN.{ℤ}
 use lib.ListN.{getD, set, length, drop}
 use lib.Seq.{getD-set-same, getD-set-other}
 use Rattle.model.specs.Lists.{tab}
 use Rattle.model.specs.Constraint.{Constraint}
 use Rattle.model.specs.Search as model
-use Rattle.lists.proofs.Tab.{tab-append}
+use Rattle.lists.proofs.Tab.{length-tab, tab-append}
 use Rattle.layout.specs.Rows.{rowAt}
-use Rattle.state.specs.View.{levelOf, noLevel, levelAt, levelsFrom, keptCuts, coreWith}
+use Rattle.state.specs.View.{levelOf, noLevel, levelAt, levelsFrom, keptCuts, numberFor, coreWith}
 use Rattle.state.specs.declared.Level.{Level}
 use Rattle.state.specs.declared.Search.{Search}
 
@@ -22,6 +22,12 @@ pub kept-rows : (n m made : ℕ) (rows : List ℤ) (numbers : List ℕ) (l : mod
     model.kept (coreWith n m made rows numbers l ls) ≡ tab (rowAt n rows) 0 (m + keptCuts made)
 unfolding model.kept coreWith
 kept-rows n m made rows numbers l ls = let e : 0 + m ≡ m = omega arith in sym (tab-append (rowAt n rows) 0 m (keptCuts made) ∙ rw e)
+
+-- the numbers of the kept constraints are the model's
+pub number-at : (n m made : ℕ) (rows : List ℤ) (numbers : List ℕ) (l : model.Level) (ls : List model.Level) →
+    model.numberAt (coreWith n m made rows numbers l ls) ≡ numberFor m made
+unfolding model.numberAt model.dropped coreWith numberFor
+number-at n m made rows numbers l ls = fun-ext (λ p. rw (length-tab (rowAt n rows) 0 m))
 
 -- ---- levels by depth
 pub level-here : (n : ℕ) (levels : List Level) (d : ℕ) (l : Level) → d < length levels → levelAt n (set levels d l) d ≡ levelOf n l

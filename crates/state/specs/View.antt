@@ -3,7 +3,7 @@
 use Prim.Native.Nat.{ℕ, zero, suc, _+_, _-_, _^_, min}
 use mathlib.Core.Bool.{cond}
 use mathlib.Core.List.{List, [], _∷_}
-use lib.Dec.{eqb}
+use lib.Dec.{eqb, ltb}
 use lib.IntN.{ℤ}
 use lib.ListN.{getD}
 use Rattle.model.specs.Lists.{tab}
@@ -54,6 +54,14 @@ statusOf Solved = model.solved
 -- how many cuts are kept
 unfoldable pub keptCuts : ℕ → ℕ
 keptCuts made = min made maxCuts
+
+-- how many cuts were made and are no longer kept
+abbrev pub droppedCuts : ℕ → ℕ
+droppedCuts made = made - maxCuts
+
+-- the number of the kept constraint at position p, of m inputs and `made` cuts made
+unfoldable pub numberFor : ℕ → ℕ → ℕ → ℕ
+numberFor m made p = cond (ltb p m) (suc p) (suc (p + droppedCuts made))
 
 unfoldable pub storedNumber : List ℕ → ℕ → ℕ
 storedNumber numbers p = getD numbers p 0

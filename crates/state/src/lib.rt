@@ -3,6 +3,8 @@
 ghost use mathlib.Core.Path.{_≡_};
 ghost use Rattle.state.specs.Change.{Whole};
 
+pub mod kept;
+
 // Why a bound is held: one of these, or the number of a constraint.
 pub const DOMAIN: usize = 0;
 

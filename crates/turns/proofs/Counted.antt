@@ -27,7 +27,7 @@ use Rattle.state.specs.View.{flippedReason, noLevel, levelOf, levelAt, levelsFr
 use Rattle.state.specs.Change.{Whole, held, raised}
 use Rattle.state.specs.declared.Level.{Level}
 use Rattle.state.specs.declared.Status.the-variants.{Infeasible}
-use Rattle.state.proofs.Cores.{level-here, levels-above, length-levels}
+use Rattle.state.proofs.Cores.{number-at, level-here, levels-above, length-levels}
 use Rattle.record.specs.Written.{recordOf, Emitted}
 use Rattle.record.proofs.Narrow.{record-narrow}
 use Rattle.backtrack.specs.Saved.{Saved, Roomy}
@@ -165,7 +165,7 @@ meets r lower upper below above d j moved {lowers} {uppers} b left afford q =
       learned = q .learned d;
       jump = level-is r (held lower upper below above d) j moved lowers uppers b _ (q .learned d) _ (q .jump);
       reach = q .jump .most;
-      numbered = q .numbered _ _ _ _;
+      numbered = q .numbered ∙ sym (ap (λ (f : ℕ → ℕ). f j) (number-at _ _ _ _ _ _ _));
       written = q .written;
     }
 

@@ -15,14 +15,14 @@ use Rattle.model.specs.Search.{newest}
 use Rattle.lists.proofs.Bools.{lt-or-le}
 use Rattle.lists.proofs.Tab.{length-tab, getD-tab, getD-tab-from}
 use Rattle.layout.specs.Rows.{constraintAt, rowAt}
-use Rattle.state.specs.View.{keptCuts}
+use Rattle.state.specs.View.{keptCuts, droppedCuts}
 use Rattle.analyze.specs.Storing.{RowKept}
-use Rattle.backtrack.specs.Saved.{placeOf, goneOf, RowsMoved}
+use Rattle.backtrack.specs.Saved.{placeOf, RowsMoved}
 use Rattle.backtrack.proofs.Saving.{place-less, place-more}
 
 module _ (n m made : ℕ) (rows cut rows₁ : List ℤ) (few : n ≤ maxVariables) (r : RowKept m made rows cut rows₁) where
   by : ℕ
-  by = goneOf (made + 1) - goneOf made
+  by = droppedCuts (made + 1) - droppedCuts made
 
   input : (j : ℕ) → j < m → rowAt n rows₁ j ≡ rowAt n rows j
   input j h = sym (getD-tab (rowAt n rows₁) m j noConstraint h) ∙ ap (λ (ks : List Constraint). getD ks j noConstraint) (r .inputs n few) ∙ getD-tab (rowAt n rows) m j noConstraint h

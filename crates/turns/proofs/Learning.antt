@@ -21,10 +21,10 @@ use Rattle.layout.specs.Rows.{cell, constraintAt, rowAt}
 use Rattle.linear.specs.Ranges.{RowFits}
 use Rattle.linear.proofs.Ranges.{row-fits}
 use Rattle.record.specs.Written.{CutFits}
-use Rattle.state.specs.View.{levelOf, keptCuts, coreWith}
+use Rattle.state.specs.View.{levelOf, keptCuts, numberFor, coreWith}
 use Rattle.state.specs.Change.{held}
 use Rattle.state.specs.declared.Level.{Level}
-use Rattle.state.proofs.Cores.{kept-rows}
+use Rattle.state.proofs.Cores.{kept-rows, number-at}
 use Rattle.analyze.specs.Analyzed.{Analyzed, analysisOf}
 use Rattle.analyze.specs.Position.{foundBelow}
 use Rattle.analyze.specs.Storing.{RowKept, NumberKept}
@@ -66,7 +66,7 @@ module _ (n m made : ℕ) (rows : List ℤ) (numbers : List ℕ) (level : Level)
 
   pub learned-equal : (p number : ℕ) →
       firstEqual 0 (tab (rowAt n rows) 0 (m + keptCuts made)) (constraintAt n (a .cut) 0) ≡ foundBelow (m + keptCuts made) p → p < m + keptCuts made →
-      ((n : ℕ) (rows : List ℤ) (numbers : List ℕ) (k : model.Level) (ks : List model.Level) → number ≡ model.numberAt (coreWith n m made rows numbers k ks) p) →
+      number ≡ numberFor m made p →
       LearnedFrom n m made rows numbers level j (record { cut = a .cut; used = a .used; number = number; made = made }) rows numbers
   learned-equal p number e h f =
       record {
@@ -74,7 +74,7 @@ module _ (n m made : ℕ) (rows : List ℤ) (numbers : List ℕ) (level : Level)
             record {
               analysis = analyzed outer;
               numbering = numbered-equal n m made rows numbers (levelOf n level) outer (constraintAt n (a .cut) 0) p e h ∙
-                  ap (λ (k : ℕ). record { number = k; core = coreWith n m made rows numbers (levelOf n level) outer }) (sym (f n rows numbers (levelOf n level) outer));
+                  ap (λ (k : ℕ). record { number = k; core = coreWith n m made rows numbers (levelOf n level) outer }) (ap (λ (g : ℕ → ℕ). g p) (number-at n m made rows numbers (levelOf n level) outer) ∙ sym f);
             };
         range = z .range;
         cutSize = z .cut-size;

@@ -20,13 +20,13 @@ use Rattle.layout.specs.Rows.{rowAt, boxOf}
 use Rattle.validity.proofs.Boxes.{Ordered, OpenAt, first-open, lowHalf, low-slack, set-lower-ordered, set-upper-ordered, set-lower-slack, set-upper-slack}
 use Rattle.validity.proofs.Moves.{Chosen}
 use Rattle.validity.proofs.States.{deepest-ordered}
-use Rattle.state.specs.View.{levelOf, levelsFrom, keptCuts, coreWith}
+use Rattle.state.specs.View.{levelOf, levelsFrom, keptCuts, coreWith, numberFor}
 use Rattle.state.specs.Change.{Whole, decidedAt}
 use Rattle.state.specs.declared.Level.{Level}
 use Rattle.state.proofs.Levels.{level-decided}
 use Rattle.state.proofs.Cores.{kept-rows}
 use Rattle.propagate.specs.Moves.{stopOf}
-use Rattle.propagate.specs.Propagation.{Propagation, propagation, numberFor, propagationOf}
+use Rattle.propagate.specs.Propagation.{Propagation, propagation, propagationOf}
 use Rattle.propagate.specs.Ready.{keptRows, Ready}
 use Rattle.propagate.specs.declared.propagate.Found.{Found}
 use Rattle.propagate.proofs.Fuel.{propagation-keeps}

@@ -7,9 +7,8 @@ use lib.IntN.{ℤ}
 use lib.ListN.{length}
 use Rattle.model.specs.Ranges.{maxVariables, maxCuts}
 use Rattle.model.specs.Bytes.{blockLength}
-use Rattle.model.specs.Search as model
 use Rattle.model.specs.Journal.{recordBytes}
-use Rattle.state.specs.View.{keptCuts, coreWith}
+use Rattle.state.specs.View.{keptCuts, numberFor}
 use Rattle.state.specs.declared.Level.{Level}
 use Rattle.record.specs.Written.{recordOf, Emitted}
 use Rattle.propagate.specs.Masks.{Masked}
@@ -34,5 +33,5 @@ pub record Counted (n m made j depth count done : ℕ) (keep : Bool) (rows : Lis
   pub learned : (d : ℕ) → LearnedFrom n m made rows numbers (level d) j (record { cut = cut; used = used; number = number; made = made₁ }) rows₁ numbers₁
   pub marked : (inputs : List ℕ) → Masked n m (m + keptCuts made) rows inputs masks → Masked n m (m + keptCuts made₁) rows₁ inputs masks₁
   pub jump : BackjumpLevel n cut depth lowers uppers back
-  pub numbered : (rows : List ℤ) (numbers : List ℕ) (l : model.Level) (ls : List model.Level) → falsified ≡ model.numberAt (coreWith n m made rows numbers l ls) j
+  pub numbered : falsified ≡ numberFor m made j
   pub written : Emitted keep done (recordBytes (recordOf maxVariables count falsified number depth back cut used)) buffer buffer₁

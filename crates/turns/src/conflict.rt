@@ -1,8 +1,8 @@
 // A counted conflict: what is learned from it, the level to go back to, and its journal record.
 use crate::learn::learn;
-use analyze::lookup::number_of;
 use backtrack::mirror::backjump_level;
 use record::emit;
+use state::kept::number_of;
 ghost use Rattle.state.specs.Change.{held};
 ghost use Rattle.turns.specs.Counting.{Countable, Counted};
 

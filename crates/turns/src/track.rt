@@ -1,16 +1,14 @@
 // What is kept of the constraints when a call starts.
+use layout::ROW;
 use propagate::masks::row_mask;
-use propagate::propagate::kept_count;
 use propagate::scan::first_falsified;
 use propagate::scan::measure;
+use state::kept::kept_count;
 ghost use Prim.Native.Nat.{_+_};
 ghost use Rattle.state.specs.View.{keptCuts};
 ghost use Rattle.propagate.specs.Masks.{Masked};
 ghost use Rattle.propagate.specs.Tracked.{Told};
 ghost use Rattle.turns.specs.Tracking.{Markable, Marks, Trackable};
-
-// The numbers of a row: the constant and a coefficient for each variable.
-const ROW: usize = 33;
 
 // The masks of `count` constraints from row `from` on.
 fn mark(rows: &[i64; 4224], n: usize, from: usize, count: usize, masks: &mut [usize; 64])

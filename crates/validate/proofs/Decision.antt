@@ -17,7 +17,7 @@ use Rattle.model.specs.Validity.{decisionValid}
 use Rattle.integer.specs.Tests.{same, leZ-true, leZ-false, lt-ltZ, le-ltZ}
 use Rattle.layout.specs.Rows.{numberIn, boxOf}
 use Rattle.layout.proofs.Rows.{lower-at, upper-at}
-use Rattle.compare.proofs.Tests.{equal-refl, equal-not}
+use Rattle.layout.proofs.Tests.{equal-refl, equal-not}
 use Rattle.layout.proofs.Elements.{back}
 
 -- what `==` of two signed numbers tells

@@ -2,22 +2,32 @@
 use Prim.Native.Nat.{ℕ, _+_, _-_}
 use native.Mathlib.Omega.{arith}
 use native.Mathlib.Numerals.{add-one}
+use mathlib.Core.Bool.{Bool, true, false, _&&_}
 use mathlib.Core.Path.{_≡_, refl, ap, ap₂, _∙_}
-use lib.Dec.{eqb}
+use mathlib.Core.List.{[], _∷_}
+use lib.Dec.{leb, eqb}
 use lib.ListN.{length}
-use Rattle.model.specs.Lists.{tab, allOf, allPairs}
-use Rattle.model.specs.Ranges.{maxCuts}
+use Rattle.model.specs.Lists.{tab, all, allOf, allPairs}
+use Rattle.model.specs.Ranges.{maxVariables, maxConstraints, maxCuts, maxBudget}
 use Rattle.model.specs.Constraint.{inRange}
 use Rattle.model.specs.Search as model
 use Rattle.model.specs.Validity.{scalarsValid, constraintsValid, cutNumber, numbersValid, levelsValid, nestedValid}
 use Rattle.lists.proofs.Tab.{length-tab, tab-ext-0}
 use Rattle.layout.specs.Rows.{rowAt}
+use Rattle.layout.specs.Sizes.{sizesFit}
 use Rattle.state.specs.View.{levelsFrom, keptCuts, storedNumber, coreWith, coreOf, view}
 use Rattle.state.specs.declared.Search.{Search}
 use Rattle.state.proofs.Cores.{kept-rows, length-levels}
 use Rattle.validate.specs.Sizes.{sizesValid, numberFrom}
 use Rattle.validate.proofs.Numbers.{numbersTo}
 use Rattle.validate.proofs.LevelLoops.{levelsTo, nestedTo}
+
+regrouped : (a b c d e : Bool) → (a && (b && (c && (d && e)))) ≡ ((a && (b && (c && (d && true)))) && e)
+regrouped false b c d e = refl
+regrouped true false c d e = refl
+regrouped true true false d e = refl
+regrouped true true true false e = refl
+regrouped true true true true e = refl
 
 module _ (s : Search) where
   cuts-length : length (coreOf s .cuts) ≡ keptCuts (s .made)
@@ -29,8 +39,10 @@ module _ (s : Search) where
   stored = refl
 
   pub sizes-view : scalarsValid (view s) ≡ sizesValid (s .n) (s .m) (s .budget) (s .conflicts) (s .made) (s .depth)
-  unfolding scalarsValid sizesValid view model.depth coreOf coreWith
-  sizes-view = rw (length-tab (rowAt (s .n) (s .rows)) 0 (s .m), length-levels (s .n) (s .levels) (s .depth))
+  unfolding scalarsValid sizesValid sizesFit all view model.depth coreOf coreWith
+  sizes-view =
+      rw (length-tab (rowAt (s .n) (s .rows)) 0 (s .m), length-levels (s .n) (s .levels) (s .depth))
+      (regrouped (leb 1 (s .n)) (leb (s .n) maxVariables) (leb (s .m) maxConstraints) (leb (s .budget) maxBudget) (all (leb (s .depth) (s .n) ∷ leb (s .conflicts) (s .budget) ∷ leb (s .made) (s .conflicts) ∷ [])))
 
   pub constraints-view : constraintsValid (coreOf s) ≡ allOf inRange (tab (rowAt (s .n) (s .rows)) 0 (s .m + keptCuts (s .made)))
   unfolding constraintsValid coreOf

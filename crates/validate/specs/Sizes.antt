@@ -1,22 +1,15 @@
 -- The sizes and counters of a search state, and the numbers of its cuts.
 use Prim.Native.Nat.{ℕ, _+_}
-use mathlib.Core.Bool.{Bool}
+use mathlib.Core.Bool.{Bool, _&&_}
 use mathlib.Core.List.{[], _∷_}
 use lib.Dec.{leb}
 use Rattle.model.specs.Lists.{all}
-use Rattle.model.specs.Ranges.{maxVariables, maxConstraints, maxBudget}
+use Rattle.model.specs.Ranges.{maxConstraints, maxBudget}
+use Rattle.layout.specs.Sizes.{sizesFit}
 
 unfoldable pub sizesValid : ℕ → ℕ → ℕ → ℕ → ℕ → ℕ → Bool
 sizesValid n m budget conflicts made depth =
-    all (
-    leb 1 n ∷
-    leb n maxVariables ∷
-    leb m maxConstraints ∷
-    leb budget maxBudget ∷
-    leb depth n ∷
-    leb conflicts budget ∷
-    leb made conflicts ∷
-    [])
+    sizesFit n m budget && all (leb depth n ∷ leb conflicts budget ∷ leb made conflicts ∷ [])
 
 -- the largest number that a kept cut can have
 abbrev pub maxFirst : ℕ

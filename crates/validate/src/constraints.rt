@@ -1,4 +1,7 @@
 // The kept constraints of a search state, rows of 33 numbers: their ranges, and whether bounds falsify one of them.
+use layout::ROW;
+use layout::range::is_in_range;
+use linear::activity::is_falsified;
 ghost use mathlib.Core.Path.{_≡_};
 ghost use mathlib.Core.Bool.{true};
 ghost use Prim.Native.Nat.{_*_, _≤_};
@@ -10,8 +13,6 @@ ghost use Rattle.model.specs.Validity.{falsifies};
 ghost use Rattle.layout.specs.Rows.{rowLength, rowAt, boxOf};
 ghost use Rattle.linear.specs.Ranges.{BoxFits};
 
-const ROW_LENGTH: usize = 33;
-
 // Whether the constants and coefficients of the first `count` constraints are in range.
 pub fn are_constraints_valid(rows: &[i64], count: usize, n: usize) -> bool
     requires { ⌜ (n ≤ maxVariables) × (rowLength * count ≤ length (now rows)) ⌝ }
@@ -19,7 +20,7 @@ pub fn are_constraints_valid(rows: &[i64], count: usize, n: usize) -> bool
 {
     let mut j: usize = 0;
     while j < count {
-        if !compare::is_in_range(rows, ROW_LENGTH * j, n) {
+        if !is_in_range(rows, ROW * j, n) {
             return false;
         }
         j += 1;
@@ -42,7 +43,7 @@ pub fn is_any_falsified<'a>(
 {
     let mut j: usize = 0;
     while j < count {
-        if linear::activity::is_falsified(rows, ROW_LENGTH * j, lower, upper, n) {
+        if is_falsified(rows, ROW * j, lower, upper, n) {
             return true;
         }
         j += 1;

@@ -1,40 +1,15 @@
 // The levels of a search state: bounds, reasons, nesting and decisions.
+use layout::range::bounds_in_range;
+use state::Level;
 ghost use mathlib.Core.Path.{_≡_};
 ghost use Prim.Native.Nat.{_≤_};
 ghost use lib.ListN.{length};
 ghost use Rattle.model.specs.Lists.{tab, allOf};
-ghost use Rattle.model.specs.Ranges.{within, maxBound};
 ghost use Rattle.model.specs.Problem.{boundsInRange};
 ghost use Rattle.model.specs.Validity.{reasonValid, reasonsValid, levelValid, inside, boxInside, decisionValid};
 ghost use Rattle.layout.specs.Rows.{boxOf};
 ghost use Rattle.state.specs.View.{reasonOf, reasonsIn, levelOf};
 ghost use Rattle.validate.specs.Nested.{nestedIn};
-use state::Level;
-
-const MAX_BOUND: i64 = 1048576;
-
-// Whether a bound is in its range, −2^20 to 2^20.
-fn is_small(v: i64) -> bool
-    ensures { λ r. ⌜ r ≡ within maxBound v ⌝ }
-{
-    if v < -MAX_BOUND {
-        return false;
-    }
-    v <= MAX_BOUND
-}
-
-// Whether the bounds of a variable are in range, and L is not above U.
-fn are_bounds_in_range(lower: i64, upper: i64) -> bool
-    ensures { λ r. ⌜ r ≡ boundsInRange (record { lower = lower; upper = upper }) ⌝ }
-{
-    if !is_small(lower) {
-        return false;
-    }
-    if !is_small(upper) {
-        return false;
-    }
-    lower <= upper
-}
 
 fn is_box_in_range<'a>(lower: &'a [i64], upper: &'a [i64], n: usize) -> bool
     requires { ⌜ (n ≤ length (now lower)) × (n ≤ length (now upper)) ⌝ }
@@ -42,7 +17,7 @@ fn is_box_in_range<'a>(lower: &'a [i64], upper: &'a [i64], n: usize) -> bool
 {
     let mut i: usize = 0;
     while i < n {
-        if !are_bounds_in_range(lower[i], upper[i]) {
+        if !bounds_in_range(lower[i], upper[i]) {
             return false;
         }
         i += 1;

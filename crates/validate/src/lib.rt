@@ -3,6 +3,8 @@ ghost use mathlib.Core.Path.{_≡_};
 ghost use Rattle.model.specs.Validity.{valid};
 ghost use Rattle.state.specs.View.{view};
 use state::Search;
+use state::kept::dropped;
+use state::kept::kept_cuts;
 
 pub mod constraints;
 pub mod levels;
@@ -18,12 +20,12 @@ pub fn is_valid(s: Search) -> bool
         return false;
     }
     let n = s.n;
-    let kept = scalars::kept_cuts(s.made);
+    let kept = kept_cuts(s.made);
     let count = s.m + kept;
     if !constraints::are_constraints_valid(&s.rows, count, n) {
         return false;
     }
-    let first = s.m + scalars::dropped_cuts(s.made) + 1;
+    let first = s.m + dropped(s.made) + 1;
     if !scalars::are_numbers_valid(&s.numbers, first, kept) {
         return false;
     }

@@ -1,20 +1,13 @@
 // The sizes and counters of a search state, and the numbers of its kept cuts.
+use layout::range::sizes_in_range;
 ghost use mathlib.Core.Path.{_≡_};
-ghost use Prim.Native.Nat.{_+_, _-_, _≤_};
+ghost use Prim.Native.Nat.{_≤_};
 ghost use lib.Dec.{eqb};
 ghost use lib.ListN.{length};
 ghost use Rattle.model.specs.Ranges.{maxCuts};
 ghost use Rattle.model.specs.Lists.{tab, allPairs};
-ghost use Rattle.state.specs.View.{keptCuts, storedNumber};
+ghost use Rattle.state.specs.View.{storedNumber};
 ghost use Rattle.validate.specs.Sizes.{sizesValid, numberFrom, maxFirst};
-
-const MAX_VARIABLES: usize = 32;
-
-const MAX_CONSTRAINTS: usize = 64;
-
-const MAX_CUTS: usize = 64;
-
-const MAX_BUDGET: usize = 1000000000;
 
 // Whether n, m, B, the dead ends, the cuts made and the depth are in range.
 pub fn are_sizes_valid(
@@ -27,16 +20,7 @@ pub fn are_sizes_valid(
 ) -> bool
     ensures { λ r. ⌜ r ≡ sizesValid n m budget conflicts made depth ⌝ }
 {
-    if n < 1 {
-        return false;
-    }
-    if MAX_VARIABLES < n {
-        return false;
-    }
-    if MAX_CONSTRAINTS < m {
-        return false;
-    }
-    if MAX_BUDGET < budget {
+    if !sizes_in_range(n, m, budget) {
         return false;
     }
     if n < depth {
@@ -46,26 +30,6 @@ pub fn are_sizes_valid(
         return false;
     }
     made <= conflicts
-}
-
-// How many cuts are kept.
-pub fn kept_cuts(made: usize) -> usize
-    ensures { λ r. ⌜ (r ≡ keptCuts made) × (r ≤ maxCuts) ⌝ }
-{
-    if made < MAX_CUTS {
-        return made;
-    }
-    MAX_CUTS
-}
-
-// How many cuts were made and are no longer kept.
-pub fn dropped_cuts(made: usize) -> usize
-    ensures { λ r. ⌜ r ≡ made - maxCuts ⌝ }
-{
-    if made < MAX_CUTS {
-        return 0;
-    }
-    made - MAX_CUTS
 }
 
 // Whether the first `count` stored numbers follow one another from `first` on.

@@ -40,8 +40,8 @@ copy-to-requires-2 c κs =
     let p = c .before .before .before .before .before .before .before .pre in
     (omega (arith, c .before .before .before .before .before .before .kept-count .ensures, p .inputs, p .tracked .reachRoom), omega (arith, c .before .before .before .before .before .before .kept-count .ensures, p .inputs, p .deep, p .room .limitsLong))
 
-gone-requires : tie.Need-gone-requires
-gone-requires c κs = search needs
+dropped-requires : tie.Need-dropped-requires
+dropped-requires c κs = search needs
 
 mul-gones : tie.Need-mul-gones
 mul-gones c = search needs
@@ -95,7 +95,7 @@ returns c =
               countsLong = length-set (now (a .counts)) _ _ ∙ p .room .countsLong;
             };
         saved = λ levels here l u h v.
-            rw (k, c .before .before .before .before .before .gone .ensures)
+            rw (k, c .before .before .before .before .before .dropped .ensures)
             (saved-decided _ _ _ _ levels here _ _ _ _ _ _ _ _ _ (p .inputs) h (omega (arith, p .room .gonesLong, p .deep)) (omega (arith, p .room .countsLong, p .deep)) (rw (l, u) (p .tracked)) x y v);
       },
     )
@@ -108,7 +108,7 @@ decide-spec =
     mul-at
     copy-to-requires
     copy-to-requires-2
-    gone-requires
+    dropped-requires
     mul-gones
     element-write-gones
     mul-counts

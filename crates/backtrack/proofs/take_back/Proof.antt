@@ -8,18 +8,16 @@ use lib.IntN.{pos}
 use lib.ListN.{getD}
 use Rattle.integer.specs.Tests.{back}
 use Rattle.layout.specs.Rows.{numberIn}
-use Rattle.state.specs.View.{keptCuts}
+use Rattle.state.specs.View.{keptCuts, droppedCuts}
 use Rattle.propagate.specs.Tracked.{Known, Tracked}
 use Rattle.propagate.proofs.Tracking.{tracked-more, tracked-some}
-use Rattle.backtrack.specs.Saved.{placeOf, goneOf}
+use Rattle.backtrack.specs.Saved.{placeOf}
 use borrow.Author.Needs.{needs}
 use Rattle.backtrack.proofs.take_back.Statement.{statement}
 use Rattle.backtrack.proofs.take_back.Tie as tie
 use Rattle.backtrack.proofs.take_back.Reads as reads
 use Rattle.backtrack.proofs.take_back.Lts as lts
-use Rattle.backtrack.proofs.gone.Reads as gone-reads
 use Rattle.backtrack.proofs.place.Reads as place-reads
-use Rattle.propagate.proofs.propagate.kept_count.Reads as kept-count-reads
 
 abbrev Inv-loop : tie.InvT-loop
 Inv-loop n rows lower upper m made earlier count t olds limits activities₀ reaches₀ kept by at j₀ activities reaches j =
@@ -31,11 +29,11 @@ abbrev μ-loop : tie.MeasureT-loop
 kept-count-requires : tie.Need-kept-count-requires Inv-loop μ-loop
 kept-count-requires c κs = c .pre .1 .0
 
-gone-requires : tie.Need-gone-requires Inv-loop μ-loop
-gone-requires c κs = tt
+dropped-requires : tie.Need-dropped-requires Inv-loop μ-loop
+dropped-requires c κs = tt
 
 sub-by : tie.Need-sub-by Inv-loop μ-loop
-sub-by c = omega (arith, c .gone .ensures, c .before .before .pre .0 .order)
+sub-by c = omega (arith, c .dropped .ensures, c .before .before .pre .0 .order)
 
 mul-at : tie.Need-mul-at Inv-loop μ-loop
 mul-at c = record { fits = omega (arith, c .before .before .pre .1 .1 .1 .0) }
@@ -46,7 +44,7 @@ loop-holds c = (omega arith, c .before .before .pre .1 .1 .1 .1)
 place-requires : tie.Need-place-requires Inv-loop μ-loop
 place-requires c κs =
     let s = c .before .before .before .before in
-    (unfold keptCuts in omega (arith, c .loop-test .taken, c .before .before .before .kept-count .ensures, s .pre .1 .0), omega (arith, c .before .before .gone .ensures, s .pre .1 .1 .0))
+    (unfold keptCuts in omega (arith, c .loop-test .taken, c .before .before .before .kept-count .ensures, s .pre .1 .0), omega (arith, c .before .before .dropped .ensures, s .pre .1 .1 .0))
 
 returns : tie.Need-returns Inv-loop μ-loop
 returns c = c .before .before .before .loop .inv
@@ -108,7 +106,7 @@ known c =
     let s = l .before .before .before in
     let a = s .args in
     let h = c .before .before .before .before .loop-test .taken in
-    let e : placed .place .result ≡ placeOf (a .m) (goneOf (a .made) - a .earlier) (l .loop .j) = rw (l .before .gone .ensures) at (placed .place .ensures) in
+    let e : placed .place .result ≡ placeOf (a .m) (droppedCuts (a .made) - a .earlier) (l .loop .j) = rw (l .before .dropped .ensures) at (placed .place .ensures) in
     rw e (s .pre .0 .at (l .loop .j) (omega (arith, h, l .before .before .kept-count .ensures)) (omega (arith, e, c .before .before .if1 .left)))
 
 loop-again : tie.Need-loop-again Inv-loop μ-loop
@@ -136,7 +134,7 @@ take-back-spec =
     Inv-loop
     μ-loop
     kept-count-requires
-    gone-requires
+    dropped-requires
     sub-by
     mul-at
     loop-holds

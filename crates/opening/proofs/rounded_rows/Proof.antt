@@ -5,7 +5,7 @@ use mathlib.Core.Path.{_≡_}
 use borrow.Author.Needs.{needs}
 use lib.IntN.{pos}
 use lib.ListN.{replicate, length-replicate}
-use Rattle.rows.specs.Rows.{rowsLength}
+use Rattle.layout.specs.Rows.{rowsLength}
 use Rattle.opening.specs.Rounded.{RowsRounded}
 use Rattle.opening.proofs.Rows.{row-light, round-none, all-rounded}
 use Rattle.opening.proofs.rounded_rows.Statement.{statement}

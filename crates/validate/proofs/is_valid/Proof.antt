@@ -42,8 +42,8 @@ are-constraints-valid-requires c κs =
 returns-2 : tie.Need-returns-2 Inv-loop μ-loop
 returns-2 c = search (needs, refuse-constraints)
 
-dropped-cuts-requires : tie.Need-dropped-cuts-requires Inv-loop μ-loop
-dropped-cuts-requires c κs = search needs
+dropped-requires : tie.Need-dropped-requires Inv-loop μ-loop
+dropped-requires c κs = search needs
 
 add-first : tie.Need-add-first Inv-loop μ-loop
 add-first c =
@@ -92,7 +92,7 @@ returns-4 c =
     let e₃ = c .before .before .before .before in
     let e₂ = e₃ .before .before .before .before .before .before in
     let e₁ = e₂ .before .before .before .before .before .before in
-    let left = rows-passed (e₁ .before .before .args .t1) _ (e₁ .before .are-sizes-valid .ensures) (e₁ .if1 .left) _ (e₂ .before .before .before .before .before .kept-cuts .ensures .0) _ (e₂ .before .are-constraints-valid .ensures) (e₂ .if2 .left) _ (e₃ .before .before .before .before .before .dropped-cuts .ensures) _ (e₃ .before .are-numbers-valid .ensures) (e₃ .if3 .left) in
+    let left = rows-passed (e₁ .before .before .args .t1) _ (e₁ .before .are-sizes-valid .ensures) (e₁ .if1 .left) _ (e₂ .before .before .before .before .before .kept-cuts .ensures .0) _ (e₂ .before .are-constraints-valid .ensures) (e₂ .if2 .left) _ (e₃ .before .before .before .before .before .dropped .ensures) _ (e₃ .before .are-numbers-valid .ensures) (e₃ .if3 .left) in
     refuse-first _ _ (c .before .before .whole .ensures .0) _ (c .before .is-level-valid .ensures) left (c .if4 .taken)
 
 loop-holds : tie.Need-loop-holds Inv-loop μ-loop
@@ -101,7 +101,7 @@ loop-holds c =
     let e₃ = c .before .before .before .before in
     let e₂ = e₃ .before .before .before .before .before .before in
     let e₁ = e₂ .before .before .before .before .before .before in
-    let left = rows-passed (e₁ .before .before .args .t1) _ (e₁ .before .are-sizes-valid .ensures) (e₁ .if1 .left) _ (e₂ .before .before .before .before .before .kept-cuts .ensures .0) _ (e₂ .before .are-constraints-valid .ensures) (e₂ .if2 .left) _ (e₃ .before .before .before .before .before .dropped-cuts .ensures) _ (e₃ .before .are-numbers-valid .ensures) (e₃ .if3 .left) in
+    let left = rows-passed (e₁ .before .before .args .t1) _ (e₁ .before .are-sizes-valid .ensures) (e₁ .if1 .left) _ (e₂ .before .before .before .before .before .kept-cuts .ensures .0) _ (e₂ .before .are-constraints-valid .ensures) (e₂ .if2 .left) _ (e₃ .before .before .before .before .before .dropped .ensures) _ (e₃ .before .are-numbers-valid .ensures) (e₃ .if3 .left) in
     let z = sizes-passed _ _ (e₁ .before .are-sizes-valid .ensures) (e₁ .if1 .left) in
     let w = c .before .before .whole .ensures in
     first-reached _ _ (w .0) _ (c .before .is-level-valid .ensures) left (c .if4 .left) z (w .1)
@@ -175,7 +175,7 @@ is-valid-spec =
     add-count
     are-constraints-valid-requires
     returns-2
-    dropped-cuts-requires
+    dropped-requires
     add-first
     add-first-2
     are-numbers-valid-requires

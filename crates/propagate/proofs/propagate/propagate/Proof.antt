@@ -8,7 +8,7 @@ use borrow.Author.Needs.{needs}
 use denote.Ref.{now}
 use Rattle.model.specs.Move.{Move, newLower, newUpper, conflict, firstImprovement, nextMove, slack}
 use Rattle.layout.specs.Rows.{boxOf}
-use Rattle.state.specs.View.{keptCuts}
+use Rattle.state.specs.View.{keptCuts, numberFor}
 use Rattle.propagate.proofs.Looping.{Loop, ready-at, loop-set}
 use Rattle.propagate.proofs.Scans.{next-conflict, next-improvement, next-open}
 use Rattle.propagate.proofs.Steps.{answer, Next, scan-fits, stop-answer, raise-next, raise-better, raise-rise, raise-settable, lower-next, lower-better, lower-fall, lower-settable}
@@ -19,7 +19,7 @@ use mir.Val.{SFits}
 use mathlib.Core.Option.{some}
 use Rattle.propagate.specs.Moves.{foundOf, stopOf}
 use Rattle.propagate.specs.declared.propagate.Found.the-variants.{Conflict, Decide}
-use Rattle.propagate.specs.Propagation.{numberFor, propagationOf}
+use Rattle.propagate.specs.Propagation.{propagationOf}
 use Rattle.propagate.specs.Ready.{keptRows}
 use Rattle.propagate.specs.Tracked.{Tracked}
 use Rattle.state.specs.Change.{held, raised, lowered}
@@ -31,8 +31,6 @@ use Rattle.propagate.proofs.bounds.lower_upper.Reads as lower-upper-rea
 use Rattle.propagate.proofs.bounds.raise_lower.Reads as raise-lower-reads
 use Rattle.propagate.proofs.masks.open_mask.Reads as open-mask-reads
 use Rattle.propagate.proofs.propagate.decide_or_finish.Reads as decide-or-finish-reads
-use Rattle.propagate.proofs.propagate.kept_count.Reads as kept-count-reads
-use Rattle.propagate.proofs.propagate.number_at.Reads as number-at-reads
 use Rattle.propagate.proofs.scan.first_improvement.Reads as first-improvement-reads
 
 abbrev Inv-loop : tie.InvT-loop
@@ -116,10 +114,10 @@ raise-level c d =
     let l = c .before .before .before .before .before .before .before .before .before in
     raise-next _ _ _ _ (held (l .loop .lower) (l .loop .upper) (l .loop .below) (l .loop .above) d) (ready-at d (l .loop .inv .ready)) _ _ _ (raise-move c)
 
-number-at-requires : tie.Need-number-at-requires Inv-loop μ-loop
-number-at-requires c κs =
+number-of-requires : tie.Need-number-of-requires Inv-loop μ-loop
+number-of-requires c κs =
     let v = c .before .before .before .before .before .before .before .before .before .loop .inv .ready in
-    (v .cuts, unfold keptCuts in omega (arith, raise-level c 0 .constraint, v .inputs))
+    (unfold keptCuts in omega (arith, raise-level c 0 .constraint, v .inputs), v .cuts)
 
 raise-lower-requires : tie.Need-raise-lower-requires Inv-loop μ-loop
 raise-lower-requires c κs =
@@ -144,7 +142,7 @@ loop-again c =
     let g = t .before .better .given .0 in
     let v : SFits w64 (g .1 .1 .0) = search needs in
     let e = rw (toZ-ofZ v, l .before .before .before .before .kept-count .ensures) at (c .raise-lower .ensures .1) in
-    rw (c .raise-lower .ensures .0 .bound, c .raise-lower .ensures .0 .cause, c .before .before .before .before .number-at .ensures, toZ-ofZ v)
+    rw (c .raise-lower .ensures .0 .bound, c .raise-lower .ensures .0 .cause, c .before .before .before .before .number-of .ensures, toZ-ofZ v)
     (loop-set _ _ _ _ _ _ _ _ _ _ _ _ _ _ _ _ (l .loop .inv) _ _ _ _ _ _ (g .1 .0) (g .0) _ _ _ (raise-level t) (tracked (t .before .before .before))
     (raised-closes (a .n) _ _ _ (g .1 .0) (g .1 .1 .0) (raise-level t 0 .variable) (omega (arith, l .loop .inv .ready .few, l .loop .inv .ready .whole .lower)) (raise-better _ _ _ _ (held (l .loop .lower) (l .loop .upper) (l .loop .below) (l .loop .above) 0) (l .loop .inv .ready) _ _ _ (raise-move t))) e)
 
@@ -170,10 +168,10 @@ lower-level c d =
     let l = c .before .before .before .before .before .before .before .before .before in
     lower-next _ _ _ _ (held (l .loop .lower) (l .loop .upper) (l .loop .below) (l .loop .above) d) (ready-at d (l .loop .inv .ready)) _ _ _ (lower-move c)
 
-number-at-requires-2 : tie.Need-number-at-requires-2 Inv-loop μ-loop
-number-at-requires-2 c κs =
+number-of-requires-2 : tie.Need-number-of-requires-2 Inv-loop μ-loop
+number-of-requires-2 c κs =
     let v = c .before .before .before .before .before .before .before .before .before .loop .inv .ready in
-    (v .cuts, unfold keptCuts in omega (arith, lower-level c 0 .constraint, v .inputs))
+    (unfold keptCuts in omega (arith, lower-level c 0 .constraint, v .inputs), v .cuts)
 
 lower-upper-requires : tie.Need-lower-upper-requires Inv-loop μ-loop
 lower-upper-requires c κs =
@@ -198,7 +196,7 @@ loop-again-2 c =
     let g = t .before .better2 .given .0 in
     let v : SFits w64 (g .1 .1 .0) = search needs in
     let e = rw (toZ-ofZ v, l .before .before .before .before .kept-count .ensures) at (c .lower-upper .ensures .1) in
-    rw (c .lower-upper .ensures .0 .bound, c .lower-upper .ensures .0 .cause, c .before .before .before .before .number-at2 .ensures, toZ-ofZ v)
+    rw (c .lower-upper .ensures .0 .bound, c .lower-upper .ensures .0 .cause, c .before .before .before .before .number-of2 .ensures, toZ-ofZ v)
     (loop-set _ _ _ _ _ _ _ _ _ _ _ _ _ _ _ _ (l .loop .inv) _ _ _ _ _ _ (g .1 .0) (g .0) _ _ _ (lower-level t) (tracked (t .before .before .before))
     (lowered-closes (a .n) _ _ _ (g .1 .0) (g .1 .1 .0) (lower-level t 0 .variable) (omega (arith, l .loop .inv .ready .few, l .loop .inv .ready .whole .upper)) (lower-better _ _ _ _ (held (l .loop .lower) (l .loop .upper) (l .loop .below) (l .loop .above) 0) (l .loop .inv .ready) _ _ _ (lower-move t))) e)
 
@@ -249,12 +247,12 @@ propagate-spec =
     loop-holds
     first-improvement-requires
     enum-known-better
-    number-at-requires
+    number-of-requires
     raise-lower-requires
     loop-less
     loop-again
     enum-known-better-2
-    number-at-requires-2
+    number-of-requires-2
     lower-upper-requires
     loop-less-2
     loop-again-2

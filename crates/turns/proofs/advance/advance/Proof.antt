@@ -14,12 +14,12 @@ use lib.Seq.{set-set, getD-set-same}
 use Rattle.model.specs.Move.{Move, decide, finish, conflict, slack}
 use Rattle.lists.proofs.Bools.{clash}
 use Rattle.layout.specs.Rows.{numberIn, boxOf}
-use Rattle.state.specs.View.{levelOf, noLevel, view}
+use Rattle.state.specs.View.{levelOf, noLevel, view, numberFor}
 use Rattle.state.specs.Change.{Whole, held}
 use Rattle.state.specs.declared.Level.{Level}
 use Rattle.state.specs.declared.Status.the-variants.{Undecided}
 use Rattle.propagate.specs.Moves.{stopOf}
-use Rattle.propagate.specs.Propagation.{propagation, numberFor, propagationOf}
+use Rattle.propagate.specs.Propagation.{propagation, propagationOf}
 use Rattle.propagate.specs.Ready.{keptRows}
 use Rattle.propagate.proofs.Steps.{scan-fits}
 use Rattle.backtrack.proofs.Saving.{saved-none}

@@ -40,7 +40,7 @@ returns c =
       learned = l .ensures .0;
       marked = l .ensures .1;
       jump = c .before .before .before .before .before .before .backjump-level .ensures;
-      numbered = c .before .before .before .before .before .before .before .before .before .before .before .before .before .before .before .before .number-of .ensures _;
+      numbered = c .before .before .before .before .before .before .before .before .before .before .before .before .before .before .before .before .number-of .ensures;
       written = c .before .before .emit .ensures;
     }
 

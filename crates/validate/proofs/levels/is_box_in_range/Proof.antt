@@ -19,22 +19,22 @@ abbrev μ-loop : tie.MeasureT-loop
 loop-holds : tie.Need-loop-holds Inv-loop μ-loop
 loop-holds c = search (needs, box-none)
 
-mul-are-bounds-in-range : tie.Need-mul-are-bounds-in-range Inv-loop μ-loop
-mul-are-bounds-in-range c = search needs
+mul-bounds-in-range : tie.Need-mul-bounds-in-range Inv-loop μ-loop
+mul-bounds-in-range c = search needs
 
-shared-slice-copy-out-are-bounds-in-range :
-    tie.Need-shared-slice-copy-out-are-bounds-in-range Inv-loop μ-loop
-shared-slice-copy-out-are-bounds-in-range c = search needs
+shared-slice-copy-out-bounds-in-range :
+    tie.Need-shared-slice-copy-out-bounds-in-range Inv-loop μ-loop
+shared-slice-copy-out-bounds-in-range c = search needs
 
-mul-are-bounds-in-range-2 : tie.Need-mul-are-bounds-in-range-2 Inv-loop μ-loop
-mul-are-bounds-in-range-2 c = search needs
+mul-bounds-in-range-2 : tie.Need-mul-bounds-in-range-2 Inv-loop μ-loop
+mul-bounds-in-range-2 c = search needs
 
-shared-slice-copy-out-are-bounds-in-range-2 :
-    tie.Need-shared-slice-copy-out-are-bounds-in-range-2 Inv-loop μ-loop
-shared-slice-copy-out-are-bounds-in-range-2 c = search needs
+shared-slice-copy-out-bounds-in-range-2 :
+    tie.Need-shared-slice-copy-out-bounds-in-range-2 Inv-loop μ-loop
+shared-slice-copy-out-bounds-in-range-2 c = search needs
 
-are-bounds-in-range-requires : tie.Need-are-bounds-in-range-requires Inv-loop μ-loop
-are-bounds-in-range-requires c κs = search needs
+bounds-in-range-requires : tie.Need-bounds-in-range-requires Inv-loop μ-loop
+bounds-in-range-requires c κs = search needs
 
 returns : tie.Need-returns Inv-loop μ-loop
 returns c = search (needs, box-fails)
@@ -58,11 +58,11 @@ is-box-in-range-spec =
     Inv-loop
     μ-loop
     loop-holds
-    mul-are-bounds-in-range
-    shared-slice-copy-out-are-bounds-in-range
-    mul-are-bounds-in-range-2
-    shared-slice-copy-out-are-bounds-in-range-2
-    are-bounds-in-range-requires
+    mul-bounds-in-range
+    shared-slice-copy-out-bounds-in-range
+    mul-bounds-in-range-2
+    shared-slice-copy-out-bounds-in-range-2
+    bounds-in-range-requires
     returns
     add-i
     loop-less

@@ -1,0 +1,72 @@
+// The ranges of document 01, tested on numbers.
+use crate::MAX_BOUND;
+use crate::MAX_BUDGET;
+use crate::MAX_COEFFICIENT;
+use crate::MAX_CONSTRAINTS;
+use crate::MAX_VARIABLES;
+ghost use mathlib.Core.Path.{_≡_};
+ghost use Prim.Native.Nat.{_+_, _<_};
+ghost use lib.ListN.{length};
+ghost use Rattle.model.specs.Ranges.{within};
+ghost use Rattle.model.specs.Problem.{boundsInRange};
+ghost use Rattle.model.specs.Constraint.{inRange};
+ghost use Rattle.layout.specs.Rows.{constraintAt};
+ghost use Rattle.layout.specs.Sizes.{sizesFit};
+
+// Whether n, m and the budget are within their limits.
+pub fn sizes_in_range(n: usize, m: usize, budget: usize) -> bool
+    ensures { λ r. ⌜ r ≡ sizesFit n m budget ⌝ }
+{
+    if n < 1 {
+        return false;
+    }
+    if MAX_VARIABLES < n {
+        return false;
+    }
+    if MAX_CONSTRAINTS < m {
+        return false;
+    }
+    budget <= MAX_BUDGET
+}
+
+// Whether a number is from −limit to limit.
+fn is_within(limit: u32, number: i64) -> bool
+    ensures { λ r. ⌜ r ≡ within limit number ⌝ }
+{
+    let most = limit as i64;
+    if number < -most {
+        return false;
+    }
+    number <= most
+}
+
+// Whether the bounds of a variable are in range, the lower not above the upper.
+pub fn bounds_in_range(lower: i64, upper: i64) -> bool
+    ensures { λ r. ⌜ r ≡ boundsInRange (record { lower = lower; upper = upper }) ⌝ }
+{
+    if !is_within(MAX_BOUND, lower) {
+        return false;
+    }
+    if !is_within(MAX_BOUND, upper) {
+        return false;
+    }
+    lower <= upper
+}
+
+// Whether the constraint of n variables whose row starts at `start` is in range: its constant and its coefficients.
+pub fn is_in_range<'a>(rows: &'a [i64], start: usize, n: usize) -> bool
+    requires { ⌜ start + n < length (now rows) ⌝ }
+    ensures { λ r. ⌜ r ≡ inRange (constraintAt n (now (rows .entry)) start) ⌝ }
+{
+    if !is_within(MAX_COEFFICIENT, rows[start]) {
+        return false;
+    }
+    let mut i: usize = 0;
+    while i < n {
+        if !is_within(MAX_COEFFICIENT, rows[start + 1 + i]) {
+            return false;
+        }
+        i += 1;
+    }
+    true
+}
