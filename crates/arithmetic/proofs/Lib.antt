@@ -1,2 +1,2 @@
--- Laws for this program's proofs.
-pub mod Bounds
+-- What the functions that the program calls ask of literal arrays.
+pub mod Literal

@@ -1,5 +1,4 @@
 // Document 01's 'combining' F with J at a variable. F and J lie in rows of 33 numbers, the constant first.
-use crate::rounding::round;
 use integer::gcd;
 use integer::magnitude;
 ghost use mathlib.Core.Path.{_≡_};
@@ -7,7 +6,7 @@ ghost use Prim.Native.Nat.{_≤_};
 ghost use lib.IntN.{pos, _+ℤ_, _*ℤ_};
 ghost use lib.ListN.{length};
 ghost use Rattle.model.specs.Ranges.{maxCoefficient};
-ghost use Rattle.model.specs.Constraint.{combination, resolvent, opposite};
+ghost use Rattle.model.specs.Constraint.{combination, opposite};
 ghost use Rattle.integer.specs.Size.{Within};
 ghost use Rattle.layout.specs.Rows.{rowLength, constraintAt};
 ghost use Rattle.linear.specs.Resolvable.{Combinable, Resolvable, Combined};
@@ -73,21 +72,4 @@ pub fn combine_at<'a>(
     let b = magnitude(rows[start + 1 + i]);
     let g = gcd(a, b);
     combine(f, at, rows, start, b / g, a / g, n, r);
-}
-
-// 'Combining' at variable i, rounded. 0 past the first n coefficients.
-pub fn resolve<'a>(
-    f: &'a [i64],
-    at: usize,
-    rows: &'a [i64],
-    start: usize,
-    i: usize,
-    n: usize,
-) -> [i64; 33]
-    requires { ⌜ Resolvable i n (now f) at (now rows) start ⌝ }
-    ensures { λ r. ⌜ constraintAt n r 0 ≡ resolvent i (constraintAt n (now (f .entry)) at) (constraintAt n (now (rows .entry)) start) ⌝ }
-{
-    let mut r = [0i64; 33];
-    combine_at(f, at, rows, start, i, n, &mut r);
-    round(r, n)
 }

@@ -1,5 +1,6 @@
 // Journal records ('Journal block'): the 512 bytes of a record, written into a part of a lent buffer.
 use block::build;
+use block::journal;
 ghost use mathlib.Core.Path.{_≡_};
 ghost use mathlib.Core.Bool.{true};
 ghost use Prim.Native.Nat.{_+_, _*_, _≤_};
@@ -12,23 +13,6 @@ ghost use Rattle.record.specs.Written.{recordOf, headPlace, cutPlace, co
 
 // The letters DEAD as a 32-bit number, least byte first.
 const MAGIC: usize = 1145128260;
-
-// Where the fields stand.
-const COUNT: usize = 4;
-
-const FALSIFIED: usize = 8;
-
-const NUMBER: usize = 12;
-
-const DEPTH: usize = 16;
-
-const BACK: usize = 18;
-
-const CONSTANT: usize = 20;
-
-const COEFFICIENTS: usize = 24;
-
-const USED: usize = 152;
 
 // How many coefficients a record holds.
 const VARIABLES: usize = 32;
@@ -45,11 +29,11 @@ fn put_head(
     requires { ⌜ length (now out) ≡ blockLength ⌝ }
     ensures { λ r. ⌜ Placed (now (out .entry)) headPlace cutPlace (headOf count falsified number depth back) (now (out .exit)) ⌝ }
 {
-    build::put_u32(out, COUNT, count);
-    build::put_u32(out, FALSIFIED, falsified);
-    build::put_u32(out, NUMBER, number);
-    build::put_u16(out, DEPTH, depth);
-    build::put_u16(out, BACK, back);
+    build::put_u32(out, journal::COUNT, count);
+    build::put_u32(out, journal::FALSIFIED, falsified);
+    build::put_u32(out, journal::NUMBER, number);
+    build::put_u16(out, journal::DEPTH, depth);
+    build::put_u16(out, journal::BACK, back);
 }
 
 // The cut's coefficients.
@@ -59,7 +43,7 @@ fn put_coefficients(out: &mut [u8], cut: &[i64; 33])
 {
     let mut i: usize = 0;
     while i < VARIABLES {
-        build::put_i32(out, COEFFICIENTS + 4 * i, cut[1 + i]);
+        build::put_i32(out, journal::COEFFICIENTS + 4 * i, cut[1 + i]);
         i += 1;
     }
 }
@@ -69,7 +53,7 @@ fn put_cut(out: &mut [u8], cut: &[i64; 33])
     requires { ⌜ (length (now out) ≡ blockLength) × CutFits (now cut) ⌝ }
     ensures { λ r. ⌜ Placed (now (out .entry)) cutPlace usedPlace (cutOf (now (cut .entry))) (now (out .exit)) ⌝ }
 {
-    build::put_i32(out, CONSTANT, cut[0]);
+    build::put_i32(out, journal::CONSTANT, cut[0]);
     put_coefficients(out, cut);
 }
 
@@ -80,7 +64,7 @@ fn put_used(out: &mut [u8], used: &[usize; 32])
 {
     let mut i: usize = 0;
     while i < VARIABLES {
-        build::put_u32(out, USED + 4 * i, used[i]);
+        build::put_u32(out, journal::USED + 4 * i, used[i]);
         i += 1;
     }
 }

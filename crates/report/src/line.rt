@@ -1,21 +1,11 @@
 // The lines of the program `verdict`, document 01's 'Writer and program'. Each function puts a line into a lent buffer from a place on and answers the
 // place after it.
 use crate::text;
+use block::journal;
 use block::number;
 ghost use Prim.Native.Nat.{_+_, _≤_};
 ghost use lib.ListN.{length};
 ghost use Rattle.report.specs.Room.{longestNumber, shownBytes, longestHalf, longestValue, longestValues, longestLine, Ends};
-
-// Where the numbers of a journal block stand, document 01's 'Journal block'.
-const COUNT_OFFSET: usize = 4;
-
-const CONSTRAINT_OFFSET: usize = 8;
-
-const CUT_OFFSET: usize = 12;
-
-const DEPTH_OFFSET: usize = 16;
-
-const BACKJUMP_OFFSET: usize = 18;
 
 // How many values `solution_line` is lent.
 const MAX_VARIABLES: usize = 32;
@@ -53,9 +43,9 @@ fn put_conflict(out: &mut [u8], at: usize, block: &[u8]) -> usize
     requires { ⌜ (at + longestHalf ≤ length (now out)) × (shownBytes ≤ length (now block)) ⌝ }
     ensures { λ r. ⌜ Ends longestHalf at r ⌝ }
 {
-    let count = number::u32_at(block, COUNT_OFFSET);
-    let constraint = number::u32_at(block, CONSTRAINT_OFFSET);
-    let cut = number::u32_at(block, CUT_OFFSET);
+    let count = number::u32_at(block, journal::COUNT);
+    let constraint = number::u32_at(block, journal::FALSIFIED);
+    let cut = number::u32_at(block, journal::NUMBER);
     let after_count = put_field(out, at, b"end ", count);
     let after_constraint = put_field(out, after_count, b" line ", constraint);
     put_field(out, after_constraint, b" cut ", cut)
@@ -66,8 +56,8 @@ fn put_backjump(out: &mut [u8], at: usize, block: &[u8]) -> usize
     requires { ⌜ (at + longestHalf ≤ length (now out)) × (shownBytes ≤ length (now block)) ⌝ }
     ensures { λ r. ⌜ Ends longestHalf at r ⌝ }
 {
-    let depth = number::u16_at(block, DEPTH_OFFSET);
-    let level = number::u16_at(block, BACKJUMP_OFFSET);
+    let depth = number::u16_at(block, journal::DEPTH);
+    let level = number::u16_at(block, journal::BACK);
     let after_depth = put_field(out, at, b" depth ", depth);
     put_last(out, after_depth, b" back ", level)
 }

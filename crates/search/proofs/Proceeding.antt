@@ -9,7 +9,8 @@ use Rattle.model.specs.Search as model
 use Rattle.model.specs.Step.{Verdict, goOn, noSolution, outOfBudget, solution, Outcome, blockIn, lowers, again, stepBy, step}
 use Rattle.model.specs.Trace.{Trace, withBlocks, lastTurn, advanced, advance, joined}
 use Rattle.validity.proofs.States.{core-fits, sizes-fit, depth-fits}
-use Rattle.validity.proofs.Steps.{Valid, step-valid, impossible}
+use Rattle.validity.specs.Valid.{Valid}
+use Rattle.validity.proofs.Steps.{step-valid, impossible}
 use Rattle.state.specs.View.{levelsFrom, coreWith, coreOf, statusOf, view}
 use Rattle.state.specs.declared.Search.{Search}
 use Rattle.state.specs.declared.Status.{Status}

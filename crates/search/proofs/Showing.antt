@@ -24,7 +24,7 @@ use Rattle.state.specs.View.{noLevel, levelOf, levelAt, coreWith, coreOf, view}
 use Rattle.state.specs.declared.Level.{Level}
 use Rattle.state.specs.declared.Search.{Search}
 use Rattle.state.proofs.Shape.{view-shaped}
-use Rattle.validity.proofs.Steps.{Valid}
+use Rattle.validity.specs.Valid.{Valid}
 use Rattle.turns.specs.Advancing.{verdictOf as modelVerdictOf, traceOf, Advances}
 use Rattle.turns.specs.declared.Ending.{Ending}
 use Rattle.turns.specs.declared.Ending.the-variants as ending

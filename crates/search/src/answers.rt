@@ -17,7 +17,7 @@ ghost use Rattle.layout.specs.Rows.{numberIn};
 ghost use Rattle.fields.specs.Fields.{filled};
 ghost use Rattle.state.specs.View.{noLevel, view};
 ghost use Rattle.turns.specs.Advancing.{Advances};
-ghost use Rattle.validity.proofs.Steps.{Valid};
+ghost use Rattle.validity.specs.Valid.{Valid};
 ghost use Rattle.search.specs.Opening.{blank as blankState};
 ghost use Rattle.search.specs.Answered.{answered, refusal, ranOf};
 

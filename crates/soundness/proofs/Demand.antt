@@ -22,7 +22,7 @@ use Rattle.integer.specs.Tests.{and-left, and-right}
 use Rattle.lists.proofs.Bools.{true-of}
 use Rattle.soundness.proofs.Sizes.{size, points-size, points-every, points-once}
 use Rattle.validity.proofs.States.{Every, Sizes, fits-shaped, fits-valid}
-use Rattle.validity.proofs.Steps.{Valid}
+use Rattle.validity.specs.Valid.{Valid}
 use Rattle.soundness.proofs.Turns.{Open}
 use Rattle.soundness.proofs.Runs.{ProblemFits, opened-fits, opened-open}
 use Rattle.soundness.proofs.Verdicts.{decides-with, same-verdict}

@@ -18,7 +18,8 @@ use Rattle.format.proofs.RecordCut.{length-record}
 use Rattle.model.specs.Trace.{Trace, withBlocks, lastTurn, advanced, advance}
 use Rattle.model.specs.Demand.{after, stateAfter, blocksIn, journal, turnsTogether}
 use Rattle.validity.proofs.States.{sizes-fit}
-use Rattle.validity.proofs.Steps.{Valid, step-valid, run-ends, impossible}
+use Rattle.validity.specs.Valid.{Valid}
+use Rattle.validity.proofs.Steps.{step-valid, run-ends, impossible}
 use Rattle.validity.proofs.Repeating.{advance-one, run-same}
 use Rattle.soundness.proofs.TurnLists.{after-step, blocks-taken, valid-after, Repeats, repeats, Reached, still, done, stepped, reached-after, state-next, fixed-after, later-same}
 

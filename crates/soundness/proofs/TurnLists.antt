@@ -15,7 +15,8 @@ use Rattle.model.specs.Points.{Point, Solution}
 use Rattle.model.specs.Step.{Verdict, goOn, noSolution, outOfBudget, solution, Outcome, blockIn, lowers, again, stepBy, step, continue, runFor, checked, stepCall}
 use Rattle.model.specs.Demand.{after, stateAfter, answerAt, blocksIn, journal, MeetsCuts}
 use Rattle.soundness.proofs.Sizes.{size}
-use Rattle.validity.proofs.Steps.{Valid, step-valid, impossible}
+use Rattle.validity.specs.Valid.{Valid}
+use Rattle.validity.proofs.Steps.{step-valid, impossible}
 use Rattle.soundness.proofs.Turns.{Open, Says, Turned, turned}
 
 -- ---- a valid state is not refused

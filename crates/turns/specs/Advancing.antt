@@ -8,7 +8,7 @@ use Rattle.model.specs.Bytes.{blockLength}
 use Rattle.model.specs.Search as model
 use Rattle.model.specs.Step.{Verdict, goOn, noSolution, outOfBudget, solution, lowers}
 use Rattle.model.specs.Trace.{Trace, advance, joined}
-use Rattle.validity.proofs.Steps.{Valid}
+use Rattle.validity.specs.Valid.{Valid}
 use Rattle.state.specs.View.{view}
 use Rattle.state.specs.declared.Search.{Search}
 use Rattle.state.specs.declared.Status.the-variants.{Undecided}

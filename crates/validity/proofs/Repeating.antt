@@ -9,7 +9,8 @@ use Rattle.model.specs.Move.{descend}
 use Rattle.model.specs.Conflict.{Conflict}
 use Rattle.model.specs.Step.{Verdict, goOn, noSolution, outOfBudget, solution, Outcome, blockIn, withStatus, solvedBy, budgetSpent, counted, atDeadEnd, endedAt, ended, again, stepBy, step, continue, runFor, withoutBlock, run}
 use Rattle.model.specs.Trace.{Trace, withBlocks, lastTurn, advanced, advance}
-use Rattle.validity.proofs.Steps.{Valid, dead-end, run-ends, impossible}
+use Rattle.validity.specs.Valid.{Valid}
+use Rattle.validity.proofs.Steps.{dead-end, run-ends, impossible}
 
 -- ---- the count of a turn's answer is that of its state
 ended-count : (s : Search) (c : Core) (e : Option ℕ) → s .conflicts ≤ s .budget → endedAt s c e .count ≡ endedAt s c e .state .conflicts

@@ -15,10 +15,11 @@ use Rattle.model.specs.File.{noConstraint}
 use Rattle.model.specs.Search.{constraint, Level, Core, Status, undecided, infeasible, solved, Search, depth, levels, withLevels, withDeepest, kept, numberAt, raiseLower, lowerUpper, decideAt}
 use Rattle.model.specs.Move.{nextMove, Stop, follow, descend}
 use Rattle.model.specs.Conflict.{Analysis, Numbered, Conflict, analyze, numbered, backjumpLevel, backFrom, backUp, settled, conflictOf, atConflict}
-use Rattle.model.specs.Validity.{isOpen, falsifies, anyFalsified, outermost, statusValid, valid, shaped}
+use Rattle.model.specs.Validity.{isOpen, falsifies, anyFalsified, outermost, statusValid}
 use Rattle.model.specs.Step.{Verdict, goOn, noSolution, outOfBudget, solution, Outcome, withStatus, solvedBy, budgetSpent, verdictAt, statusAt, counted, atDeadEnd, endedAt, ended, again, stepBy, step, continue, runFor, withoutBlock, run}
 use Rattle.integer.specs.Parts.{_⊑_, nlt-out}
 use Rattle.integer.specs.Tests.{and-in, not-out}
+use Rattle.validity.specs.Valid.{Valid}
 use Rattle.validity.proofs.Boxes.{Fixed}
 use Rattle.validity.proofs.Moves.{Clear, Falsifies, Finishes, Raises, Lowers, Decides}
 use Rattle.validity.proofs.States.{CoreFits, Sizes, core-fits, sizes-fit, fits-shaped, fits-valid, deepest-ordered, raise-fits, lower-fits, decide-fits}
@@ -119,10 +120,6 @@ clear-status [] box c = tt
 clear-status (k ∷ ks) box c = neither (falsified k box) (anyOf (falsifies box) ks) (c .0) (clear-status ks box (c .1))
 
 -- ---- a step
-pub record Valid (s : Search) : Type 0 where
-  pub shape : T (shaped (s .core))
-  pub tests : T (valid s)
-
 valid-of : (s : Search) → CoreFits (s .core) → Sizes s → T (statusValid (s .core) (s .status)) → Valid s
 valid-of s f z t = record { shape = fits-shaped (s .core) f; tests = fits-valid s f z t }
 

@@ -1,5 +1,6 @@
 -- `integer::ceil_div` meets its contract. Assumes nothing.
-use lib.IntN.{pos, _-ℤ_}
+use native.Mathlib.Omega.{arith}
+use lib.IntN.{pos}
 use lib.Signed.{_<ℤ_}
 use mir.Facts.{toZ-ofZ}
 use Rattle.integer.specs.Tests.{ltZ-true, ltZ-false}
@@ -15,24 +16,24 @@ cast-divisor : tie.Need-cast-divisor
 cast-divisor c = divisor-fits (c .args .d) (c .pre .1)
 
 sub-result : tie.Need-sub-result
-sub-result c = let s = c .before in simp (toZ-ofZ, s .fits .z) (prev-fits (s .args .z) (s .fits .z) (positive c))
+sub-result c = let s = c .before in simp (toZ-ofZ, s .fits .z) (prev-fits (s .args .z) (s .fits .z) (positive c) _ (omega arith) (omega arith))
 
 div-result : tie.Need-div-result
 div-result c =
     let s = c .before in
     let f = s .fits .z in
     let back = divisor-back (s .args .d) (s .pre .1) in
-    let prev = prev-fits (s .args .z) f (positive c) in
-    (s .pre .0, simp (toZ-ofZ, back) (quot-fits (s .args .z -ℤ pos 1) (s .args .d) prev))
+    let prev = simp toZ-ofZ at (sub-result c) in
+    (s .pre .0, simp (toZ-ofZ, back) (quot-fits _ (s .args .d) prev))
 
 add-result : tie.Need-add-result
 add-result c =
     let s = c .before in
     let f = s .fits .z in
     let back = divisor-back (s .args .d) (s .pre .1) in
-    let prev = prev-fits (s .args .z) f (positive c) in
-    let q = quot-fits (s .args .z -ℤ pos 1) (s .args .d) prev in
-    simp (toZ-ofZ, back) (ceil-fits (s .args .z) f (positive c) (s .args .d))
+    let prev = simp toZ-ofZ at (sub-result c) in
+    let q = simp (toZ-ofZ, back) at (div-result c .1) in
+    simp (toZ-ofZ, back) (ceil-fits (s .args .z) f (positive c) _ (omega arith) (omega arith) (s .args .d) _ (omega arith) (omega arith))
 
 div-result-2 : tie.Need-div-result-2
 div-result-2 c =
@@ -48,9 +49,9 @@ returns c =
     let z = s .args .z in
     let d = s .args .d in
     let back = divisor-back d (s .pre .1) in
-    let prev = prev-fits z f (positive c) in
-    let q = quot-fits (z -ℤ pos 1) d prev in
-    let r = ceil-fits z f (positive c) d in
+    let prev = simp toZ-ofZ at (sub-result c) in
+    let q = simp (toZ-ofZ, back) at (div-result c .1) in
+    let r = simp (toZ-ofZ, back) at (add-result c) in
     simp (toZ-ofZ, back) (is-rounded _ _ (ceil-quot-pos z d (positive c)) (ceil-size z d))
 
 returns-2 : tie.Need-returns-2

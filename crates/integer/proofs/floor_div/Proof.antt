@@ -1,5 +1,6 @@
 -- `integer::floor_div` meets its contract. Assumes nothing.
-use lib.IntN.{pos, _+ℤ_}
+use native.Mathlib.Omega.{arith}
+use lib.IntN.{pos}
 use lib.Signed.{_<ℤ_}
 use mir.Facts.{toZ-ofZ}
 use Rattle.integer.specs.Tests.{ltZ-true, ltZ-false}
@@ -15,24 +16,24 @@ cast-divisor : tie.Need-cast-divisor
 cast-divisor c = divisor-fits (c .args .d) (c .pre .1)
 
 add-result : tie.Need-add-result
-add-result c = let s = c .before in simp (toZ-ofZ, s .fits .z) (next-fits (s .args .z) (s .fits .z) (negative c))
+add-result c = let s = c .before in simp (toZ-ofZ, s .fits .z) (next-fits (s .args .z) (s .fits .z) (negative c) _ (omega arith))
 
 div-result : tie.Need-div-result
 div-result c =
     let s = c .before in
     let f = s .fits .z in
     let back = divisor-back (s .args .d) (s .pre .1) in
-    let next = next-fits (s .args .z) f (negative c) in
-    (s .pre .0, simp (toZ-ofZ, back) (quot-fits (s .args .z +ℤ pos 1) (s .args .d) next))
+    let next = simp toZ-ofZ at (add-result c) in
+    (s .pre .0, simp (toZ-ofZ, back) (quot-fits _ (s .args .d) next))
 
 sub-result : tie.Need-sub-result
 sub-result c =
     let s = c .before in
     let f = s .fits .z in
     let back = divisor-back (s .args .d) (s .pre .1) in
-    let next = next-fits (s .args .z) f (negative c) in
-    let q = quot-fits (s .args .z +ℤ pos 1) (s .args .d) next in
-    simp (toZ-ofZ, back) (floor-fits (s .args .z) f (negative c) (s .args .d))
+    let next = simp toZ-ofZ at (add-result c) in
+    let q = simp (toZ-ofZ, back) at (div-result c .1) in
+    simp (toZ-ofZ, back) (floor-fits (s .args .z) f (negative c) _ (omega arith) (s .args .d))
 
 div-result-2 : tie.Need-div-result-2
 div-result-2 c =
@@ -48,9 +49,9 @@ returns c =
     let z = s .args .z in
     let d = s .args .d in
     let back = divisor-back d (s .pre .1) in
-    let next = next-fits z f (negative c) in
-    let q = quot-fits (z +ℤ pos 1) d next in
-    let r = floor-fits z f (negative c) d in
+    let next = simp toZ-ofZ at (add-result c) in
+    let q = simp (toZ-ofZ, back) at (div-result c .1) in
+    let r = simp (toZ-ofZ, back) at (sub-result c) in
     simp (toZ-ofZ, back) (is-rounded _ _ (floor-quot-neg z d (negative c)) (floor-size z d))
 
 returns-2 : tie.Need-returns-2

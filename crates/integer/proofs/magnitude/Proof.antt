@@ -30,13 +30,13 @@ cast-result c =
     (cast-up (omega (arith, natAbs-le z (f .sfits))) (size z) (leZ-true (simp toZ-ofZ at (c .if1 .taken))))
 
 add-result : tie.Need-add-result
-add-result c = let s = c .before in simp (toZ-ofZ, s .fits .z) (next-fits (s .args .z) (s .fits .z) (negative c))
+add-result c = let s = c .before in simp (toZ-ofZ, s .fits .z) (next-fits (s .args .z) (s .fits .z) (negative c) 1 (omega arith))
 
 sub-result : tie.Need-sub-result
 sub-result c =
     let s = c .before in
     let f = s .fits .z in
-    let next = next-fits (s .args .z) f (negative c) in
+    let next = next-fits (s .args .z) f (negative c) 1 (omega arith) in
     simp toZ-ofZ (negation-fits (s .args .z) f (negative c))
 
 cast-result-2 : tie.Need-cast-result-2
@@ -44,7 +44,7 @@ cast-result-2 c =
     let s = c .before in
     let f = s .fits .z in
     let z = s .args .z in
-    let next = next-fits z f (negative c) in
+    let next = next-fits z f (negative c) 1 (omega arith) in
     let negation = negation-fits z f (negative c) in
     simp toZ-ofZ
     (cast-up (omega (arith, negated z (negative c), natAbs-le z (f .sfits))) (size (pos 0 -ℤ (z +ℤ pos 1))) (not-negative z (negative c)))
@@ -54,7 +54,7 @@ add-result-2 c =
     let s = c .before in
     let f = s .fits .z in
     let z = s .args .z in
-    let next = next-fits z f (negative c) in
+    let next = next-fits z f (negative c) 1 (omega arith) in
     let negation = negation-fits z f (negative c) in
     simp toZ-ofZ (record { fits = omega (arith, negated z (negative c), natAbs-le z (f .sfits)) })
 
@@ -66,7 +66,7 @@ returns-2 c =
     let s = c .before in
     let f = s .fits .z in
     let z = s .args .z in
-    let next = next-fits z f (negative c) in
+    let next = next-fits z f (negative c) 1 (omega arith) in
     let negation = negation-fits z f (negative c) in
     simp toZ-ofZ (negated z (negative c))
 
