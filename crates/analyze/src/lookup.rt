@@ -1,7 +1,6 @@
 // The kept constraints by number.
 use layout::MAX_ROWS;
 use state::kept::dropped;
-ghost use mathlib.Core.Path.{_≡_};
 ghost use Prim.Native.Nat.{_≤_};
 ghost use Rattle.model.specs.Ranges.{maxConstraints, maxBudget};
 ghost use Rattle.analyze.specs.Position.{PositionOf};

@@ -1,22 +1,19 @@
 -- What is tracked of the constraints, saved for each level that a decision leaves.
-use Prim.Native.Nat.{ℕ, suc, _+_, _-_, _*_, _≤_, _<_}
+use Prim.Native.Nat.{ℕ, _+_, _-_, _*_, _≤_, _<_}
 use mathlib.Core.Bool.{cond}
 use mathlib.Core.List.{List}
 use mathlib.Core.Path.{_≡_}
 use lib.Dec.{ltb}
-use lib.IntN.{ℤ, pos, _+ℤ_}
-use lib.ListN.{getD, set, length}
-use Rattle.model.specs.Ranges.{maxConstraints, maxCuts, maxBudget}
-use Rattle.layout.specs.Rows.{rowLength, numberIn, rowAt}
-use Rattle.state.specs.View.{keptCuts, droppedCuts, noLevel, flippedReason}
-use Rattle.state.specs.Change.{Whole, raised, decidedAt}
+use lib.IntN.{ℤ}
+use lib.ListN.{getD, length}
+use Rattle.layout.specs.Rows.{numberIn, rowAt, maxRows}
+use Rattle.state.specs.View.{keptCuts, droppedCuts, noLevel}
 use Rattle.state.specs.declared.Level.{Level}
-use Rattle.propagate.specs.Tracked.{Known, Tracked}
-use Rattle.propagate.specs.Ready.{Ready}
+use Rattle.propagate.specs.Tracked.{Known}
 
 -- the numbers saved for one level
 abbrev pub savedRoom : ℕ
-savedRoom = maxConstraints + maxCuts
+savedRoom = maxRows
 
 -- the position that the constraint now at position j had when `by` fewer cuts were gone
 unfoldable pub placeOf : ℕ → ℕ → ℕ → ℕ

@@ -14,7 +14,7 @@ use state::kept::kept_count;
 ghost use mathlib.Core.Path.{_≡_};
 ghost use Prim.Native.Nat.{_+_, _-_, _*_, _≤_, _<_};
 ghost use lib.ListN.{length};
-ghost use Rattle.model.specs.Ranges.{maxConstraints, maxCuts, maxBudget};
+ghost use Rattle.model.specs.Ranges.{maxConstraints, maxBudget};
 ghost use Rattle.state.specs.View.{keptCuts};
 ghost use Rattle.propagate.specs.Tracked.{Tracked};
 ghost use Rattle.backtrack.specs.Saved.{placeOf, savedRoom, SavedAt, Copied};

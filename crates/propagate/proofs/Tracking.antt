@@ -14,7 +14,7 @@ use lib.ListN.{length, set, getD, length-set}
 use lib.Seq.{getD-set-same, getD-set-other}
 use lib.Signed.{_≤ℤ_, ltZ}
 use Rattle.model.specs.Lists.{tab, orElse}
-use Rattle.model.specs.Ranges.{maxVariables, maxConstraints, maxCuts}
+use Rattle.model.specs.Ranges.{maxVariables}
 use Rattle.model.specs.Constraint.{Bounds, inRange, activity, term, lowerAt, upperAt, setLower, setUpper, coefficientAt}
 use Rattle.model.specs.File.{noConstraint}
 use Rattle.model.specs.Move.{Move, conflict, firstFalsified, improvementFrom}
@@ -30,7 +30,7 @@ use Rattle.linear.specs.Ranges.{widestActivity, widestBound, TermFits, RowFits,
 use Rattle.linear.specs.Reach.{spanOf, widestSpan, Reaches}
 use Rattle.linear.proofs.Ranges.{row-fits, box-fits, term-fits, lower-within, upper-within}
 use Rattle.linear.proofs.Reaching.{span-none, span-nested, span-size, activity-raised, activity-lowered, activity-size}
-use Rattle.layout.specs.Rows.{rowLength, numberIn, cell, constraintAt, rowAt, boundsAt, boxOf}
+use Rattle.layout.specs.Rows.{rowLength, numberIn, cell, constraintAt, rowAt, boundsAt, boxOf, maxRows, rowsLength}
 use Rattle.layout.proofs.Rows.{length-box, coefficient-at, lower-at, upper-at, box-lower, box-upper}
 use Rattle.propagate.specs.Moves.{hitAt}
 use Rattle.propagate.specs.Tracked.{ScanFits, Known, TrackedAt, Tracked, Shiftable, Shifted, FirstAbove, Told}
@@ -38,7 +38,7 @@ use Rattle.propagate.specs.Masks.{Opens}
 use Rattle.propagate.proofs.Scans.{falsifiedFrom, improvedAt, falsified-start, falsified-hit, falsified-miss, falsified-end}
 
 module _ {n kept : ℕ} {rows lower upper : List ℤ} (f : ScanFits n kept rows lower upper) where
-  pub scan-row : (j : ℕ) → length rows ≡ rowLength * (maxConstraints + maxCuts) → j < kept → RowFits n rows (rowLength * j)
+  pub scan-row : (j : ℕ) → length rows ≡ rowsLength → j < kept → RowFits n rows (rowLength * j)
   unfolding rowAt
   scan-row j e h =
       row-fits n rows (rowLength * j) (f .few) (omega (arith, f .few, f .count))
@@ -49,7 +49,7 @@ module _ {n kept : ℕ} {rows lower upper : List ℤ} (f : ScanFits n kept rows 
   scan-box l u = box-fits n lower upper (true-of _ (f .bounds)) (omega (arith, f .few)) (omega (arith, f .few))
 
   -- one variable of a row and the box
-  pub scan-term : (j i : ℕ) → length rows ≡ rowLength * (maxConstraints + maxCuts) → j < kept → i < n → TermFits (cell rows (rowLength * j) i) (numberIn lower i) (numberIn upper i)
+  pub scan-term : (j i : ℕ) → length rows ≡ rowsLength → j < kept → i < n → TermFits (cell rows (rowLength * j) i) (numberIn lower i) (numberIn upper i)
   scan-term j i e h l =
       let b = true-of _ (f .bounds) in
       record { coefficient = scan-row j e h .coefficients i l; low = weaken (lit≤ tt) (lower-within n lower upper b i l); high = weaken (lit≤ tt) (upper-within n lower upper b i l) }
@@ -91,7 +91,7 @@ module _ (n : ℕ) (rows lower upper : List ℤ) where
   tracked-at : (a b c d : List ℤ) (j : ℕ) → numberIn c j ≡ numberIn a j → numberIn d j ≡ numberIn b j → TrackedAt n rows lower upper a b j → TrackedAt n rows lower upper c d j
   tracked-at a b c d j e g t = record { same = e ∙ t .same; size = rw e (t .size); reach = rw g (t .reach) }
 
-  pub tracked-more : (activities reaches : List ℤ) (j : ℕ) (v w : ℤ) → j < maxConstraints + maxCuts → Tracked n rows lower upper activities reaches j →
+  pub tracked-more : (activities reaches : List ℤ) (j : ℕ) (v w : ℤ) → j < maxRows → Tracked n rows lower upper activities reaches j →
       v ≡ activity (rowAt n rows j) (boxOf n lower upper) → Within widestActivity v → Reaches n rows (rowLength * j) lower upper w →
       Tracked n rows lower upper (set activities j v) (set reaches j w) (j + 1)
   tracked-more activities reaches j v w l s e z r =
@@ -111,7 +111,7 @@ module _ (n : ℕ) (rows lower upper : List ℤ) where
           (eq-or-lt-of-le (omega arith))
 
   -- constraint j reaches w
-  pub tracked-reach : (activities reaches : List ℤ) (kept j : ℕ) (w : ℤ) → j < kept → kept ≤ maxConstraints + maxCuts → Tracked n rows lower upper activities reaches kept →
+  pub tracked-reach : (activities reaches : List ℤ) (kept j : ℕ) (w : ℤ) → j < kept → kept ≤ maxRows → Tracked n rows lower upper activities reaches kept →
       Reaches n rows (rowLength * j) lower upper w → Tracked n rows lower upper activities (set reaches j w) kept
   tracked-reach activities reaches kept j w h l s r =
       record { long = s .long; room = s .room; reachRoom = length-set reaches j w ∙ s .reachRoom; at = at }

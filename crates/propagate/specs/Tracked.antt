@@ -8,18 +8,18 @@ use lib.IntN.{ℤ, pos, _+ℤ_}
 use lib.ListN.{length}
 use lib.Signed.{_≤ℤ_, _<ℤ_}
 use Rattle.model.specs.Lists.{tab, allOf}
-use Rattle.model.specs.Ranges.{maxVariables, maxConstraints, maxCuts, maxCoefficient}
+use Rattle.model.specs.Ranges.{maxVariables, maxCoefficient}
 use Rattle.model.specs.Constraint.{inRange, term, activity}
 use Rattle.model.specs.Problem.{boundsInRange}
 use Rattle.integer.specs.Size.{Within}
 use Rattle.linear.specs.Ranges.{widestActivity, widestBound}
 use Rattle.linear.specs.Reach.{Reaches}
-use Rattle.layout.specs.Rows.{rowLength, numberIn, cell, rowAt, boxOf}
+use Rattle.layout.specs.Rows.{rowLength, numberIn, cell, rowAt, boxOf, maxRows, rowsLength}
 
 -- `kept` constraints and a box, of n variables
 pub record ScanFits (n kept : ℕ) (rows lower upper : List ℤ) : Type 0 where
   pub few : n ≤ maxVariables
-  pub count : kept ≤ maxConstraints + maxCuts
+  pub count : kept ≤ maxRows
   pub constraints : T (allOf inRange (tab (rowAt n rows) 0 kept))
   pub bounds : T (allOf boundsInRange (boxOf n lower upper))
 
@@ -34,24 +34,24 @@ TrackedAt n rows lower upper activities reaches j = Known n rows lower upper j (
 
 -- the constraints before position `count`
 pub record Tracked (n : ℕ) (rows lower upper activities reaches : List ℤ) (count : ℕ) : Type 0 where
-  pub long : length rows ≡ rowLength * (maxConstraints + maxCuts)
-  pub room : length activities ≡ maxConstraints + maxCuts
-  pub reachRoom : length reaches ≡ maxConstraints + maxCuts
+  pub long : length rows ≡ rowsLength
+  pub room : length activities ≡ maxRows
+  pub reachRoom : length reaches ≡ maxRows
   pub at : (j : ℕ) → j < count → TrackedAt n rows lower upper activities reaches j
 
 -- the lower bound of variable i changes by `rise`, and the upper one by `fall`
 pub record Shiftable (kept i : ℕ) (rise fall : ℤ) (rows activities : List ℤ) : Type 0 where
-  pub count : kept ≤ maxConstraints + maxCuts
+  pub count : kept ≤ maxRows
   pub variable : i < maxVariables
   pub coefficients : (j : ℕ) → j < kept → Within maxCoefficient (cell rows (rowLength * j) i)
   pub sizes : (j : ℕ) → j < kept → Within widestActivity (numberIn activities j)
   pub up : Within widestBound rise
   pub down : Within widestBound fall
-  pub room : length activities ≡ maxConstraints + maxCuts
+  pub room : length activities ≡ maxRows
 
 -- up to the first activity that is above 0 now, at place r; r is `kept` where none is
 pub record Shifted (kept i : ℕ) (rise fall : ℤ) (rows old new : List ℤ) (r : ℕ) : Type 0 where
-  pub room : length new ≡ maxConstraints + maxCuts
+  pub room : length new ≡ maxRows
   pub most : r ≤ kept
   pub at : (j : ℕ) → j < r → numberIn new j ≡ numberIn old j +ℤ term (cell rows (rowLength * j) i) (record { lower = rise; upper = fall })
   pub low : (j : ℕ) → j < r → numberIn new j ≤ℤ pos 0

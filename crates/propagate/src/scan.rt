@@ -17,7 +17,7 @@ ghost use Rattle.model.specs.Ranges.{maxVariables, maxConstraints, maxCuts};
 ghost use Rattle.model.specs.Move.{conflict, decide, firstFalsified, firstImprovement, firstOpen};
 ghost use Rattle.integer.specs.Size.{Within};
 ghost use Rattle.linear.specs.Ranges.{widestActivity};
-ghost use Rattle.layout.specs.Rows.{numberIn, rowAt, boxOf};
+ghost use Rattle.layout.specs.Rows.{numberIn, rowAt, boxOf, maxRows};
 ghost use Rattle.propagate.specs.Moves.{foundOf, hitAt};
 ghost use Rattle.propagate.specs.Tracked.{ScanFits, Tracked, FirstAbove};
 ghost use Rattle.propagate.specs.Masks.{Masked, Opens};
@@ -56,7 +56,7 @@ pub fn measure<'a>(
 
 // Move 1: the position of the first falsified kept constraint, or the number of kept ones.
 pub fn first_falsified(activities: &[i64; 128], kept: usize) -> usize
-    requires { ⌜ (kept ≤ maxConstraints + maxCuts) × ((j : ℕ) → j < kept → Within widestActivity (numberIn (now activities) j)) ⌝ }
+    requires { ⌜ (kept ≤ maxRows) × ((j : ℕ) → j < kept → Within widestActivity (numberIn (now activities) j)) ⌝ }
     ensures { λ r. ⌜ FirstAbove kept (now (activities .entry)) r ⌝ }
 {
     let mut j: usize = 0;

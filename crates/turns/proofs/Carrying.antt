@@ -5,8 +5,7 @@ use mathlib.Core.List.{List}
 use mathlib.Core.Path.{_≡_}
 use lib.IntN.{ℤ}
 use lib.ListN.{length}
-use Rattle.model.specs.Ranges.{maxConstraints, maxCuts}
-use Rattle.layout.specs.Rows.{rowLength}
+use Rattle.layout.specs.Rows.{maxRows, rowsLength}
 use Rattle.state.specs.View.{keptCuts}
 use Rattle.state.specs.declared.Level.{Level}
 use Rattle.propagate.specs.Tracked.{Tracked, Told}
@@ -23,6 +22,6 @@ pub record Carried (n m : ℕ) (rows : List ℤ) (levels : List Level) (made dep
   pub masks : Masked n m (m + keptCuts made) rows inputs cuts
 
 -- nothing tracked yet
-pub tracked-none : (n : ℕ) (rows lower upper activities reaches : List ℤ) → length rows ≡ rowLength * (maxConstraints + maxCuts) → length activities ≡ maxConstraints + maxCuts → length reaches ≡ maxConstraints + maxCuts →
+pub tracked-none : (n : ℕ) (rows lower upper activities reaches : List ℤ) → length rows ≡ rowsLength → length activities ≡ maxRows → length reaches ≡ maxRows →
     Tracked n rows lower upper activities reaches 0
 tracked-none n rows lower upper activities reaches e a b = record { long = e; room = a; reachRoom = b; at = λ j h. absurd (omega arith) }

@@ -5,7 +5,7 @@ use mathlib.Core.Path.{_≡_}
 use lib.IntN.{ℤ}
 use lib.ListN.{getD, length}
 use Rattle.model.specs.Ranges.{maxVariables, maxConstraints, maxCuts}
-use Rattle.layout.specs.Rows.{rowLength}
+use Rattle.layout.specs.Rows.{rowLength, maxRows, rowsLength}
 use Rattle.state.specs.View.{keptCuts}
 use Rattle.propagate.specs.Masks.{Mentions}
 use Rattle.propagate.specs.Tracked.{ScanFits, Tracked}
@@ -14,8 +14,8 @@ use Rattle.propagate.specs.Tracked.{ScanFits, Tracked}
 pub record Markable (n from count : ℕ) (rows : List ℤ) (masks : List ℕ) : Type 0 where
   pub few : n ≤ maxVariables
   pub most : count ≤ maxCuts
-  pub inside : from + count ≤ maxConstraints + maxCuts
-  pub long : length rows ≡ rowLength * (maxConstraints + maxCuts)
+  pub inside : from + count ≤ maxRows
+  pub long : length rows ≡ rowsLength
   pub room : length masks ≡ maxCuts
 
 pub record Marks (n from count : ℕ) (rows : List ℤ) (masks : List ℕ) : Type 0 where

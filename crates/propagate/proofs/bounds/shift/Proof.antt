@@ -11,13 +11,12 @@ use lib.ListN.{length, set, length-set}
 use lib.Signed.{_≤ℤ_, _<ℤ_}
 use mir.Syntax.{w64}
 use mir.Val.{toZ, ofZ}
-use Rattle.model.specs.Ranges.{maxConstraints, maxCuts}
 use Rattle.model.specs.Constraint.{Bounds, term}
 use Rattle.integer.specs.Size.{Within}
 use Rattle.integer.specs.Tests.{back, ltZ-true, ltZ-false}
 use Rattle.integer.specs.Automatic.{exps, fits!, eq! }
 use Rattle.linear.specs.Ranges.{widestActivity}
-use Rattle.layout.specs.Rows.{rowLength, numberIn, cell}
+use Rattle.layout.specs.Rows.{rowLength, numberIn, cell, maxRows}
 use Rattle.propagate.proofs.Tracking.{number-same, number-other}
 use borrow.Author.Needs.{needs}
 use Rattle.propagate.proofs.bounds.shift.Statement.{statement}
@@ -28,7 +27,7 @@ use Rattle.linear.proofs.activity.term.Reads as term-reads
 
 abbrev Inv-loop : tie.InvT-loop
 Inv-loop rows i rise fall kept activities₀ j₀ activities j =
-    (j ≤ kept) × (length activities ≡ maxConstraints + maxCuts) ×
+    (j ≤ kept) × (length activities ≡ maxRows) ×
     ((k : ℕ) → k < j → (numberIn activities k ≡ numberIn activities₀ k +ℤ term (cell rows (rowLength * k) i) (record { lower = toZ w64 rise; upper = toZ w64 fall })) × (numberIn activities k ≤ℤ pos 0)) ×
     ((k : ℕ) → j ≤ k → numberIn activities k ≡ numberIn activities₀ k)
 

@@ -11,7 +11,7 @@ use lib.Signed.{_≤ℤ_}
 use mir.Facts.{toZ-ofZ}
 use mir.Syntax.{w64}
 use mir.Val.{SFits, toZ, ofZ}
-use Rattle.model.specs.Ranges.{maxVariables, maxConstraints, maxCuts}
+use Rattle.model.specs.Ranges.{maxVariables}
 use Rattle.model.specs.Lists.{tab}
 use Rattle.model.specs.Move.{Move, firstImprovement}
 use Rattle.integer.specs.Automatic.{exps, fits!, eq! }
@@ -20,7 +20,7 @@ use Rattle.integer.specs.Tests.{back, leZ-true, ltZ-false}
 use Rattle.linear.specs.Ranges.{TermFits}
 use Rattle.linear.specs.Reach.{spanOf}
 use Rattle.linear.specs.Improvement as improvement
-use Rattle.layout.specs.Rows.{rowLength, numberIn, cell, rowAt, boundsAt, boxOf}
+use Rattle.layout.specs.Rows.{rowLength, numberIn, cell, rowAt, boundsAt, boxOf, maxRows}
 use Rattle.propagate.specs.Moves.{foundOf}
 use Rattle.propagate.specs.Tracked.{TrackedAt, Tracked}
 use Rattle.propagate.specs.declared.scan.Move.the-variants as move
@@ -129,7 +129,7 @@ turn l = l .before .before .before .before .before .before
 inside : (c : tie.After-first Inv-loop μ-loop Inv-scan μ-scan) → c .first .result < turn (c .before .before) .before .before .args .n
 inside c = c .first .ensures .inside _ (c .before .before .loop .inv .1 .few)
 
-place : (c : tie.After-first Inv-loop μ-loop Inv-scan μ-scan) → (turn (c .before .before) .before .scan .j < maxConstraints + maxCuts) × (c .first .result < maxVariables)
+place : (c : tie.After-first Inv-loop μ-loop Inv-scan μ-scan) → (turn (c .before .before) .before .scan .j < maxRows) × (c .first .result < maxVariables)
 place c =
     let t = turn (c .before .before) in
     let f = t .before .before .pre .0 .0 in
