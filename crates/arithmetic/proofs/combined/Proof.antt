@@ -50,7 +50,7 @@ combine-at-requires c κs =
           first-range = said-yes (first .is-in-range .ensures) (c .before .before .before .before .before .before .before .before .before .before .if1 .left);
           second-range = said-yes (second .is-in-range2 .ensures) (c .before .before .before .before .before .before .before .if2 .left);
         };
-        signs = rw (coefficient-at 2 (now (s .f)) 0 1 (lit< tt), coefficient-at 2 (now (s .j)) 0 1 (lit< tt)) e;
+        signs = rw (coefficient-at 3 (now (s .f)) 0 1 (lit< tt), coefficient-at 3 (now (s .j)) 0 1 (lit< tt)) e;
       },
       refl,
     )
