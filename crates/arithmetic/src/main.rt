@@ -1,10 +1,10 @@
 // Compiled code where the definitions' computed tables do not reach: document 01's reference table P1 to P8 through the functions that the search
 // calls, and these functions at the ends of their ranges. What it must print was found by hand.
-use compare::is_in_range;
 use integer::ceil_div;
 use integer::exact_div;
 use integer::floor_div;
 use integer::magnitude;
+use layout::range::is_in_range;
 use linear::activity::implied_lower;
 use linear::activity::implied_upper;
 use linear::activity::min_activity;
