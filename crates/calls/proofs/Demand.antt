@@ -13,7 +13,7 @@ use Rattle.model.specs.Search as model
 use Rattle.model.specs.Search.{openProblem, openFile}
 use Rattle.model.specs.Points.{Point, points, Solution, First}
 use Rattle.model.specs.Step.{Verdict as ModelVerdict, Outcome, outOfBudget, solution, step, run}
-use Rattle.model.specs.Demand.{stateAfter, journal, withBudget, verdictWith, Decides, Agree, Turns, Accepted}
+use Rattle.model.specs.Demand.{stateAfter, journal, withBudget, verdictWith, Decides, Agree, Steps, Accepted}
 use Rattle.problem.specs.declared.Answer.{Answer}
 use Rattle.problem.specs.declared.Answer.the-variants.{Done, Truncated, BadChecksum, BadMagic, SizeRange, DomainRange, CoefficientRange, NonzeroPadding, ShortBuffer, InvalidSearch}
 use Rattle.problem.specs.Answer.{number}
@@ -28,9 +28,9 @@ use Rattle.search.specs.Seen.{valuesOf}
 use Rattle.search.specs.declared.Opened.{Opened}
 use Rattle.search.specs.declared.Ran.{Ran}
 use Rattle.search.specs.declared.Verdict.the-variants as verdict
-use Rattle.calls.specs.Calls.{Opens, Call, stepped, traced, ran, Makes, told, ListFrom, stateIn, journalOf, NoRun, untilRun, turnsIn, turnsOf, SameAnswer, CallAfter, Decided, Opening, RunOf, CallsHold}
+use Rattle.calls.specs.Calls.{Opens, Call, stepped, traced, ran, Makes, told, ListFrom, stateIn, journalOf, NoRun, untilRun, stepsIn, stepsOf, SameAnswer, CallAfter, Decided, Opening, RunOf, CallsHold}
 use Rattle.calls.proofs.Shown.{caseOf, case-valid, case-goes, case-none}
-use Rattle.calls.proofs.Lists.{journal-end, journal-prefix, CallTells, call-tells, Follows, follows, one-more, turns-more, no-run}
+use Rattle.calls.proofs.Lists.{journal-end, journal-prefix, CallTells, call-tells, Follows, follows, one-more, steps-more, no-run}
 
 -- a run's answer is that of the model's
 pub record RunTells (q : Ran) (o : Outcome) : Type 0 where
@@ -85,8 +85,8 @@ module _ (f : List ℕ) (a : Accepted f) (o : Opened) (h : Opens f o) (q : Ran) 
   abbrev m : model.Search
   m = openProblem (problemIn f)
 
-  abbrev t : Turns (problemIn f) (openProblem (problemIn f))
-  t = demand-3 .turns f a
+  abbrev t : Steps (problemIn f) (openProblem (problemIn f))
+  t = demand-3 .steps f a
 
   start : view (o .state) ≡ stateAfter 0 (openProblem (problemIn f))
   unfolding stateAfter
@@ -101,7 +101,7 @@ module _ (f : List ℕ) (a : Accepted f) (o : Opened) (h : Opens f o) (q : Ran) 
   run-call = call-tells p m t 0 (o .state) (ran q) start g
 
   pub run-is : RunTells q (run (openProblem (problemIn f)))
-  unfolding told turnsIn
+  unfolding told stepsIn
   run-is =
       let y = run-call .answer (t .last) refl in
       let z : 0 + t .last ≡ t .last = omega arith in
@@ -109,19 +109,19 @@ module _ (f : List ℕ) (a : Accepted f) (o : Opened) (h : Opens f o) (q : Ran) 
       record { verdict = y .0 ∙ ap caseOf e; values = y .1 ∙ ap valuesOf e }
 
   run-count : q .count ≡ length (journal (suc (t .last)) m)
-  unfolding told turnsIn
+  unfolding told stepsIn
   run-count = let z : 0 + suc (t .last) ≡ suc (t .last) = omega arith in run-call .count ∙ ap (λ (i : ℕ). length (journal i m)) z
 
   -- the calls cs, and c after them
   module _ (cs : List Call) (c : Call) (l : ListFrom (o .state) cs) (e : Makes (stateIn (o .state) cs) c) where
     abbrev k : ℕ
-    k = turnsOf (t .last) cs
+    k = stepsOf (t .last) cs
 
     abbrev n : ℕ
-    n = turnsIn (t .last) c
+    n = stepsIn (t .last) c
 
-    x : CallTells p m t (turnsOf (t .last) cs) c
-    x = call-tells p m t (turnsOf (t .last) cs) (stateIn (o .state) cs) c (let z : 0 + turnsOf (t .last) cs ≡ turnsOf (t .last) cs = omega arith in rw z at (follows p m t cs 0 (o .state) start l .state)) e
+    x : CallTells p m t (stepsOf (t .last) cs) c
+    x = call-tells p m t (stepsOf (t .last) cs) (stateIn (o .state) cs) c (let z : 0 + stepsOf (t .last) cs ≡ stepsOf (t .last) cs = omega arith in rw z at (follows p m t cs 0 (o .state) start l .state)) e
 
     all : Follows p m t 0 (o .state) (cs ++ (c ∷ []))
     all = follows p m t (cs ++ (c ∷ [])) 0 (o .state) start (one-more cs (o .state) c l e)
@@ -129,7 +129,7 @@ module _ (f : List ℕ) (a : Accepted f) (o : Opened) (h : Opens f o) (q : Ran) 
     -- without a run these are the blocks of as many turns
     blocks : NoRun (cs ++ (c ∷ [])) → journalOf (cs ++ (c ∷ [])) ≡ journal (k + n) m
     unfolding stateAfter
-    blocks h = all .silent ∙ all .heard ∙ ap (λ (i : ℕ). journal i m) (ap (turnsOf (t .last)) (no-run (cs ++ (c ∷ [])) h) ∙ turns-more (t .last) cs c)
+    blocks h = all .silent ∙ all .heard ∙ ap (λ (i : ℕ). journal i m) (ap (stepsOf (t .last)) (no-run (cs ++ (c ∷ [])) h) ∙ steps-more (t .last) cs c)
 
     answered : (i : ℕ) → n ≡ suc i → t .last ≤ k + i → SameAnswer (told c) q
     answered i b w =
@@ -137,24 +137,24 @@ module _ (f : List ℕ) (a : Accepted f) (o : Opened) (h : Opens f o) (q : Ran) 
         let v : step (stateAfter (k + i) m) .verdict ≡ run m .verdict = t .later (k + i) w .0 ∙ sym first in
         (y .0 ∙ ap caseOf v ∙ sym (run-is .verdict), y .1 ∙ ap valuesOf v ∙ sym (run-is .values))
 
-    by-turns : (i : ℕ) → n ≡ i → ¬ (told c .verdict ≡ verdict.Invalid) × (k + n ≤ t .last → told c .verdict ≡ verdict.GoOn)
-    by-turns zero b = ((λ w. impossible (let y = x .idle b in cc)), λ w. x .idle b)
-    by-turns (suc i) b =
+    by-steps : (i : ℕ) → n ≡ i → ¬ (told c .verdict ≡ verdict.Invalid) × (k + n ≤ t .last → told c .verdict ≡ verdict.GoOn)
+    by-steps zero b = ((λ w. impossible (let y = x .idle b in cc)), λ w. x .idle b)
+    by-steps (suc i) b =
         let y = x .answer i b in
         ((λ w. case-valid _ (sym (y .0) ∙ w)), λ w. y .0 ∙ ap caseOf (t .before (k + i) (omega arith)) ∙ (unfold caseOf in refl))
 
     pub call : CallAfter (problemIn f) q (t .last) (journal (suc (t .last)) m) cs c
     unfolding stateAfter
     call =
-        let more = turns-more (t .last) cs c in
+        let more = steps-more (t .last) cs c in
         record {
-          taken = by-turns n refl .0;
+          taken = by-steps n refl .0;
           bounded = rw (x .count) (t .bounded (k + n));
           counted = λ h. x .count ∙ ap length (sym (blocks h));
           blocksSoFar = λ h. blocks h ∙ sym (journal-prefix p m t (k + n)) ∙ ap (λ (i : ℕ). take i (journal (suc (t .last)) m)) (sym (x .count));
           silent = all .silent;
-          cuts = λ y s. rw (all .silent, all .heard) (t .cuts (turnsOf (t .last) (untilRun (cs ++ (c ∷ [])))) y s);
-          before = λ b. by-turns n refl .1 (omega (arith, more));
+          cuts = λ y s. rw (all .silent, all .heard) (t .cuts (stepsOf (t .last) (untilRun (cs ++ (c ∷ [])))) y s);
+          before = λ b. by-steps n refl .1 (omega (arith, more));
           later = λ b w. (
             answered (n - 1) (omega arith) (omega (arith, more)),
             x .count ∙ same-end (omega (arith, more)) ∙ sym run-count,
@@ -192,7 +192,7 @@ run-of f q r = run-is f (r .fine) (r .opened) (r .opens) q (r .runs)
 
 -- the verdict of a file's run is that of its problem under its budget
 own : (f : List ℕ) → Accepted f → run (openProblem (problemIn f)) .verdict ≡ verdictWith (problemIn f) (problemIn f .budget)
-own f a = demand-3 .turns f a .own
+own f a = demand-3 .steps f a .own
 
 same-answer : (f g : List ℕ) (q u : Ran) → RunOf f q → RunOf g u → verdictWith (problemIn f) (problemIn f .budget) ≡ verdictWith (problemIn g) (problemIn g .budget) → SameAnswer q u
 same-answer f g q u r s e =
@@ -207,7 +207,7 @@ spent f q r e = run-of f q r .verdict ∙ ap caseOf (own f (r .fine) ∙ e) ∙ 
 -- g's problem is f's under g's budget
 smaller-holds : (f g : List ℕ) (q u : Ran) → RunOf f q → RunOf g u → problemIn g ≡ withBudget (problemIn f) (problemIn g .budget) → problemIn g .budget ≤ problemIn f .budget →
     SameAnswer u q ⊎ (u .verdict ≡ verdict.OutOfBudget)
-smaller-holds f g q u r s b n = by (demand-3 .turns f (r .fine) .smaller (problemIn g .budget) (problemIn f .budget) n)
+smaller-holds f g q u r s b n = by (demand-3 .steps f (r .fine) .smaller (problemIn g .budget) (problemIn f .budget) n)
   where
     same : verdictWith (problemIn g) (problemIn g .budget) ≡ verdictWith (problemIn f) (problemIn g .budget)
     same = sym (own g (s .fine)) ∙ (unfold verdictWith in ap (λ (p : Problem). run (openProblem p) .verdict) b)

@@ -13,8 +13,8 @@ use Rattle.model.specs.Problem.{Problem, Result, ok}
 use Rattle.model.specs.Search as model
 use Rattle.model.specs.Validity.{valid}
 use Rattle.model.specs.Step.{goOn, Outcome, blockIn, step, stepCall, checked, runCall, run, withoutBlock}
-use Rattle.model.specs.Trace.{Trace, Traced as ModelTraced, lastTurn, advance, joined, written, tracedBy, traceCall}
-use Rattle.model.specs.Demand.{after, stateAfter, answerAt, blocksIn, journal, turnsTogether, Turns}
+use Rattle.model.specs.Trace.{Trace, Traced as ModelTraced, lastStep, advance, joined, written, tracedBy, traceCall}
+use Rattle.model.specs.Demand.{after, stateAfter, answerAt, blocksIn, journal, stepsTogether, Steps}
 use Rattle.lists.proofs.Bools.{lt-or-le}
 use Rattle.soundness.proofs.Together.{state-add, journal-add, Long, journal-long}
 use Rattle.state.specs.View.{view}
@@ -24,7 +24,7 @@ use Rattle.search.specs.declared.Stepped.{Stepped}
 use Rattle.search.specs.declared.Ran.{Ran}
 use Rattle.search.specs.declared.Traced.{Traced}
 use Rattle.search.specs.declared.Verdict.the-variants.{GoOn}
-use Rattle.calls.specs.Calls.{Call, stepped, traced, ran, Makes, told, ListFrom, stateIn, blocksAt, given, journalOf, NoRun, untilRun, turnsIn, turnsOf}
+use Rattle.calls.specs.Calls.{Call, stepped, traced, ran, Makes, told, ListFrom, stateIn, blocksAt, given, journalOf, NoRun, untilRun, stepsIn, stepsOf}
 use Rattle.calls.proofs.Shown.{caseOf, Tells, run-tells, trace-tells, step-tells}
 
 -- ---- blocks in a buffer
@@ -39,7 +39,7 @@ empty [] h = refl
 empty (b ∷ bs) h = let z : ⊥ = omega arith in absurd z
 
 -- ---- the model's list, from the state m
-module _ (p : Problem) (m : model.Search) (t : Turns p m) where
+module _ (p : Problem) (m : model.Search) (t : Steps p m) where
   taken : (k : ℕ) → stepCall (stateAfter k m) ≡ ok (step (stateAfter k m))
   unfolding answerAt
   taken k = t .taken k
@@ -84,14 +84,14 @@ module _ (p : Problem) (m : model.Search) (t : Turns p m) where
 
   -- ---- one call, after k turns
   pub record CallTells (k : ℕ) (c : Call) : Type 0 where
-    pub state : view (told c .state) ≡ stateAfter (k + turnsIn (t .last) c) m
-    pub count : told c .count ≡ length (journal (k + turnsIn (t .last) c) m)
-    pub blocks : NoRun (c ∷ []) → given c ≡ journal (turnsIn (t .last) c) (stateAfter k m)
-    pub idle : turnsIn (t .last) c ≡ 0 → told c .verdict ≡ GoOn
-    pub answer : (i : ℕ) → turnsIn (t .last) c ≡ suc i → (told c .verdict ≡ caseOf (step (stateAfter (k + i) m) .verdict)) × (told c .values ≡ valuesOf (step (stateAfter (k + i) m) .verdict))
+    pub state : view (told c .state) ≡ stateAfter (k + stepsIn (t .last) c) m
+    pub count : told c .count ≡ length (journal (k + stepsIn (t .last) c) m)
+    pub blocks : NoRun (c ∷ []) → given c ≡ journal (stepsIn (t .last) c) (stateAfter k m)
+    pub idle : stepsIn (t .last) c ≡ 0 → told c .verdict ≡ GoOn
+    pub answer : (i : ℕ) → stepsIn (t .last) c ≡ suc i → (told c .verdict ≡ caseOf (step (stateAfter (k + i) m) .verdict)) × (told c .values ≡ valuesOf (step (stateAfter (k + i) m) .verdict))
 
   step-call : (k : ℕ) (s : Search) (r : Stepped) → view s ≡ stateAfter k m → Makes s (stepped r) → CallTells k (stepped r)
-  unfolding told turnsIn given lastTurn
+  unfolding told stepsIn given lastStep
   step-call k s r v e =
       let x = step-tells s r (stateAfter k m) (step (stateAfter k m)) e v (taken k) in
       let a = x .answer in
@@ -111,8 +111,8 @@ module _ (p : Problem) (m : model.Search) (t : Turns p m) where
     idle : n ≡ 0 → r .verdict ≡ GoOn
     answer : (i : ℕ) → n ≡ suc i → (r .verdict ≡ caseOf (step (stateAfter (k + i) m) .verdict)) × (r .values ≡ valuesOf (step (stateAfter (k + i) m) .verdict))
 
-  trace-more : (n k : ℕ) (old new : List ℕ) (r : Traced) → Tells r new (turnsTogether n (stateAfter k m)) (written (turnsTogether n (stateAfter k m)) old .buffer) → TraceTells (suc n) k old new r
-  unfolding turnsTogether written
+  trace-more : (n k : ℕ) (old new : List ℕ) (r : Traced) → Tells r new (stepsTogether n (stateAfter k m)) (written (stepsTogether n (stateAfter k m)) old .buffer) → TraceTells (suc n) k old new r
+  unfolding stepsTogether written
   trace-more n k old new r x =
       let z : suc (k + n) ≡ k + suc n = omega arith in
       let w : stateAfter n (stateAfter k m) ≡ stateAfter (k + n) m = sym (state-add k n m) in
@@ -135,16 +135,16 @@ module _ (p : Problem) (m : model.Search) (t : Turns p m) where
       let x = trace-tells s r old new (stateAfter k m) (advance 0 (stateAfter k m)) e v (trace-takes 0 k old f) in
       let z : k + 0 ≡ k = omega arith in
       record { state = rw z (x .state); count = rw z (x .count ∙ t .carried k); blocks = rw (x .blocks) refl; idle = λ h. x .verdict; answer = λ i h. absurd (omega arith) }
-  trace-with (suc n) k s old new r f v e = trace-more n k old new r (trace-tells s r old new (stateAfter k m) (turnsTogether n (stateAfter k m)) e v (trace-takes (suc n) k old f ∙ ap (λ (y : Trace). written y old) (t .together k n)))
+  trace-with (suc n) k s old new r f v e = trace-more n k old new r (trace-tells s r old new (stateAfter k m) (stepsTogether n (stateAfter k m)) e v (trace-takes (suc n) k old f ∙ ap (λ (y : Trace). written y old) (t .together k n)))
 
   trace-call : (k : ℕ) (s : Search) (old new : List ℕ) (r : Traced) → view s ≡ stateAfter k m → Makes s (traced old new r) → CallTells k (traced old new r)
-  unfolding told turnsIn given
+  unfolding told stepsIn given
   trace-call k s old new r v e =
       let x = trace-with (length old / blockLength) k s old new r refl v e in
       record { state = x .state; count = x .count; blocks = λ n. x .blocks; idle = x .idle; answer = x .answer }
 
   run-call : (k : ℕ) (s : Search) (q : Ran) → view s ≡ stateAfter k m → Makes s (ran q) → CallTells k (ran q)
-  unfolding told turnsIn given lastTurn
+  unfolding told stepsIn given lastStep
   run-call k s q v e =
       let c : runCall (stateAfter k m) ≡ ok (run (stateAfter k m)) = unfold runCall checked in rw (t .accepted k) in
       let x = run-tells s q (stateAfter k m) (run (stateAfter k m)) e v c in
@@ -166,9 +166,9 @@ module _ (p : Problem) (m : model.Search) (t : Turns p m) where
 
   -- ---- a list of calls, after k turns
   pub record Follows (k : ℕ) (s : Search) (cs : List Call) : Type 0 where
-    pub state : view (stateIn s cs) ≡ stateAfter (k + turnsOf (t .last) cs) m
+    pub state : view (stateIn s cs) ≡ stateAfter (k + stepsOf (t .last) cs) m
     -- the blocks given before the first run
-    pub heard : journalOf (untilRun cs) ≡ journal (turnsOf (t .last) (untilRun cs)) (stateAfter k m)
+    pub heard : journalOf (untilRun cs) ≡ journal (stepsOf (t .last) (untilRun cs)) (stateAfter k m)
     -- and from there on none
     pub silent : journalOf cs ≡ journalOf (untilRun cs)
 
@@ -178,7 +178,7 @@ module _ (p : Problem) (m : model.Search) (t : Turns p m) where
   quiet k s [] h v l = refl
   quiet k s (c ∷ cs) h v l =
       let x = call-tells k s c v (l .0) in
-      rw (quiet-call c x, quiet (k + turnsIn (t .last) c) (told c .state) cs (omega arith) (x .state) (l .1))
+      rw (quiet-call c x, quiet (k + stepsIn (t .last) c) (told c .state) cs (omega arith) (x .state) (l .1))
     where
       quiet-call : (c : Call) → CallTells k c → given c ≡ []
       quiet-call (stepped r) x = x .blocks tt ∙ none-later k _ h
@@ -186,12 +186,12 @@ module _ (p : Problem) (m : model.Search) (t : Turns p m) where
       quiet-call (ran q) x = unfold given in refl
 
   -- a call that is no run, and a list after it
-  more : (k : ℕ) (s : Search) (c : Call) (cs : List Call) → NoRun (c ∷ []) → untilRun (c ∷ cs) ≡ c ∷ untilRun cs → CallTells k c → Follows (k + turnsIn (t .last) c) (told c .state) cs → Follows k s (c ∷ cs)
-  unfolding stateIn journalOf turnsOf
+  more : (k : ℕ) (s : Search) (c : Call) (cs : List Call) → NoRun (c ∷ []) → untilRun (c ∷ cs) ≡ c ∷ untilRun cs → CallTells k c → Follows (k + stepsIn (t .last) c) (told c .state) cs → Follows k s (c ∷ cs)
+  unfolding stateIn journalOf stepsOf
   more k s c cs h u x n =
-      let a = turnsIn (t .last) c in
-      let b = turnsOf (t .last) (untilRun cs) in
-      let z : k + a + turnsOf (t .last) cs ≡ k + (a + turnsOf (t .last) cs) = omega arith in
+      let a = stepsIn (t .last) c in
+      let b = stepsOf (t .last) (untilRun cs) in
+      let z : k + a + stepsOf (t .last) cs ≡ k + (a + stepsOf (t .last) cs) = omega arith in
       let e : given c ++ journalOf (untilRun cs) ≡ journal (a + b) (stateAfter k m) =
       ap₂ (λ (xs ys : List (List ℕ)). xs ++ ys) (x .blocks h) (n .heard ∙ ap (journal b) (state-add k a m)) ∙ sym (journal-add a b (stateAfter k m)) in
       record {
@@ -201,22 +201,22 @@ module _ (p : Problem) (m : model.Search) (t : Turns p m) where
       }
 
   pub follows : (cs : List Call) (k : ℕ) (s : Search) → view s ≡ stateAfter k m → ListFrom s cs → Follows k s cs
-  unfolding stateIn journalOf turnsOf untilRun journal given
+  unfolding stateIn journalOf stepsOf untilRun journal given
   follows [] k s v l = let z : k + 0 ≡ k = omega arith in record { state = rw z v; heard = refl; silent = refl }
   follows (stepped r ∷ cs) k s v l =
       let x = call-tells k s (stepped r) v (l .0) in
-      more k s (stepped r) cs tt refl x (follows cs (k + turnsIn (t .last) (stepped r)) (told (stepped r) .state) (x .state) (l .1))
+      more k s (stepped r) cs tt refl x (follows cs (k + stepsIn (t .last) (stepped r)) (told (stepped r) .state) (x .state) (l .1))
   follows (traced old new r ∷ cs) k s v l =
       let x = call-tells k s (traced old new r) v (l .0) in
-      more k s (traced old new r) cs tt refl x (follows cs (k + turnsIn (t .last) (traced old new r)) (told (traced old new r) .state) (x .state) (l .1))
+      more k s (traced old new r) cs tt refl x (follows cs (k + stepsIn (t .last) (traced old new r)) (told (traced old new r) .state) (x .state) (l .1))
   follows (ran q ∷ cs) k s v l =
       let x = call-tells k s (ran q) v (l .0) in
-      let n = follows cs (k + turnsIn (t .last) (ran q)) (told (ran q) .state) (x .state) (l .1) in
-      let z : k + turnsIn (t .last) (ran q) + turnsOf (t .last) cs ≡ k + (turnsIn (t .last) (ran q) + turnsOf (t .last) cs) = omega arith in
+      let n = follows cs (k + stepsIn (t .last) (ran q)) (told (ran q) .state) (x .state) (l .1) in
+      let z : k + stepsIn (t .last) (ran q) + stepsOf (t .last) cs ≡ k + (stepsIn (t .last) (ran q) + stepsOf (t .last) cs) = omega arith in
       record {
         state = n .state ∙ ap (λ (i : ℕ). stateAfter i m) z;
         heard = refl;
-        silent = quiet (k + turnsIn (t .last) (ran q)) (told (ran q) .state) cs (unfold turnsIn in omega arith) (x .state) (l .1);
+        silent = quiet (k + stepsIn (t .last) (ran q)) (told (ran q) .state) cs (unfold stepsIn in omega arith) (x .state) (l .1);
       }
 
 -- ---- one call more
@@ -225,10 +225,10 @@ unfolding stateIn
 one-more [] s c h e = (e, tt)
 one-more (d ∷ cs) s c h e = (h .0, one-more cs (told d .state) c (h .1) e)
 
-pub turns-more : (last : ℕ) (cs : List Call) (c : Call) → turnsOf last (cs ++ (c ∷ [])) ≡ turnsOf last cs + turnsIn last c
-unfolding turnsOf
-turns-more last [] c = omega arith
-turns-more last (d ∷ cs) c = omega (arith, turns-more last cs c)
+pub steps-more : (last : ℕ) (cs : List Call) (c : Call) → stepsOf last (cs ++ (c ∷ [])) ≡ stepsOf last cs + stepsIn last c
+unfolding stepsOf
+steps-more last [] c = omega arith
+steps-more last (d ∷ cs) c = omega (arith, steps-more last cs c)
 
 pub no-run : (cs : List Call) → NoRun cs → untilRun cs ≡ cs
 unfolding untilRun

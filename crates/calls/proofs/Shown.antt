@@ -10,7 +10,7 @@ use lib.ListN.{length}
 use Rattle.model.specs.Problem.{Result, ok, error}
 use Rattle.model.specs.Search as model
 use Rattle.model.specs.Step.{Verdict as ModelVerdict, goOn, noSolution, outOfBudget, solution, Outcome, blockIn as blocksIn, stepCall, runCall}
-use Rattle.model.specs.Trace.{Trace, Traced as ModelTraced, lastTurn, written, traceCall}
+use Rattle.model.specs.Trace.{Trace, Traced as ModelTraced, lastStep, written, traceCall}
 use Rattle.state.specs.View.{view}
 use Rattle.state.specs.declared.Search.{Search}
 use Rattle.validity.proofs.Steps.{impossible}
@@ -85,9 +85,9 @@ seen-tells r new s t bytes e =
 
 -- ---- a run
 pub run-tells : (s : Search) (q : Ran) (m : model.Search) (o : Outcome) → Makes s (ran q) → view s ≡ m → runCall m ≡ ok o →
-    Tells (record { verdict = q .verdict; values = q .values; count = q .count; blocks = 0; state = q .state }) [] (lastTurn o) []
+    Tells (record { verdict = q .verdict; values = q .values; count = q .count; blocks = 0; state = q .state }) [] (lastStep o) []
 unfolding seenRan runSeen
-run-tells s q m o e v c = seen-tells (record { verdict = q .verdict; values = q .values; count = q .count; blocks = 0; state = q .state }) [] s (lastTurn o) [] (e ∙ rw (v, c) (unfold turn in refl))
+run-tells s q m o e v c = seen-tells (record { verdict = q .verdict; values = q .values; count = q .count; blocks = 0; state = q .state }) [] s (lastStep o) [] (e ∙ rw (v, c) (unfold turn in refl))
 
 -- ---- a trace
 pub trace-tells : (s : Search) (r : Traced) (old new : List ℕ) (m : model.Search) (t : Trace) → Makes s (traced old new r) → view s ≡ m → traceCall m old ≡ written t old →
@@ -104,12 +104,12 @@ given-blocks false bytes none e f = refl
 given-blocks false bytes (some y) e f = absurd (omega arith)
 
 pub record StepTells (r : Stepped) (o : Outcome) : Type 0 where
-  pub answer : Tells (record { verdict = r .verdict; values = r .values; count = r .count; blocks = cond (r .recorded) 1 0; state = r .state }) (r .block) (lastTurn o) (blockOr (o .block))
+  pub answer : Tells (record { verdict = r .verdict; values = r .values; count = r .count; blocks = cond (r .recorded) 1 0; state = r .state }) (r .block) (lastStep o) (blockOr (o .block))
   pub blocks : cond (r .recorded) (r .block ∷ []) [] ≡ blocksIn (o .block)
 
 pub step-tells : (s : Search) (r : Stepped) (m : model.Search) (o : Outcome) → Makes s (stepped r) → view s ≡ m → stepCall m ≡ ok o → StepTells r o
-unfolding seenStepped stepSeen turn blockIn lastTurn
+unfolding seenStepped stepSeen turn blockIn lastStep
 step-tells s r m o e v c =
     let t : Traced = record { verdict = r .verdict; values = r .values; count = r .count; blocks = cond (r .recorded) 1 0; state = r .state } in
-    let x = seen-tells t (r .block) s (lastTurn o) (blockOr (o .block)) (e ∙ rw (v, c)) in
+    let x = seen-tells t (r .block) s (lastStep o) (blockOr (o .block)) (e ∙ rw (v, c)) in
     record { answer = x; blocks = given-blocks (r .recorded) (r .block) (o .block) (x .blocks) (x .buffer) }

@@ -85,14 +85,14 @@ untilRun (ran q ∷ cs) = []
 
 -- ---- turns
 -- how many turns a call may take: a step one, a trace as many as its buffer has room for blocks, a run as many as there are to the first verdict
-unfoldable pub turnsIn : ℕ → Call → ℕ
-turnsIn last (stepped r) = 1
-turnsIn last (traced old new r) = length old / blockLength
-turnsIn last (ran q) = suc last
+unfoldable pub stepsIn : ℕ → Call → ℕ
+stepsIn last (stepped r) = 1
+stepsIn last (traced old new r) = length old / blockLength
+stepsIn last (ran q) = suc last
 
-unfoldable pub turnsOf : ℕ → List Call → ℕ
-turnsOf last [] = 0
-turnsOf last (c ∷ cs) = turnsIn last c + turnsOf last cs
+unfoldable pub stepsOf : ℕ → List Call → ℕ
+stepsOf last [] = 0
+stepsOf last (c ∷ cs) = stepsIn last c + stepsOf last cs
 
 -- ---- the claims
 -- the same verdict and values
@@ -113,9 +113,9 @@ pub record CallAfter (p : Problem) (q : Ran) (last : ℕ) (blocks : List (List �
   -- every solution meets every cut in the blocks
   pub cuts : (x : Point) → Solution p x → MeetsCuts (variables p) x (journalOf (cs ++ (c ∷ [])))
   -- it says 'go on' up to turn `last`, and from there on what the run says; a trace with no room for a block takes no turn and says 'go on'
-  pub before : turnsOf last (cs ++ (c ∷ [])) ≤ last → told c .verdict ≡ verdict.GoOn
-  pub later : last < turnsOf last (cs ++ (c ∷ [])) → 0 < turnsIn last c → SameAnswer (told c) q × (told c .count ≡ q .count)
-  pub idle : turnsIn last c ≡ 0 → told c .verdict ≡ verdict.GoOn
+  pub before : stepsOf last (cs ++ (c ∷ [])) ≤ last → told c .verdict ≡ verdict.GoOn
+  pub later : last < stepsOf last (cs ++ (c ∷ [])) → 0 < stepsIn last c → SameAnswer (told c) q × (told c .count ≡ q .count)
+  pub idle : stepsIn last c ≡ 0 → told c .verdict ≡ verdict.GoOn
 
 -- 'none' exactly when there is no solution, else the first solution, zeros past its values
 pub record Decided (p : Problem) (q : Ran) : Type 0 where

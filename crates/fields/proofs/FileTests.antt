@@ -94,9 +94,9 @@ module _ (f : List ℕ) (n : ℕ) (en : n ≡ variablesIn f) where
     unfolding block
     head-test = rw (← en, ← ea) (sym e)
 
-    pub head-stray : not r ≡ true → false ≡ paddingZero f
+    pub head-nonzero : not r ≡ true → false ≡ paddingZero f
     unfolding paddingZero
-    head-stray h = rw (head-test, not-true r h)
+    head-nonzero h = rw (head-test, not-true r h)
 
     pub padding-end : (m j : ℕ) → m ≡ constraintsIn f → not r ≡ false → m ≤ j → j ≤ m → all (tab (constraintPadded f) 0 j) ≡ true → true ≡ paddingZero f
     unfolding paddingZero
@@ -112,7 +112,7 @@ module _ (f : List ℕ) (n : ℕ) (en : n ≡ variablesIn f) where
     pub padding-more : all (tab (constraintPadded f) 0 j) ≡ true → not r ≡ false → all (tab (constraintPadded f) 0 (j + 1)) ≡ true
     padding-more z h = all-more (constraintPadded f) j z (padded-test ∙ not-false r h)
 
-    pub padding-stray : (m : ℕ) → m ≡ constraintsIn f → j < m → not r ≡ true → false ≡ paddingZero f
+    pub padding-nonzero : (m : ℕ) → m ≡ constraintsIn f → j < m → not r ≡ true → false ≡ paddingZero f
     unfolding paddingZero
-    padding-stray m em l h =
+    padding-nonzero m em l h =
         rw (← em, all-fails (constraintPadded f) m j l (padded-test ∙ not-true r h)) (sym (and-false (zeroFrom (boundsOffset (variablesIn f)) (block f 0))))

@@ -47,7 +47,7 @@ pub record Tests (f : List ℕ) : Type 0 where
   pub sized : sizesInRange (problemIn f) ≡ true
   pub counted : blockCountMatches f ≡ true
   pub bounded : domainInRange (problemIn f) ≡ true
-  pub light : constraintsInRange (problemIn f) ≡ true
+  pub coefficient-range : constraintsInRange (problemIn f) ≡ true
   pub clean : paddingZero f ≡ true
 
 pub tests : (f : List ℕ) → readError f ≡ 0 → Tests f
@@ -61,11 +61,11 @@ tests f e =
     let e₆ = passed 5 (constraintsInRange (problemIn f)) _ (e₅ .1) in
     let e₇ = passed 6 (paddingZero f) _ (e₆ .1) in
     let s = and-true (sizesInRange (problemIn f)) (blockCountMatches f) (e₄ .0) in
-    record { whole = e₁ .0; checked = e₂ .0; lettered = e₃ .0; sized = s .0; counted = s .1; bounded = e₅ .0; light = e₆ .0; clean = e₇ .0 }
+    record { whole = e₁ .0; checked = e₂ .0; lettered = e₃ .0; sized = s .0; counted = s .1; bounded = e₅ .0; coefficient-range = e₆ .0; clean = e₇ .0 }
 
 pub no-error : (f : List ℕ) → Tests f → readError f ≡ 0
 unfolding readError firstError
-no-error f a = rw (a .whole, a .checked, a .lettered, a .sized, a .counted, a .bounded, a .light, a .clean)
+no-error f a = rw (a .whole, a .checked, a .lettered, a .sized, a .counted, a .bounded, a .coefficient-range, a .clean)
 
 -- ---- the problem in a file has the sizes that its head says
 pub variables-in : (f : List ℕ) → variables (problemIn f) ≡ variablesIn f
@@ -85,7 +85,7 @@ module _ (f : List ℕ) (e : readError f ≡ 0) where
   accepted-domain = T-of (tests f e .bounded)
 
   pub accepted-constraints : T (constraintsInRange (problemIn f))
-  accepted-constraints = T-of (tests f e .light)
+  accepted-constraints = T-of (tests f e .coefficient-range)
 
 -- this one holds of any bytes
 pub problem-shaped : (f : List ℕ) → T (allOf (constraintShaped (variables (problemIn f))) (problemIn f .constraints))

@@ -120,7 +120,7 @@ module _ (f : List ℕ) (y : Bytes f) (e : readError f ≡ 0) where
 
   pub writable-again : (room : ℕ) → length f ≤ room → writeError (problemIn f) room ≡ 0
   unfolding writeError firstError
-  writable-again room l = let a = tests f e in rw (a .sized, a .bounded, a .light, size-is, le-leb (length f) room l)
+  writable-again room l = let a = tests f e in rw (a .sized, a .bounded, a .coefficient-range, size-is, le-leb (length f) room l)
 
   pub read-then-written : (buffer : List ℕ) → length f ≤ length buffer → writeFile (problemIn f) buffer ≡ record { number = 0; buffer = f ++ drop (length f) buffer }
   unfolding writeFile writtenBy

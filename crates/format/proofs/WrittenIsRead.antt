@@ -33,7 +33,7 @@ use Rattle.format.proofs.BlocksRead.{constraint-read, headBlock, magic-
 pub record Writable (p : Problem) (room : ℕ) : Type 0 where
   pub sized : sizesInRange p ≡ true
   pub bounded : domainInRange p ≡ true
-  pub light : constraintsInRange p ≡ true
+  pub coefficient-range : constraintsInRange p ≡ true
   pub fits : fileLength p ≤ room
 
 pub writable : (p : Problem) (room : ℕ) → writeError p room ≡ 0 → Writable p room
@@ -43,7 +43,7 @@ writable p room e =
     let e₂ = passed 4 (domainInRange p) _ (e₁ .1) in
     let e₃ = passed 5 (constraintsInRange p) _ (e₂ .1) in
     let e₄ = passed 7 (leb (fileLength p) room) _ (e₃ .1) in
-    record { sized = e₁ .0; bounded = e₂ .0; light = e₃ .0; fits = leb-true _ _ (e₄ .0) }
+    record { sized = e₁ .0; bounded = e₂ .0; coefficient-range = e₃ .0; fits = leb-true _ _ (e₄ .0) }
 
 -- ---- the file of a problem whose sizes are in range
 module _ (p : Problem) (s : Sizes p) where
@@ -132,7 +132,7 @@ module _ (p : Problem) (room : ℕ) (w : Writable p room) (shape : allOf (constr
       rw (variables-are p s, block-of-file p (s .few-variables) (suc j) (omega arith))
       (constraint-read (variables p) (suc j) k
       (eqb-true _ _ (allOf-getD (constraintShaped (variables p)) (p .constraints) j noConstraint shape l))
-      (allOf-getD inRange (p .constraints) j noConstraint (w .light) l))
+      (allOf-getD inRange (p .constraints) j noConstraint (w .coefficient-range) l))
 
   domain-is : tab (boundsIn (fileOf p)) 0 (variablesIn (fileOf p)) ≡ p .domain
   unfolding variables
@@ -154,7 +154,7 @@ module _ (p : Problem) (room : ℕ) (w : Writable p room) (shape : allOf (constr
     sized = rw problem-is (w .sized);
     counted = counted-is p s;
     bounded = rw problem-is (w .bounded);
-    light = rw problem-is (w .light);
+    coefficient-range = rw problem-is (w .coefficient-range);
     clean = clean-is p s;
   }
 

@@ -40,8 +40,8 @@ journal zero s = []
 journal (suc k) s = blocksIn (stepCall s) ++ journal k (after s (stepCall s))
 
 -- k + 1 turns of the list taken by one call: their blocks, and the answer and walk of the last
-unfoldable pub turnsTogether : ℕ → Search → Trace
-turnsTogether k s = record { verdict = step (stateAfter k s) .verdict; count = step (stateAfter k s) .count; blocks = journal (suc k) s; state = stateAfter (suc k) s }
+unfoldable pub stepsTogether : ℕ → Search → Trace
+stepsTogether k s = record { verdict = step (stateAfter k s) .verdict; count = step (stateAfter k s) .count; blocks = journal (suc k) s; state = stateAfter (suc k) s }
 
 -- the point meets the cut, of n coefficients, in each block
 abbrev pub MeetsCuts : ℕ → Point → List (List ℕ) → Type 0
@@ -80,7 +80,7 @@ abbrev pub Agree : Verdict → Verdict → Type 0
 Agree u v = (u ≡ v) ⊎ ((u ≡ outOfBudget) ⊎ (v ≡ outOfBudget))
 
 -- ---- the claim
-pub record Turns (p : Problem) (s : Search) : Type 0 where
+pub record Steps (p : Problem) (s : Search) : Type 0 where
   pub listed : Listed p
   -- no call on a walk of the list is refused: no turn, and no run or trace
   pub accepted : (k : ℕ) → valid (stateAfter k s) ≡ true
@@ -98,7 +98,7 @@ pub record Turns (p : Problem) (s : Search) : Type 0 where
   pub later : (k : ℕ) → last ≤ k → (step (stateAfter k s) .verdict ≡ step (stateAfter last s) .verdict) × (step (stateAfter k s) .count ≡ step (stateAfter last s) .count)
   pub stays : (k : ℕ) → last < k → stateAfter k s ≡ stateAfter (suc last) s
   -- turns that one call takes are turns of the list
-  pub together : (k t : ℕ) → advance (suc t) (stateAfter k s) ≡ turnsTogether t (stateAfter k s)
+  pub together : (k t : ℕ) → advance (suc t) (stateAfter k s) ≡ stepsTogether t (stateAfter k s)
   -- a run, from any walk of the list, gives that verdict and its count, and leaves the walk that the verdict leaves
   pub ran : (k : ℕ) →
       (run (stateAfter k s) .verdict ≡ step (stateAfter last s) .verdict) × (run (stateAfter k s) .count ≡ step (stateAfter last s) .count) × (run (stateAfter k s) .state ≡ stateAfter (suc last) s)
@@ -121,6 +121,6 @@ pub record Accepted (f : List ℕ) : Type 0 where
 pub record Demand3 : Type 0 where
   -- a list starts at the walk that opening returns
   pub opens : (f : List ℕ) → Accepted f → openFile f ≡ ok (openProblem (problemIn f))
-  pub turns : (f : List ℕ) → Accepted f → Turns (problemIn f) (openProblem (problemIn f))
+  pub steps : (f : List ℕ) → Accepted f → Steps (problemIn f) (openProblem (problemIn f))
   -- equal verdicts for equal solution sets, whatever the lines, the limits and the budgets, but for 'spent'
   pub same : (f g : List ℕ) → Accepted f → Accepted g → SameSolutions (problemIn f) (problemIn g) → (b c : ℕ) → Agree (verdictWith (problemIn f) b) (verdictWith (problemIn g) c)

@@ -147,8 +147,8 @@ abbrev pub runsTo : Verdict → ℕ → Problem → Bool
 runsTo v n p = answers v n (runCall (openProblem p))
 
 -- the answer of turn k from the opening, k counted from 0
-abbrev pub turnsTo : Verdict → ℕ → ℕ → Problem → Bool
-turnsTo v n k p = answers v n (answerAt k (openProblem p))
+abbrev pub stepsTo : Verdict → ℕ → ℕ → Problem → Bool
+stepsTo v n k p = answers v n (answerAt k (openProblem p))
 
 -- ---- journal blocks by their values: count, false line, cut's number, depth met, d, cut, lines taken in
 abbrev pub entry : ℕ → ℕ → ℕ → ℕ → ℕ → Constraint → List ℕ → Record
@@ -211,7 +211,7 @@ unfolding Lists.tab Lists.parts Lists.sum Lists.all Lists.allOf Lists.anyOf List
     Validity.levelValid Validity.levelsValid Validity.inside Validity.boxInside Validity.decisionValid Validity.nestedValid Validity.isOpen
     Validity.falsifies Validity.anyFalsified Validity.outermost Validity.statusValid Validity.valid Validity.levelShaped Validity.constraintShaped
     Validity.shaped
-    Step.lowers Step.withStatus Step.solvedBy Step.budgetSpent Step.recordOf Step.verdictAt Step.statusAt Step.counted Step.atDeadEnd Step.endedAt
+    Step.lowers Step.withStatus Step.solvedBy Step.budgetSpent Step.recordOf Step.verdictAt Step.statusAt Step.counted Step.onConflict Step.endedAt
     Step.ended Step.again Step.stepBy Step.step Step.continue Step.runFor Step.withoutBlock Step.run Step.checked Step.stepCall Step.runCall
     Points.valuesBetween Points.valuesFrom Points.values Points.prefixed Points.allPoints Points.points Points.dot Points.value
     Demand.after Demand.stateAfter Demand.answerAt Step.blockIn Demand.blocksIn Demand.journal Demand.withBudget Demand.verdictWith

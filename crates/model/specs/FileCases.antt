@@ -184,8 +184,8 @@ limitEdges =
     [])
 
 -- 6: a coefficient of −2^30 and one less, a constant of 2^30 and one more; before 8
-abbrev heavyEdges : Bool
-heavyEdges =
+abbrev rangeEdges : Bool
+rangeEdges =
     all (
     eqb (writing A-domain (linear (neg 1_073_741_824 ∷ pos 0 ∷ []) (pos 1_073_741_824) ∷ []) 5 1024) 0 ∷
     eqb (writing A-domain (linear (neg 1_073_741_825 ∷ pos 0 ∷ []) (pos 0) ∷ []) 5 1024) 6 ∷
@@ -197,4 +197,4 @@ fileCases =
     blockBytes ∷ blockCut ∷
     readsA ∷ writesA ∷ leavesRest ∷ keepsShort ∷
     torn ∷ badCheck ∷ notAPlan ∷ wrongSize ∷ wrongLimits ∷ heavy ∷ stray ∷ padding ∷
-    shortShelf ∷ sizeEdges ∷ limitEdges ∷ heavyEdges ∷ []
+    shortShelf ∷ sizeEdges ∷ limitEdges ∷ rangeEdges ∷ []

@@ -13,7 +13,7 @@ use Rattle.model.specs.Move.{descend}
 use Rattle.model.specs.Conflict.{analyze}
 use Rattle.model.specs.Step.{goOn, noSolution, outOfBudget, solution}
 use Rattle.model.specs.Demand.{stateAfter}
-use Rattle.model.specs.Examples.{neg, linear, between, problem, planA, sameBounds, sameReasons, runsTo, turnsTo, entry, writes}
+use Rattle.model.specs.Examples.{neg, linear, between, problem, planA, sameBounds, sameReasons, runsTo, stepsTo, entry, writes}
 
 -- ---- what a state holds after k turns from the opening: depth, the deepest level's bounds and causes, kept cuts with their numbers, cuts made
 abbrev stands : ℕ → Box → List Reasons → List Constraint → List ℕ → ℕ → Core → Bool
@@ -46,17 +46,17 @@ abbrev marked : Status → ℕ → Problem → Bool
 marked m k p = eqb (statusCode (stateAfter k (openProblem p) .status)) (statusCode m)
 
 -- plan A after its first turn: frame 1 is gone, and v1 starts at 1 in frame 0, cause turned
-abbrev turnedA : Bool
-turnedA =
+abbrev steppedA : Bool
+steppedA =
     stands 0 (between (pos 1) (pos 1) ∷ to 1 ∷ []) (by flipped domain ∷ by domain domain ∷ []) (linear (neg 1 ∷ pos 0 ∷ []) (pos 1) ∷ []) (3 ∷ []) 1 (after 1 (planA 5))
 
 -- its turns: go on, the solution, and the solution again; marked by that verdict
-abbrev turnsA : Bool
-turnsA =
+abbrev stepsA : Bool
+stepsA =
     all (
-    turnsTo goOn 1 0 (planA 5) ∷
-    turnsTo (solution (pos 1 ∷ pos 0 ∷ [])) 1 1 (planA 5) ∷
-    turnsTo (solution (pos 1 ∷ pos 0 ∷ [])) 1 2 (planA 5) ∷
+    stepsTo goOn 1 0 (planA 5) ∷
+    stepsTo (solution (pos 1 ∷ pos 0 ∷ [])) 1 1 (planA 5) ∷
+    stepsTo (solution (pos 1 ∷ pos 0 ∷ [])) 1 2 (planA 5) ∷
     marked undecided 1 (planA 5) ∷
     marked solved 2 (planA 5) ∷
     [])
@@ -194,8 +194,8 @@ noneDeep =
     all (
     writes (entry 1 2 3 1 0 noneCut (0 ∷ 0 ∷ 1 ∷ []) ∷ []) 3 hopeless ∷
     stands 1 (to 0 ∷ between (pos 1) (pos 1) ∷ between (pos 1) (pos 1) ∷ []) (by domain decision ∷ by (constraint 1) (constraint 2) ∷ by (constraint 2) (constraint 1) ∷ []) (noneCut ∷ []) (3 ∷ []) 1 (after 1 hopeless) ∷
-    turnsTo noSolution 1 0 hopeless ∷
-    turnsTo noSolution 1 2 hopeless ∷
+    stepsTo noSolution 1 0 hopeless ∷
+    stepsTo noSolution 1 2 hopeless ∷
     marked infeasible 1 hopeless ∷
     runsTo noSolution 1 hopeless ∷
     [])
@@ -209,9 +209,9 @@ abbrev spentAtBudget : Bool
 spentAtBudget =
     all (
     runsTo (solution (pos 1 ∷ pos 0 ∷ [])) 1 (planA 1) ∷
-    turnsTo goOn 1 0 (twice 1) ∷
-    turnsTo outOfBudget 1 1 (twice 1) ∷
-    turnsTo outOfBudget 1 2 (twice 1) ∷
+    stepsTo goOn 1 0 (twice 1) ∷
+    stepsTo outOfBudget 1 1 (twice 1) ∷
+    stepsTo outOfBudget 1 2 (twice 1) ∷
     marked undecided 2 (twice 1) ∷
     stands 0 (between (pos 1) (pos 1) ∷ to 1 ∷ to 1 ∷ []) (by flipped domain ∷ by domain (constraint 2) ∷ by domain domain ∷ []) (twiceCut ∷ []) (3 ∷ []) 1 (after 2 (twice 1)) ∷
     runsTo outOfBudget 1 (twice 1) ∷
@@ -221,4 +221,4 @@ spentAtBudget =
 unfoldable pub searchCases : List Bool
 searchCases =
     notTaken ∷ backjump ∷ spentAtBudget ∷
-    turnedA ∷ turnsA ∷ backOne ∷ rangeEdge ∷ wrongSign ∷ equalInput ∷ equalCut ∷ noneDeep ∷ noLines ∷ []
+    steppedA ∷ stepsA ∷ backOne ∷ rangeEdge ∷ wrongSign ∷ equalInput ∷ equalCut ∷ noneDeep ∷ noLines ∷ []

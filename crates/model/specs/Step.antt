@@ -75,13 +75,13 @@ counted s x =
       state = record { core = x .core; budget = s .budget; conflicts = suc (s .conflicts); status = statusAt (x .back) };
     }
 
-unfoldable pub atDeadEnd : Search → Core → ℕ → Outcome
-atDeadEnd s c j = cond (eqb (s .conflicts) (s .budget)) (budgetSpent s) (counted s (atConflict c j))
+unfoldable pub onConflict : Search → Core → ℕ → Outcome
+onConflict s c j = cond (eqb (s .conflicts) (s .budget)) (budgetSpent s) (counted s (atConflict c j))
 
 -- ---- a turn
 unfoldable pub endedAt : Search → Core → Option ℕ → Outcome
 endedAt s c none = solvedBy s c
-endedAt s c (some j) = atDeadEnd s c j
+endedAt s c (some j) = onConflict s c j
 
 unfoldable pub ended : Search → Stop → Outcome
 ended s e = endedAt s (e .core) (e .falsified)

@@ -19,14 +19,14 @@ pub record Trace : Type 0 where
 unfoldable pub withBlocks : List (List ℕ) → Trace → Trace
 withBlocks bs t = record { verdict = t .verdict; count = t .count; blocks = bs ++ t .blocks; state = t .state }
 
-unfoldable pub lastTurn : Outcome → Trace
-lastTurn o = record { verdict = o .verdict; count = o .count; blocks = blockIn (o .block); state = o .state }
+unfoldable pub lastStep : Outcome → Trace
+lastStep o = record { verdict = o .verdict; count = o .count; blocks = blockIn (o .block); state = o .state }
 
 unfoldable pub advanced : Verdict → Outcome → (Search → Trace) → Trace
 advanced goOn o go = withBlocks (blockIn (o .block)) (go (o .state))
-advanced noSolution o go = lastTurn o
-advanced outOfBudget o go = lastTurn o
-advanced (solution v) o go = lastTurn o
+advanced noSolution o go = lastStep o
+advanced outOfBudget o go = lastStep o
+advanced (solution v) o go = lastStep o
 
 -- at most `limit` turns, to a verdict; with none it answers 'go on', the count and the walk as they are
 unfoldable pub advance : ℕ → Search → Trace

@@ -86,8 +86,8 @@ withCut k ns made ends = state root [] (k ∷ []) ns made ends undecided
 abbrev cut : Constraint
 cut = linear (neg 1 ∷ pos 0 ∷ []) (pos 1)
 
-abbrev heavyCase : Bool
-heavyCase =
+abbrev rangeCase : Bool
+rangeCase =
     accepted (withCut cut (3 ∷ []) 1 1 ∷ withCut (linear (neg 1_073_741_824 ∷ pos 0 ∷ []) (pos 1_073_741_824)) (3 ∷ []) 1 1 ∷ []) &&
     refused (withCut (linear (neg 1_073_741_825 ∷ pos 0 ∷ []) (pos 1)) (3 ∷ []) 1 1 ∷ withCut (linear (neg 1 ∷ pos 0 ∷ []) (pos 1_073_741_825)) (3 ∷ []) 1 1 ∷ [])
 
@@ -117,8 +117,8 @@ abbrev caused : Reason → Reason → Search
 caused r u =
     state (record { box = A-domain; reasons = record { lower = domain; upper = domain } ∷ record { lower = r; upper = u } ∷ []; decided = 0 }) [] (cut ∷ []) (3 ∷ []) 1 1 undecided
 
-abbrev causeCase : Bool
-causeCase =
+abbrev reasonCase : Bool
+reasonCase =
     accepted (caused decision flipped ∷ caused flipped decision ∷ caused (constraint 1) (constraint 3) ∷ []) &&
     refused (caused (constraint 0) domain ∷ caused (constraint 4) domain ∷ caused domain (constraint 0) ∷ caused domain (constraint 4) ∷ [])
 
@@ -153,4 +153,4 @@ nine = isError 9 (stepCall (withCut cut (4 ∷ []) 1 1)) && isError 9 (runCall (
 
 unfoldable pub validityCases : List Bool
 validityCases =
-    metA ∷ baseCase ∷ sizeCase ∷ tooDeep ∷ boundCase ∷ heavyCase ∷ numberCase ∷ manyCase ∷ countCase ∷ causeCase ∷ insideCase ∷ decidedCase ∷ solvedCase ∷ noneCase ∷ nine ∷ []
+    metA ∷ baseCase ∷ sizeCase ∷ tooDeep ∷ boundCase ∷ rangeCase ∷ numberCase ∷ manyCase ∷ countCase ∷ reasonCase ∷ insideCase ∷ decidedCase ∷ solvedCase ∷ noneCase ∷ nine ∷ []

@@ -12,4 +12,4 @@ pub accepted : (f : List ℕ) → readError f ≡ 0 → Accepted (packed (proble
 unfolding packed
 accepted f e =
     let s = sizes (problemIn f) (tests f e .sized) in
-    record { few-variables = s .few-variables; few-constraints = s .few-constraints; light = rw (view-of-accepted f e) (accepted-constraints f e) }
+    record { few-variables = s .few-variables; few-constraints = s .few-constraints; coefficient-range = rw (view-of-accepted f e) (accepted-constraints f e) }

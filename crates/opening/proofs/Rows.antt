@@ -45,9 +45,9 @@ may-round n j constraints row e same =
 
 -- ---- the constraints of an accepted problem
 module _ (p : Problem) where
-  pub row-light : (j : ℕ) → Accepted p → j < p .m → inRange (rowAt (p .n) (p .constraints) j) ≡ true
+  pub row-in-range : (j : ℕ) → Accepted p → j < p .m → inRange (rowAt (p .n) (p .constraints) j) ≡ true
   unfolding constraintsInRange problemOf
-  row-light j a l = every-at inRange (rowAt (p .n) (p .constraints)) (p .m) j (true-of _ (a .light)) l
+  row-in-range j a l = every-at inRange (rowAt (p .n) (p .constraints)) (p .m) j (true-of _ (a .coefficient-range)) l
 
   pub all-rounded : (rows : List ℤ) → RowsRounded (p .n) (p .constraints) (p .m) rows → tab (rowAt (p .n) rows) 0 (p .m) ≡ map rounded (problemOf p .constraints)
   unfolding problemOf

@@ -10,4 +10,4 @@ use Rattle.problem.specs.View.{problemOf}
 pub record Accepted (p : Problem) : Type 0 where
   pub few-variables : p .n ≤ maxVariables
   pub few-constraints : p .m ≤ maxConstraints
-  pub light : T (constraintsInRange (problemOf p))
+  pub coefficient-range : T (constraintsInRange (problemOf p))

@@ -56,7 +56,7 @@ module _ (p : Problem) where
 
     pub writable : (space : ℕ) → domainInRange (problemOf p) ≡ true → constraintsInRange (problemOf p) ≡ true → p .m < space / blockLength → Writable p space
     writable space t₅ t₆ l =
-        record { few-variables = variables-few; few-constraints = constraints-few; bounded = t₅; light = t₆; long = omega arith }
+        record { few-variables = variables-few; few-constraints = constraints-few; bounded = t₅; coefficient-range = t₆; long = omega arith }
 
 module _ (p : Problem) (b : List ℕ) where
   pub size-range : (r : Bool) → r ≡ sizesFit (p .n) (p .m) (p .budget) → not r ≡ true → written SizeRange b ≡ writeFile (problemOf p) b

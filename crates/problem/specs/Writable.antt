@@ -13,5 +13,5 @@ pub record Writable (p : Problem) (space : ℕ) : Type 0 where
   pub few-variables : p .n ≤ maxVariables
   pub few-constraints : p .m ≤ maxConstraints
   pub bounded : domainInRange (problemOf p) ≡ true
-  pub light : constraintsInRange (problemOf p) ≡ true
+  pub coefficient-range : constraintsInRange (problemOf p) ≡ true
   pub long : blockLength * suc (p .m) ≤ space

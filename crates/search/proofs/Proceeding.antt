@@ -7,7 +7,7 @@ use mathlib.Core.Path.{_≡_, refl, sym, ap, subst, _∙_}
 use lib.ListN.{length}
 use Rattle.model.specs.Search as model
 use Rattle.model.specs.Step.{Verdict, goOn, noSolution, outOfBudget, solution, Outcome, blockIn, lowers, again, stepBy, step}
-use Rattle.model.specs.Trace.{Trace, withBlocks, lastTurn, advanced, advance, joined}
+use Rattle.model.specs.Trace.{Trace, withBlocks, lastStep, advanced, advance, joined}
 use Rattle.validity.proofs.States.{core-fits, sizes-fit, depth-fits}
 use Rattle.validity.specs.Valid.{Valid}
 use Rattle.validity.proofs.Steps.{step-valid, impossible}
@@ -16,15 +16,15 @@ use Rattle.state.specs.declared.Search.{Search}
 use Rattle.state.specs.declared.Status.{Status}
 use Rattle.state.specs.declared.Status.the-variants.{Infeasible, Solved}
 use Rattle.state.proofs.Cores.{length-levels}
-use Rattle.turns.specs.Advancing.{verdictOf, traceOf, Buffered, Advances}
-use Rattle.turns.specs.declared.Ending.{Ending}
-use Rattle.turns.specs.declared.Ending.the-variants.{GoOn, NoSolution, Solution}
-use Rattle.turns.specs.declared.Advanced.{Advanced}
-use Rattle.turns.proofs.Turning.{advance-again}
+use Rattle.engine.specs.Advancing.{verdictOf, traceOf, Buffered, Advances}
+use Rattle.engine.specs.declared.Ending.{Ending}
+use Rattle.engine.specs.declared.Ending.the-variants.{GoOn, NoSolution, Solution}
+use Rattle.engine.specs.declared.Advanced.{Advanced}
+use Rattle.engine.proofs.OneStep.{advance-again}
 
 -- ---- validity is kept
 advanced-valid : (v : Verdict) (o : Outcome) (go : model.Search → Trace) → Valid (o .state) → ((t : model.Search) → Valid t → Valid (go t .state)) → Valid (advanced v o go .state)
-unfolding advanced withBlocks lastTurn
+unfolding advanced withBlocks lastStep
 advanced-valid goOn o go h next = next (o .state) h
 advanced-valid noSolution o go h next = h
 advanced-valid outOfBudget o go h next = h
@@ -63,15 +63,15 @@ stays : (s : Search) (e : Ending) (limit : ℕ) (keep : Bool) (buffer : List ℕ
     Advances (view s) limit keep (record { ending = e; blocks = 0; state = s }) buffer buffer
 stays s e limit keep buffer h = record { blocks = []; many = refl; trace = h; buffer = none-written keep buffer }
 
-pub no-turn : (s : Search) (keep : Bool) (buffer : List ℕ) (limit : ℕ) → limit ≡ 0 → Advances (view s) limit keep (record { ending = GoOn; blocks = 0; state = s }) buffer buffer
-no-turn s keep buffer limit e = stays s GoOn limit keep buffer (rw e (unfold traceOf verdictOf advance view in refl))
+pub no-step : (s : Search) (keep : Bool) (buffer : List ℕ) (limit : ℕ) → limit ≡ 0 → Advances (view s) limit keep (record { ending = GoOn; blocks = 0; state = s }) buffer buffer
+no-step s keep buffer limit e = stays s GoOn limit keep buffer (rw e (unfold traceOf verdictOf advance view in refl))
 
 again-traced : (s : Search) (m : Status) (e : Ending) (v : Verdict) (limit : ℕ) → s .status ≡ m → stepBy (statusOf m) (view s) ≡ again (view s) v → verdictOf e (view s) ≡ v → ¬ (v ≡ goOn) →
     ¬ (limit ≡ 0) → traceOf (record { ending = e; blocks = 0; state = s }) [] ≡ advance limit (view s)
 unfolding traceOf
 again-traced s m e v zero q b u n z = absurd (z refl)
 again-traced s m e v (suc l) q b u n z =
-    rw u (sym (advance-again l (view s) (statusOf m) v (unfold view in ap statusOf q) b n ∙ (unfold lastTurn again blockIn view in refl)))
+    rw u (sym (advance-again l (view s) (statusOf m) v (unfold view in ap statusOf q) b n ∙ (unfold lastStep again blockIn view in refl)))
 
 pub none-again : (s : Search) (keep : Bool) (buffer : List ℕ) (limit : ℕ) → s .status ≡ Infeasible → ¬ (limit ≡ 0) → Advances (view s) limit keep (record { ending = NoSolution; blocks = 0; state = s }) buffer buffer
 none-again s keep buffer limit q z =

@@ -14,7 +14,7 @@ use Rattle.model.specs.Lists.{tab}
 use Rattle.model.specs.Problem.{Result, ok, error}
 use Rattle.model.specs.Search as model
 use Rattle.model.specs.Step.{Verdict as ModelVerdict, solution, Outcome, blockIn as blocksIn, lowers, checked, step, run, withoutBlock, stepCall, runCall}
-use Rattle.model.specs.Trace.{Trace, lastTurn, advance, joined, written, tracedBy, traceCall}
+use Rattle.model.specs.Trace.{Trace, lastStep, advance, joined, written, tracedBy, traceCall}
 use Rattle.model.specs.Validity.{valid}
 use Rattle.layout.specs.Rows.{numberIn, boundsAt, boxOf}
 use Rattle.lists.proofs.Bools.{T-of}
@@ -25,10 +25,10 @@ use Rattle.state.specs.declared.Level.{Level}
 use Rattle.state.specs.declared.Search.{Search}
 use Rattle.state.proofs.Shape.{view-shaped}
 use Rattle.validity.specs.Valid.{Valid}
-use Rattle.turns.specs.Advancing.{verdictOf as modelVerdictOf, traceOf, Advances}
-use Rattle.turns.specs.declared.Ending.{Ending}
-use Rattle.turns.specs.declared.Ending.the-variants as ending
-use Rattle.turns.specs.declared.Advanced.{Advanced}
+use Rattle.engine.specs.Advancing.{verdictOf as modelVerdictOf, traceOf, Advances}
+use Rattle.engine.specs.declared.Ending.{Ending}
+use Rattle.engine.specs.declared.Ending.the-variants as ending
+use Rattle.engine.specs.declared.Advanced.{Advanced}
 use Rattle.validity.proofs.Repeating.{advance-one, Same, run-same}
 use Rattle.search.specs.declared.Traced.{Traced}
 use Rattle.search.specs.Seen.{Seen, verdictOf, refusedIn, seenTraced, seenStepped, seenRan, valuesOf, noBlock, blockOr, shown, turn, blockIn, stepSeen, runSeen, traceSeen}
@@ -103,14 +103,14 @@ unfolding joined blocksIn noBlock blockOr
 block-shown none = refl
 block-shown (some b) = append-nil (b ++ []) ∙ append-nil b
 
-turn-shown : (s : Search) (o : Outcome) → shown s (written (lastTurn o) noBlock .answer) (written (lastTurn o) noBlock .buffer) ≡ shown s (ok (lastTurn o)) (blockOr (o .block))
-unfolding written lastTurn
-turn-shown s o = rw (block-shown (o .block))
+trace-shown : (s : Search) (o : Outcome) → shown s (written (lastStep o) noBlock .answer) (written (lastStep o) noBlock .buffer) ≡ shown s (ok (lastStep o)) (blockOr (o .block))
+unfolding written lastStep
+trace-shown s o = rw (block-shown (o .block))
 
 step-by : (s : Search) (b : Bool) → (b ≡ true → s .conflicts ≤ s .budget) →
     shown s (tracedBy b (view s) noBlock .answer) (tracedBy b (view s) noBlock .buffer) ≡ shown s (turn (checked b (step (view s)))) (blockIn (checked b (step (view s))))
 unfolding tracedBy checked turn blockIn
-step-by s true h = rw (one-block, advance-one (view s) (unfold view in h refl)) (turn-shown s (step (view s)))
+step-by s true h = rw (one-block, advance-one (view s) (unfold view in h refl)) (trace-shown s (step (view s)))
 step-by s false h = refl
 
 pub step-shown : (s : Search) → traceSeen s noBlock ≡ stepSeen s
@@ -123,17 +123,17 @@ unfolding blocksIn
 few-blocks none k e = rw e
 few-blocks (some b) k e = rw e
 
-turn-blocks : (r : Result Outcome) (s : Search) (k : ℕ) → k ≡ shown s (turn r) (blockIn r) .blocks → cond (eqb k 1) 1 0 ≡ k
-unfolding turn shown lastTurn
-turn-blocks (ok o) s k e = few-blocks (o .block) k e
-turn-blocks (error x) s k e = rw e
+step-blocks : (r : Result Outcome) (s : Search) (k : ℕ) → k ≡ shown s (turn r) (blockIn r) .blocks → cond (eqb k 1) 1 0 ≡ k
+unfolding turn shown lastStep
+step-blocks (ok o) s k e = few-blocks (o .block) k e
+step-blocks (error x) s k e = rw e
 
 pub step-seen : (s : Search) (t : Traced) (block : List ℕ) → seenTraced t block ≡ traceSeen s noBlock →
     seenStepped (record { verdict = t .verdict; values = t .values; count = t .count; recorded = eqb (t .blocks) 1; block = block; state = t .state }) ≡ stepSeen s
 unfolding seenStepped seenTraced shown stepSeen
 step-seen s t block e =
     let q = e ∙ step-shown s in
-    let k : cond (eqb (t .blocks) 1) 1 0 ≡ t .blocks = turn-blocks (stepCall (view s)) s (t .blocks) (ap (λ (x : Seen). x .blocks) q) in
+    let k : cond (eqb (t .blocks) 1) 1 0 ≡ t .blocks = step-blocks (stepCall (view s)) s (t .blocks) (ap (λ (x : Seen). x .blocks) q) in
     rw k q
 
 -- ---- a run
@@ -142,8 +142,8 @@ same-trace : {v w : ModelVerdict} {c d : ℕ} {s t : model.Search} → v ≡ w �
 same-trace e f g = rw (e, f, g)
 
 run-traced : (s : Search) (a : Advanced) (blocks : List (List ℕ)) → Valid (view s) → traceOf a blocks ≡ advance (suc (s .budget - s .conflicts)) (view s) →
-    traceOf (record { ending = a .ending; blocks = 0; state = a .state }) [] ≡ lastTurn (run (view s))
-unfolding traceOf lastTurn blocksIn run withoutBlock
+    traceOf (record { ending = a .ending; blocks = 0; state = a .state }) [] ≡ lastStep (run (view s))
+unfolding traceOf lastStep blocksIn run withoutBlock
 run-traced s a blocks v e =
     let r : Same (advance (suc (s .budget - s .conflicts)) (view s)) (run (view s)) = unfold view in run-same (view s) v in
     same-trace (ap (λ (t : Trace). t .verdict) e ∙ r .verdict) (ap (λ (t : Trace). t .count) e ∙ r .count) (ap (λ (t : Trace). t .state) e ∙ r .state)

@@ -6,9 +6,9 @@ use Rattle.layout.specs.Rows.{numberIn}
 use Rattle.fields.specs.Fields.{room, zeros, filled}
 use Rattle.state.specs.View.{noLevel}
 use Rattle.state.specs.declared.Search.{Search}
-use Rattle.turns.specs.declared.Advanced.{Advanced}
-use Rattle.turns.specs.declared.Ending.{Ending}
-use Rattle.turns.specs.declared.Ending.the-variants as ending
+use Rattle.engine.specs.declared.Advanced.{Advanced}
+use Rattle.engine.specs.declared.Ending.{Ending}
+use Rattle.engine.specs.declared.Ending.the-variants as ending
 use Rattle.search.specs.declared.Verdict.{Verdict}
 use Rattle.search.specs.declared.Verdict.the-variants.{GoOn, NoSolution, OutOfBudget, Solution, Invalid}
 use Rattle.search.specs.declared.Ran.{Ran}

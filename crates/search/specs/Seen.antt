@@ -9,7 +9,7 @@ use Rattle.model.specs.Bytes.{blockLength}
 use Rattle.model.specs.Problem.{Result, ok, error}
 use Rattle.model.specs.Search as model
 use Rattle.model.specs.Step.{Verdict as ModelVerdict, Outcome, goOn, noSolution, outOfBudget, solution, stepCall, runCall}
-use Rattle.model.specs.Trace.{Trace, lastTurn, traceCall}
+use Rattle.model.specs.Trace.{Trace, lastStep, traceCall}
 use Rattle.fields.specs.Fields.{room, zeros}
 use Rattle.state.specs.View.{view}
 use Rattle.state.specs.declared.Search.{Search}
@@ -100,7 +100,7 @@ shown given (error e) bytes =
     record { verdict = error e; values = zeros room; count = 0; blocks = 0; bytes = bytes; state = view given; refused = some given }
 
 unfoldable pub turn : Result Outcome → Result Trace
-turn (ok o) = ok (lastTurn o)
+turn (ok o) = ok (lastStep o)
 turn (error e) = error e
 
 unfoldable pub blockIn : Result Outcome → List ℕ

@@ -8,9 +8,9 @@ use Rattle.model.specs.Problem.{Problem, variables}
 use Rattle.model.specs.Search.{Core, Status, undecided, infeasible, solved, Search, levelOf, coreOf, openProblem}
 use Rattle.model.specs.Move.{descend}
 use Rattle.model.specs.Conflict.{atConflict}
-use Rattle.model.specs.Step.{Verdict, goOn, noSolution, outOfBudget, solution, Outcome, withStatus, solvedBy, budgetSpent, counted, atDeadEnd, endedAt, ended, again, stepBy, step, continue, runFor, withoutBlock, run}
+use Rattle.model.specs.Step.{Verdict, goOn, noSolution, outOfBudget, solution, Outcome, withStatus, solvedBy, budgetSpent, counted, onConflict, endedAt, ended, again, stepBy, step, continue, runFor, withoutBlock, run}
 use Rattle.model.specs.Demand.{withBudget, verdictWith}
-use Rattle.validity.proofs.Steps.{dead-end, impossible}
+use Rattle.validity.proofs.Steps.{spent-or-counted, impossible}
 
 -- the search under another budget
 abbrev under : Search → ℕ → Search
@@ -29,9 +29,9 @@ module _ (b c : ℕ) (less : b ≤ c) where
   unfolding Either endedAt
   ended-beside s d none h = unfold solvedBy in inr (record { verdict = refl; next = λ g. impossible (cc) })
   ended-beside s d (some j) h =
-      dead-end (λ x. Either s x (atDeadEnd (under s c) d j)) (under s b) d j h (λ e. unfold budgetSpent in inl refl)
+      spent-or-counted (λ x. Either s x (onConflict (under s c) d j)) (under s b) d j h (λ e. unfold budgetSpent in inl refl)
       (λ l.
-      dead-end (λ y. Either s (counted (under s b) (atConflict d j)) y) (under s c) d j (omega arith) (λ e. let z : ⊥ = omega arith in absurd z)
+      spent-or-counted (λ y. Either s (counted (under s b) (atConflict d j)) y) (under s c) d j (omega arith) (λ e. let z : ⊥ = omega arith in absurd z)
       (λ k. unfold counted in inr (record { verdict = refl; next = λ g. (counted s (atConflict d j) .state, refl, refl, refl, l) })))
 
   step-beside : (m : Status) (s : Search) → s .conflicts ≤ b → Either s (stepBy m (under s b)) (stepBy m (under s c))

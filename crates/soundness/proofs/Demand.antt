@@ -15,7 +15,7 @@ use Rattle.model.specs.Search.{undecided, Search, coreOf, openProblem, openedBy
 use Rattle.model.specs.Validity.{constraintShaped, statusValid, valid}
 use Rattle.model.specs.Points.{points}
 use Rattle.model.specs.Step.{goOn, Outcome, step, runFor, withoutBlock, run}
-use Rattle.model.specs.Demand.{stateAfter, answerAt, Listed, withBudget, verdictWith, Turns, SameSolutions, Accepted, Demand3}
+use Rattle.model.specs.Demand.{stateAfter, answerAt, Listed, withBudget, verdictWith, Steps, SameSolutions, Accepted, Demand3}
 use Rattle.format.proofs.AcceptedShape as Small
 use Rattle.format.proofs.AcceptedShape.{tests, sizes, accepted-domain, accepted-constraints, problem-shaped}
 use Rattle.integer.specs.Tests.{and-left, and-right}
@@ -23,11 +23,11 @@ use Rattle.lists.proofs.Bools.{true-of}
 use Rattle.soundness.proofs.Sizes.{size, points-size, points-every, points-once}
 use Rattle.validity.proofs.States.{Every, Sizes, fits-shaped, fits-valid}
 use Rattle.validity.specs.Valid.{Valid}
-use Rattle.soundness.proofs.Turns.{Open}
+use Rattle.soundness.proofs.OneStep.{Open}
 use Rattle.soundness.proofs.Runs.{ProblemFits, opened-fits, opened-open}
 use Rattle.soundness.proofs.Verdicts.{decides-with, same-verdict}
 use Rattle.soundness.proofs.Budgets.{smaller-budget}
-use Rattle.soundness.proofs.TurnLists.{call-taken, valid-after, Reached, still, reached-after, list-conflicts, list-counted, list-few, list-cuts, Ends, run-ends-list}
+use Rattle.soundness.proofs.StepLists.{call-taken, valid-after, Reached, still, reached-after, list-conflicts, list-counted, list-few, list-cuts, Ends, run-ends-list}
 use Rattle.soundness.proofs.Together.{together, stays, ran-after}
 
 -- ---- an accepted file
@@ -72,9 +72,9 @@ module _ (p : Problem) (z : Small.Sizes p) (f : ProblemFits p) where
   unfolding withBudget
   own-budget = refl
 
-  turns-of : Turns p (openProblem p)
+  steps-of : Steps p (openProblem p)
   unfolding run withoutBlock answerAt
-  turns-of =
+  steps-of =
       let s = openProblem p in
       let v = opened-valid in
       let o = opened-open p f in
@@ -112,6 +112,6 @@ pub demand-3 : Demand3
 demand-3 =
     record {
       opens = opens-of;
-      turns = λ f a. turns-of (problemIn f) (sizes (problemIn f) (tests f (a .fine) .sized)) (fits-of f a);
+      steps = λ f a. steps-of (problemIn f) (sizes (problemIn f) (tests f (a .fine) .sized)) (fits-of f a);
       same = λ f g a b e c d. same-verdict (problemIn f) (problemIn g) c d (fits-of f a) (fits-of g b) e;
     }

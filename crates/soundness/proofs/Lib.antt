@@ -2,10 +2,10 @@
 pub mod Sizes
 pub mod Remaining
 pub mod Opened
-pub mod Turns
+pub mod OneStep
 pub mod Runs
 pub mod Verdicts
 pub mod Budgets
-pub mod TurnLists
+pub mod StepLists
 pub mod Together
 pub mod Demand

@@ -22,7 +22,7 @@ use Rattle.soundness.proofs.Sizes.{size, points-size}
 use Rattle.validity.proofs.Constraints.{rounded-meets, rounded-length, rounded-in-range}
 use Rattle.validity.proofs.States.{Every, ConstraintFits, LevelFits, CoreFits, level-ordered}
 use Rattle.soundness.proofs.Opened.{Implied, Sound}
-use Rattle.soundness.proofs.Turns.{Open, Says, Turned, turned}
+use Rattle.soundness.proofs.OneStep.{Open, Says, StepSays, step-says}
 use Rattle.validity.proofs.Steps.{impossible}
 
 -- ---- opening: a problem with its limits and constraints in range, each constraint of n coefficients
@@ -39,10 +39,10 @@ rounded-fit n (k ∷ ks) t e = (
   rounded-fit n ks (and-right (inRange k) (allOf inRange ks) t) (e .1),
 )
 
-no-causes : (last n : ℕ) → T (allOf (reasonsValid last) (replicate n noReasons))
+no-valid-reasons : (last n : ℕ) → T (allOf (reasonsValid last) (replicate n noReasons))
 unfolding allOf reasonsValid reasonValid
-no-causes last zero = tt
-no-causes last (suc n) = no-causes last n
+no-valid-reasons last zero = tt
+no-valid-reasons last (suc n) = no-valid-reasons last n
 
 rounded-implied : (p : Problem) (ks : List Constraint) → Every (Implied p) ks → Every (Implied p) (map rounded ks ++ [])
 rounded-implied p [] e = tt
@@ -59,7 +59,7 @@ opened-fits p f =
       constraints = rounded-fit (length (p .domain)) (p .constraints) (f .constraints) (f .sizes);
       cuts = omega arith;
       numbers = refl;
-      levels = (record { box = refl; reasons = length-replicate (length (p .domain)) noReasons; range = f .domain; causes = no-causes (length (map rounded (p .constraints)) + 0) (length (p .domain)) }, tt);
+      levels = (record { box = refl; reasons = length-replicate (length (p .domain)) noReasons; range = f .domain; valid-reasons = no-valid-reasons (length (map rounded (p .constraints)) + 0) (length (p .domain)) }, tt);
       stacked = tt;
     }
 
@@ -102,7 +102,7 @@ continue-right p s o (solution x) go e h next = rw e (h .0)
 run-for-right : (p : Problem) (fuel : ℕ) (s : Search) → Open p s → s .conflicts + fuel ≡ s .budget → Right p (runFor fuel s .verdict)
 unfolding runFor
 run-for-right p zero s o h =
-    let t = turned p s o in
+    let t = step-says p s o in
     last (step s) (step s .verdict) (t .says)
   where
     last : (a : Outcome) (v : Verdict) → Says p s a v → Right p v
@@ -111,7 +111,7 @@ run-for-right p zero s o h =
     last a outOfBudget q = q .1
     last a (solution x) q = q .0
 run-for-right p (suc fuel) s o h =
-    let t = turned p s o in
+    let t = step-says p s o in
     continue-right p s (step s) (step s .verdict) (runFor fuel) refl (t .says)
     (λ n c. run-for-right p fuel (step s .state) n (omega (arith, c, n .budget, o .budget)))
 

@@ -13,15 +13,15 @@ use Rattle.model.specs.Search.{Core, Status, undecided, infeasible, solved, Sea
 use Rattle.model.specs.Move.{descend}
 use Rattle.model.specs.Conflict.{Conflict, atConflict}
 use Rattle.model.specs.Validity.{valid}
-use Rattle.model.specs.Step.{Verdict, goOn, noSolution, outOfBudget, solution, Outcome, blockIn, solvedBy, budgetSpent, counted, atDeadEnd, endedAt, ended, again, stepBy, step, checked, stepCall, run}
+use Rattle.model.specs.Step.{Verdict, goOn, noSolution, outOfBudget, solution, Outcome, blockIn, solvedBy, budgetSpent, counted, onConflict, endedAt, ended, again, stepBy, step, checked, stepCall, run}
 use Rattle.format.proofs.RecordCut.{length-record}
-use Rattle.model.specs.Trace.{Trace, withBlocks, lastTurn, advanced, advance}
-use Rattle.model.specs.Demand.{after, stateAfter, blocksIn, journal, turnsTogether}
+use Rattle.model.specs.Trace.{Trace, withBlocks, lastStep, advanced, advance}
+use Rattle.model.specs.Demand.{after, stateAfter, blocksIn, journal, stepsTogether}
 use Rattle.validity.proofs.States.{sizes-fit}
 use Rattle.validity.specs.Valid.{Valid}
 use Rattle.validity.proofs.Steps.{step-valid, run-ends, impossible}
 use Rattle.validity.proofs.Repeating.{advance-one, run-same}
-use Rattle.soundness.proofs.TurnLists.{after-step, blocks-taken, valid-after, Repeats, repeats, Reached, still, done, stepped, reached-after, state-next, fixed-after, later-same}
+use Rattle.soundness.proofs.StepLists.{after-step, blocks-taken, valid-after, Repeats, repeats, Reached, still, done, stepped, reached-after, state-next, fixed-after, later-same}
 
 -- ---- lists one after the other
 pub state-add : (k t : ℕ) (s : Search) → stateAfter (k + t) s ≡ stateAfter t (stateAfter k s)
@@ -40,7 +40,7 @@ Long [] = Unit {0}
 Long (b ∷ bs) = (length b ≡ blockLength) × Long bs
 
 ended-long : (s : Search) (c : Core) (e : Option ℕ) → Long (blockIn (endedAt s c e .block))
-unfolding endedAt blockIn solvedBy atDeadEnd
+unfolding endedAt blockIn solvedBy onConflict
 ended-long s c none = tt
 ended-long s c (some j) = go (eqb (s .conflicts) (s .budget))
   where
@@ -86,8 +86,8 @@ module _ (p : Problem) where
       }
 
   -- ---- turns that one call takes
-  last-together : (t : ℕ) (s : Search) → Valid s → Repeats (step s) → lastTurn (step s) ≡ turnsTogether (suc t) s
-  unfolding lastTurn turnsTogether journal
+  last-together : (t : ℕ) (s : Search) → Valid s → Repeats (step s) → lastStep (step s) ≡ stepsTogether (suc t) s
+  unfolding lastStep stepsTogether journal
   last-together t s v r =
       let w = step-valid s v in
       let l = later-same (suc t) s v r in
@@ -96,27 +96,27 @@ module _ (p : Problem) where
       rw (blocks-taken s v, after-step s v, journal-none (suc t) (step s .state) w (r .state) (r .block), append-nil) in
       rw (l .0, l .1, e, b)
 
-  more-together : (t : ℕ) (s : Search) → Valid s → step s .verdict ≡ goOn → withBlocks (blockIn (step s .block)) (turnsTogether t (step s .state)) ≡ turnsTogether (suc t) s
-  unfolding withBlocks turnsTogether stateAfter journal
+  more-together : (t : ℕ) (s : Search) → Valid s → step s .verdict ≡ goOn → withBlocks (blockIn (step s .block)) (stepsTogether t (step s .state)) ≡ stepsTogether (suc t) s
+  unfolding withBlocks stepsTogether stateAfter journal
   more-together t s v e = rw (blocks-taken s v, after-step s v)
 
-  by-verdict : (t : ℕ) (s : Search) → Valid s → Reached p s → (w : Verdict) → step s .verdict ≡ w → advance (suc t) (step s .state) ≡ turnsTogether t (step s .state) →
-      advanced w (step s) (advance (suc t)) ≡ turnsTogether (suc t) s
+  by-verdict : (t : ℕ) (s : Search) → Valid s → Reached p s → (w : Verdict) → step s .verdict ≡ w → advance (suc t) (step s .state) ≡ stepsTogether t (step s .state) →
+      advanced w (step s) (advance (suc t)) ≡ stepsTogether (suc t) s
   unfolding advanced
   by-verdict t s v r goOn e h = ap (withBlocks (blockIn (step s .block))) h ∙ more-together t s v e
   by-verdict t s v r noSolution e h = last-together t s v (repeats-reached s r (λ n. impossible (cc)))
   by-verdict t s v r outOfBudget e h = last-together t s v (repeats-reached s r (λ n. impossible (cc)))
   by-verdict t s v r (solution x) e h = last-together t s v (repeats-reached s r (λ n. impossible (cc)))
 
-  one-together : (s : Search) → Valid s → lastTurn (step s) ≡ turnsTogether zero s
-  unfolding lastTurn turnsTogether stateAfter journal
+  one-together : (s : Search) → Valid s → lastStep (step s) ≡ stepsTogether zero s
+  unfolding lastStep stepsTogether stateAfter journal
   one-together s v = rw (blocks-taken s v, after-step s v, append-nil)
 
   advance-more : (t : ℕ) (s : Search) → advance (suc (suc t)) s ≡ advanced (step s .verdict) (step s) (advance (suc t))
   unfolding advance
   advance-more t s = refl
 
-  pub together : (t : ℕ) (s : Search) → Valid s → Reached p s → advance (suc t) s ≡ turnsTogether t s
+  pub together : (t : ℕ) (s : Search) → Valid s → Reached p s → advance (suc t) s ≡ stepsTogether t s
   together zero s v r = advance-one s (sizes-fit s (v .tests) .conflicts) ∙ one-together s v
   together (suc t) s v r = advance-more t s ∙ by-verdict t s v r (step s .verdict) refl (together t (step s .state) (step-valid s v) (stepped p s r .next))
 
@@ -133,7 +133,7 @@ module _ (p : Problem) where
 
     pub ran-after : (k : ℕ) →
         (run (stateAfter k s) .verdict ≡ step (stateAfter last s) .verdict) × (run (stateAfter k s) .count ≡ step (stateAfter last s) .count) × (run (stateAfter k s) .state ≡ stateAfter (suc last) s)
-    unfolding turnsTogether
+    unfolding stepsTogether
     ran-after k =
         let x = stateAfter k s in
         let w = valid-after k s v in

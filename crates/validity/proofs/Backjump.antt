@@ -95,9 +95,9 @@ flip-range i box o t =
     let e = true-of (allOf boundsInRange box) t in
     T-of (allOf-set boundsInRange box i _ e (true-of _ (flip-bounds (getD box i noBounds) (o .wide) (T-of (allOf-getD boundsInRange box i noBounds e (o .at))))))
 
-flip-causes : (last i : ℕ) (rs : List Reasons) → i < length rs → T (allOf (reasonsValid last) rs) → T (allOf (reasonsValid last) (setLowerReason i flipped rs))
+flip-valid-reasons : (last i : ℕ) (rs : List Reasons) → i < length rs → T (allOf (reasonsValid last) rs) → T (allOf (reasonsValid last) (setLowerReason i flipped rs))
 unfolding setLowerReason reasonsAt reasonsValid reasonValid
-flip-causes last i rs b t =
+flip-valid-reasons last i rs b t =
     let e = true-of (allOf (reasonsValid last) rs) t in
     let r = getD rs i noReasons in
     let old = T-of (allOf-getD (reasonsValid last) rs i noReasons e b) in
@@ -113,7 +113,7 @@ flip-fits n last i l h o =
       box = set-lower-length i (nextValue (lowerAt (l .box) i)) (l .box) ∙ b;
       reasons = length-set (l .reasons) i _ ∙ r;
       range = flip-range i (l .box) o (h .range);
-      causes = flip-causes last i (l .reasons) (omega arith) (h .causes);
+      valid-reasons = flip-valid-reasons last i (l .reasons) (omega arith) (h .valid-reasons);
     }
 
 -- the level's own decision is fixed there, so it is another variable's

@@ -53,7 +53,7 @@ level-more n last l h =
       box = h .box;
       reasons = h .reasons;
       range = h .range;
-      causes = T-of (allOf-weaker (reasonsValid last) (reasonsValid (suc last)) (λ r e. true-of _ (reasons-more last r (T-of e))) (l .reasons) (true-of _ (h .causes)));
+      valid-reasons = T-of (allOf-weaker (reasonsValid last) (reasonsValid (suc last)) (λ r e. true-of _ (reasons-more last r (T-of e))) (l .reasons) (true-of _ (h .valid-reasons)));
     }
 
 -- one cut more; past maxCuts the oldest goes

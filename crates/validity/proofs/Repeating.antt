@@ -7,16 +7,16 @@ use mathlib.Core.Path.{_≡_, refl, sym, ap, subst, _∙_}
 use Rattle.model.specs.Search.{Core, Status, undecided, infeasible, solved, Search}
 use Rattle.model.specs.Move.{descend}
 use Rattle.model.specs.Conflict.{Conflict}
-use Rattle.model.specs.Step.{Verdict, goOn, noSolution, outOfBudget, solution, Outcome, blockIn, withStatus, solvedBy, budgetSpent, counted, atDeadEnd, endedAt, ended, again, stepBy, step, continue, runFor, withoutBlock, run}
-use Rattle.model.specs.Trace.{Trace, withBlocks, lastTurn, advanced, advance}
+use Rattle.model.specs.Step.{Verdict, goOn, noSolution, outOfBudget, solution, Outcome, blockIn, withStatus, solvedBy, budgetSpent, counted, onConflict, endedAt, ended, again, stepBy, step, continue, runFor, withoutBlock, run}
+use Rattle.model.specs.Trace.{Trace, withBlocks, lastStep, advanced, advance}
 use Rattle.validity.specs.Valid.{Valid}
-use Rattle.validity.proofs.Steps.{dead-end, run-ends, impossible}
+use Rattle.validity.proofs.Steps.{spent-or-counted, run-ends, impossible}
 
 -- ---- the count of a turn's answer is that of its state
 ended-count : (s : Search) (c : Core) (e : Option ℕ) → s .conflicts ≤ s .budget → endedAt s c e .count ≡ endedAt s c e .state .conflicts
 unfolding endedAt
 ended-count s c none h = unfold solvedBy withStatus in refl
-ended-count s c (some j) h = dead-end (λ o. o .count ≡ o .state .conflicts) s c j h (λ e. unfold budgetSpent in refl) (λ l. unfold counted in refl)
+ended-count s c (some j) h = spent-or-counted (λ o. o .count ≡ o .state .conflicts) s c j h (λ e. unfold budgetSpent in refl) (λ l. unfold counted in refl)
 
 step-count : (m : Status) (s : Search) → s .conflicts ≤ s .budget → stepBy m s .count ≡ stepBy m s .state .conflicts
 unfolding stepBy ended again
@@ -25,16 +25,16 @@ step-count infeasible s h = refl
 step-count solved s h = refl
 
 -- ---- one turn
-one-turn : (v : Verdict) (o : Outcome) → o .verdict ≡ v → o .count ≡ o .state .conflicts → advanced v o (advance 0) ≡ lastTurn o
-unfolding advanced advance withBlocks lastTurn
-one-turn goOn o e c = rw (append-nil, c, e)
-one-turn noSolution o e c = refl
-one-turn outOfBudget o e c = refl
-one-turn (solution x) o e c = refl
+one-step : (v : Verdict) (o : Outcome) → o .verdict ≡ v → o .count ≡ o .state .conflicts → advanced v o (advance 0) ≡ lastStep o
+unfolding advanced advance withBlocks lastStep
+one-step goOn o e c = rw (append-nil, c, e)
+one-step noSolution o e c = refl
+one-step outOfBudget o e c = refl
+one-step (solution x) o e c = refl
 
-pub advance-one : (s : Search) → s .conflicts ≤ s .budget → advance 1 s ≡ lastTurn (step s)
+pub advance-one : (s : Search) → s .conflicts ≤ s .budget → advance 1 s ≡ lastStep (step s)
 unfolding advance step
-advance-one s h = one-turn (stepBy (s .status) s .verdict) (stepBy (s .status) s) refl (step-count (s .status) s h)
+advance-one s h = one-step (stepBy (s .status) s .verdict) (stepBy (s .status) s) refl (step-count (s .status) s h)
 
 -- ---- a run
 pub record Same (t : Trace) (o : Outcome) : Type 0 where
@@ -44,14 +44,14 @@ pub record Same (t : Trace) (o : Outcome) : Type 0 where
 
 continue-same : (v : Verdict) (o : Outcome) (go : Search → Outcome) (to : Search → Trace) → ¬ (continue v o go .verdict ≡ goOn) → o .verdict ≡ v →
     (v ≡ goOn → ¬ (go (o .state) .verdict ≡ goOn) → Same (to (o .state)) (go (o .state))) → Same (advanced v o to) (continue v o go)
-unfolding continue advanced withBlocks lastTurn
+unfolding continue advanced withBlocks lastStep
 continue-same goOn o go to n e next = let r = next refl n in record { verdict = r .verdict; count = r .count; state = r .state }
 continue-same noSolution o go to n e next = record { verdict = refl; count = refl; state = refl }
 continue-same outOfBudget o go to n e next = record { verdict = refl; count = refl; state = refl }
 continue-same (solution x) o go to n e next = record { verdict = refl; count = refl; state = refl }
 
 last-same : (v : Verdict) (o : Outcome) (to : Search → Trace) → o .verdict ≡ v → ¬ (o .verdict ≡ goOn) → Same (advanced v o to) o
-unfolding advanced lastTurn
+unfolding advanced lastStep
 last-same goOn o to e n = absurd (n e)
 last-same noSolution o to e n = record { verdict = refl; count = refl; state = refl }
 last-same outOfBudget o to e n = record { verdict = refl; count = refl; state = refl }

@@ -21,7 +21,7 @@ use Rattle.lists.proofs.AllOf.{allOf-set}
 use Rattle.validity.proofs.Boxes.{Ordered, Nested, first-open, nested-length, nested-trans, set-lower-nested, set-lower-ordered, set-upper-nested, set-upper-ordered, lowHalf, low-nested, low-ordered}
 use Rattle.validity.proofs.Moves.{Raises, Lowers, Decides}
 use Rattle.validity.proofs.Every.{_&_, all-in, all-out, every-in, every-out}
-use Rattle.validity.proofs.Tests.{equal-in, equal-refl, eqb-out, numbers-in, numbers-out, nested-in, nested-out, range-ordered, range-nested, fixed-nested, causes-at, number-valid}
+use Rattle.validity.proofs.Tests.{equal-in, equal-refl, eqb-out, numbers-in, numbers-out, nested-in, nested-out, range-ordered, range-nested, fixed-nested, valid-reasons-at, number-valid}
 use Rattle.validity.proofs.Depth.{opens, opens-few, opens-decided}
 pub use Rattle.validity.proofs.Every.{Every}
 
@@ -34,7 +34,7 @@ pub record LevelFits (n last : ℕ) (l : Level) : Type 0 where
   pub box : length (l .box) ≡ n
   pub reasons : length (l .reasons) ≡ n
   pub range : T (allOf boundsInRange (l .box))
-  pub causes : T (allOf (reasonsValid last) (l .reasons))
+  pub valid-reasons : T (allOf (reasonsValid last) (l .reasons))
 
 -- a level l right under the level o
 pub record Under (n : ℕ) (l o : Level) : Type 0 where
@@ -107,7 +107,7 @@ unfolding levelShaped levelValid
 level-in n last l s t =
     let h = and-yes (eqb (length (l .box)) n) (eqb (length (l .reasons)) n) s in
     let i = and-yes (allOf boundsInRange (l .box)) (allOf (reasonsValid last) (l .reasons)) t in
-    record { box = eqb→eq (length (l .box)) n (h .0); reasons = eqb→eq (length (l .reasons)) n (h .1); range = i .0; causes = i .1 }
+    record { box = eqb→eq (length (l .box)) n (h .0); reasons = eqb→eq (length (l .reasons)) n (h .1); range = i .0; valid-reasons = i .1 }
 
 level-shaped : (n last : ℕ) (l : Level) → LevelFits n last l → T (levelShaped n l)
 unfolding levelShaped
@@ -115,7 +115,7 @@ level-shaped n last l f = yes-and (eqb (length (l .box)) n) (eqb (length (l .rea
 
 level-valid : (n last : ℕ) (l : Level) → LevelFits n last l → T (levelValid last l)
 unfolding levelValid
-level-valid n last l f = yes-and (allOf boundsInRange (l .box)) (allOf (reasonsValid last) (l .reasons)) (f .range) (f .causes)
+level-valid n last l f = yes-and (allOf boundsInRange (l .box)) (allOf (reasonsValid last) (l .reasons)) (f .range) (f .valid-reasons)
 
 constraint-in : (n : ℕ) (k : Constraint) → T (inRange k) → T (constraintShaped n k) → ConstraintFits n k
 unfolding constraintShaped
@@ -225,7 +225,7 @@ level-nested n last i d l box r f o k s t =
       box = nested-length box (l .box) k ∙ f .box;
       reasons = length-set (l .reasons) i r ∙ f .reasons;
       range = range-nested box (l .box) o k (f .range);
-      causes = T-of (allOf-set (reasonsValid last) (l .reasons) i r (true-of _ (f .causes)) (true-of _ both));
+      valid-reasons = T-of (allOf-set (reasonsValid last) (l .reasons) i r (true-of _ (f .valid-reasons)) (true-of _ both));
     }
 
 stacked-nested : (n : ℕ) (l : Level) (ls : List Level) (box : Box) (rs : List Reasons) → Stacked n l ls → Ordered box → Nested box (l .box) →
@@ -253,10 +253,10 @@ deepest-nested c i box r f o k s t =
     (stacked-nested (c .variables) (c .deepest) (c .outer) box _ (f .stacked) o k)
 
 -- ---- moves 2 and 3
-deepest-causes : (c : Core) (i : ℕ) → CoreFits c →
+deepest-valid-reasons : (c : Core) (i : ℕ) → CoreFits c →
     T (reasonValid (length (c .inputs) + c .made) (reasonsAt (c .deepest .reasons) i .lower)) × T (reasonValid (length (c .inputs) + c .made) (reasonsAt (c .deepest .reasons) i .upper))
 unfolding levels
-deepest-causes c i f = causes-at (length (c .inputs) + c .made) i (c .deepest .reasons) (f .levels .0 .causes)
+deepest-valid-reasons c i f = valid-reasons-at (length (c .inputs) + c .made) i (c .deepest .reasons) (f .levels .0 .valid-reasons)
 
 pub raise-fits : (c : Core) (j i : ℕ) (v : ℤ) → CoreFits c → Raises (kept c) (c .deepest .box) j i v →
     CoreFits (withDeepest c (raiseLower i v (constraint (numberAt c j)) (c .deepest)))
@@ -264,7 +264,7 @@ unfolding raiseLower setLowerReason
 raise-fits c j i v f r =
     let box = c .deepest .box in
     deepest-nested c i (setLower i v box) _ f (set-lower-ordered i v box (deepest-ordered c f) (r .fits)) (set-lower-nested i v box (omega arith))
-    (number-valid c j (f .cuts) (r .constraint)) (deepest-causes c i f .1)
+    (number-valid c j (f .cuts) (r .constraint)) (deepest-valid-reasons c i f .1)
 
 pub lower-fits : (c : Core) (j i : ℕ) (v : ℤ) → CoreFits c → Lowers (kept c) (c .deepest .box) j i v →
     CoreFits (withDeepest c (lowerUpper i v (constraint (numberAt c j)) (c .deepest)))
@@ -272,7 +272,7 @@ unfolding lowerUpper setUpperReason
 lower-fits c j i v f r =
     let box = c .deepest .box in
     deepest-nested c i (setUpper i v box) _ f (set-upper-ordered i v box (deepest-ordered c f) (r .fits)) (set-upper-nested i v box (omega arith))
-    (deepest-causes c i f .0) (number-valid c j (f .cuts) (r .constraint))
+    (deepest-valid-reasons c i f .0) (number-valid c j (f .cuts) (r .constraint))
 
 -- the decided variable has its lower bound alone
 low-fixed : (i : ℕ) (box : Box) → i < length box → (lowerAt (lowHalf i box) i ≡ lowerAt box i) × (upperAt (lowHalf i box) i ≡ lowerAt box i)
@@ -291,5 +291,5 @@ decide-fits c i f d =
     let e = low-fixed i (l .box) (a .at) in
     let size = f .levels .0 .box in
     levels-fit c _ (levels c) f
-    (level-nested (c .variables) (length (c .inputs) + c .made) i i l (lowHalf i (l .box)) _ (f .levels .0) (low-ordered i (l .box) o) k (deepest-causes c i f .0) tt, f .levels)
+    (level-nested (c .variables) (length (c .inputs) + c .made) i i l (lowHalf i (l .box)) _ (f .levels .0) (low-ordered i (l .box) o) k (deepest-valid-reasons c i f .0) tt, f .levels)
     (record { inside = k; variable = omega arith; wide = a .wide; lower = e .0; upper = e .1 }, f .stacked)

@@ -16,7 +16,7 @@ use Rattle.model.specs.Search.{constraint, Level, Core, Status, undecided, infe
 use Rattle.model.specs.Move.{nextMove, Stop, follow, descend}
 use Rattle.model.specs.Conflict.{Analysis, Numbered, Conflict, analyze, numbered, backjumpLevel, backFrom, backUp, settled, conflictOf, atConflict}
 use Rattle.model.specs.Validity.{isOpen, falsifies, anyFalsified, outermost, statusValid}
-use Rattle.model.specs.Step.{Verdict, goOn, noSolution, outOfBudget, solution, Outcome, withStatus, solvedBy, budgetSpent, verdictAt, statusAt, counted, atDeadEnd, endedAt, ended, again, stepBy, step, continue, runFor, withoutBlock, run}
+use Rattle.model.specs.Step.{Verdict, goOn, noSolution, outOfBudget, solution, Outcome, withStatus, solvedBy, budgetSpent, verdictAt, statusAt, counted, onConflict, endedAt, ended, again, stepBy, step, continue, runFor, withoutBlock, run}
 use Rattle.integer.specs.Parts.{_⊑_, nlt-out}
 use Rattle.integer.specs.Tests.{and-in, not-out}
 use Rattle.validity.specs.Valid.{Valid}
@@ -152,10 +152,10 @@ counted-valid s c x z a t h =
     (t .status)
 
 -- at a dead end: out of budget the state stays, else it is counted
-pub dead-end : (q : Outcome → Type 0) (s : Search) (c : Core) (j : ℕ) → s .conflicts ≤ s .budget → (s .conflicts ≡ s .budget → q (budgetSpent s)) →
-    (s .conflicts < s .budget → q (counted s (atConflict c j))) → q (atDeadEnd s c j)
-unfolding atDeadEnd
-dead-end q s c j h f g = go (eqb (s .conflicts) (s .budget)) (λ t. eqb→eq (s .conflicts) (s .budget) t) (λ t e. t (subst (λ (b : ℕ). T (eqb (s .conflicts) b)) e (eqb-refl (s .conflicts))))
+pub spent-or-counted : (q : Outcome → Type 0) (s : Search) (c : Core) (j : ℕ) → s .conflicts ≤ s .budget → (s .conflicts ≡ s .budget → q (budgetSpent s)) →
+    (s .conflicts < s .budget → q (counted s (atConflict c j))) → q (onConflict s c j)
+unfolding onConflict
+spent-or-counted q s c j h f g = go (eqb (s .conflicts) (s .budget)) (λ t. eqb→eq (s .conflicts) (s .budget) t) (λ t e. t (subst (λ (b : ℕ). T (eqb (s .conflicts) b)) e (eqb-refl (s .conflicts))))
   where
     go : (t : Bool) → (T t → s .conflicts ≡ s .budget) → ((T t → ⊥) → s .conflicts ≡ s .budget → ⊥) → q (cond t (budgetSpent s) (counted s (atConflict c j)))
     go true y n = f (y tt)
@@ -165,7 +165,7 @@ ended-valid : (s : Search) (c : Core) (e : Option ℕ) → Valid s → Sizes s �
 unfolding endedAt
 ended-valid s c none v z a f = solved-valid s c z a f
 ended-valid s c (some j) v z a f =
-    dead-end (λ o. Valid (o .state)) s c j (z .conflicts) (λ e. unfold budgetSpent in v) (λ h. counted-valid s c (atConflict c j) z a (conflict-settled c j (a .fits) f) h)
+    spent-or-counted (λ o. Valid (o .state)) s c j (z .conflicts) (λ e. unfold budgetSpent in v) (λ h. counted-valid s c (atConflict c j) z a (conflict-settled c j (a .fits) f) h)
 
 step-by : (m : Status) (s : Search) → Valid s → Valid (stepBy m s .state)
 unfolding stepBy again ended
@@ -194,7 +194,7 @@ ended-counts : (s : Search) (c : Core) (e : Option ℕ) → s .conflicts ≤ s .
 unfolding endedAt solvedBy withStatus
 ended-counts s c none h = record { conflicts = λ e. impossible (cc); budget = refl }
 ended-counts s c (some j) h =
-    dead-end (Counts s) s c j h
+    spent-or-counted (Counts s) s c j h
     (λ e. unfold budgetSpent in record { conflicts = λ e. impossible (cc); budget = refl })
     (λ k. unfold counted in record { conflicts = λ e. refl; budget = refl })
 

@@ -107,12 +107,12 @@ fixed-nested zero (b ∷ box) (o ∷ outer) r n e = (eq-out (b .lower) (o .lower
 fixed-nested (suc i) (b ∷ box) (o ∷ outer) r n e = fixed-nested i box outer (r .1) (n .2) e
 
 -- ---- reasons
-pub causes-at : (last i : ℕ) (rs : List Reasons) → T (allOf (reasonsValid last) rs) →
+pub valid-reasons-at : (last i : ℕ) (rs : List Reasons) → T (allOf (reasonsValid last) rs) →
     T (reasonValid last (reasonsAt rs i .lower)) × T (reasonValid last (reasonsAt rs i .upper))
 unfolding allOf reasonsAt reasonsValid reasonValid
-causes-at last i [] t = (tt, tt)
-causes-at last zero (r ∷ rs) t = and-yes (reasonValid last (r .lower)) (reasonValid last (r .upper)) (and-yes (reasonsValid last r) (allOf (reasonsValid last) rs) t .0)
-causes-at last (suc i) (r ∷ rs) t = causes-at last i rs (and-yes (reasonsValid last r) (allOf (reasonsValid last) rs) t .1)
+valid-reasons-at last i [] t = (tt, tt)
+valid-reasons-at last zero (r ∷ rs) t = and-yes (reasonValid last (r .lower)) (reasonValid last (r .upper)) (and-yes (reasonsValid last r) (allOf (reasonsValid last) rs) t .0)
+valid-reasons-at last (suc i) (r ∷ rs) t = valid-reasons-at last i rs (and-yes (reasonsValid last r) (allOf (reasonsValid last) rs) t .1)
 
 -- the number of a kept constraint
 number-between : (m cuts made j : ℕ) (b : Bool) → (T b → j < m) → cuts ≡ min made maxCuts → j < m + cuts →

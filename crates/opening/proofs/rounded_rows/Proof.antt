@@ -7,7 +7,7 @@ use lib.IntN.{pos}
 use lib.ListN.{replicate, length-replicate}
 use Rattle.layout.specs.Rows.{rowsLength}
 use Rattle.opening.specs.Rounded.{RowsRounded}
-use Rattle.opening.proofs.Rows.{row-light, round-none, all-rounded}
+use Rattle.opening.proofs.Rows.{row-in-range, round-none, all-rounded}
 use Rattle.opening.proofs.rounded_rows.Statement.{statement}
 use Rattle.opening.proofs.rounded_rows.Tie as tie
 
@@ -24,7 +24,7 @@ round-row-requires : tie.Need-round-row-requires Inv-loop μ-loop
 round-row-requires c κs =
     let l = c .before .before .before .before .loop in
     let s = c .before .before .before .before .before in
-    (s .pre .few-variables, (omega arith, (row-light (s .args .t1) (l .j) (s .pre) (omega arith), l .inv .1)))
+    (s .pre .few-variables, (omega arith, (row-in-range (s .args .t1) (l .j) (s .pre) (omega arith), l .inv .1)))
 
 add-j : tie.Need-add-j Inv-loop μ-loop
 add-j c = search needs

@@ -5,7 +5,7 @@ use borrow.Author.Needs.{needs}
 use Rattle.model.specs.File.{constraintPadded}
 use Rattle.model.specs.Lists.{tab, all}
 use Rattle.lists.proofs.All.{all-none}
-use Rattle.fields.proofs.FileTests.{head-stray, padding-end, padding-more, padding-stray}
+use Rattle.fields.proofs.FileTests.{head-nonzero, padding-end, padding-more, padding-nonzero}
 use Rattle.fields.proofs.reader.padding_zero.Statement.{statement}
 use Rattle.fields.proofs.reader.padding_zero.Tie as tie
 
@@ -38,7 +38,7 @@ is-zero-from-requires : tie.Need-is-zero-from-requires Inv-loop μ-loop
 is-zero-from-requires c κs = search needs
 
 returns : tie.Need-returns Inv-loop μ-loop
-returns c = search (needs, head-stray)
+returns c = search (needs, head-nonzero)
 
 loop-holds : tie.Need-loop-holds Inv-loop μ-loop
 loop-holds c = search (needs, all-none)
@@ -71,7 +71,7 @@ is-zero-from-requires-2 : tie.Need-is-zero-from-requires-2 Inv-loop μ-loop
 is-zero-from-requires-2 c κs = search needs
 
 returns-2 : tie.Need-returns-2 Inv-loop μ-loop
-returns-2 c = search (needs, padding-stray)
+returns-2 c = search (needs, padding-nonzero)
 
 add-j : tie.Need-add-j Inv-loop μ-loop
 add-j c = search needs

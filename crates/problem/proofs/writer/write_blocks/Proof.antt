@@ -62,7 +62,7 @@ part-write-constraint-end : tie.Need-part-write-constraint-end Inv-loop μ-loop
 part-write-constraint-end c = search needs
 
 write-constraint-requires : tie.Need-write-constraint-requires Inv-loop μ-loop
-write-constraint-requires c κs = (search needs, search needs, row-passes _ _ (c .before .before .before .before .loop-test .taken) (c .before .before .before .before .before .before .before .before .before .before .before .pre .light), search needs)
+write-constraint-requires c κs = (search needs, search needs, row-passes _ _ (c .before .before .before .before .loop-test .taken) (c .before .before .before .before .before .before .before .before .before .before .before .pre .coefficient-range), search needs)
 
 add-j : tie.Need-add-j Inv-loop μ-loop
 add-j c = search needs

@@ -1,7 +1,7 @@
 -- `search::answers::answer` meets its contract. Assumes nothing.
 use borrow.Author.Needs.{needs}
 use Rattle.fields.specs.Fields.{zeros}
-use Rattle.turns.specs.declared.Ending.the-variants.{GoOn, NoSolution, OutOfBudget, Solution}
+use Rattle.engine.specs.declared.Ending.the-variants.{GoOn, NoSolution, OutOfBudget, Solution}
 use Rattle.search.specs.Answered.{caseOf, valuesAt}
 use Rattle.search.proofs.Showing.{answered-as}
 use Rattle.search.proofs.answers.answer.Statement.{statement}

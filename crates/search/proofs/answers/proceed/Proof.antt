@@ -1,11 +1,11 @@
 -- `search::answers::proceed` meets its contract. Assumes nothing.
 use borrow.Author.Needs.{needs}
-use Rattle.search.proofs.Proceeding.{no-turn, none-again, solution-again}
+use Rattle.search.proofs.Proceeding.{no-step, none-again, solution-again}
 use Rattle.search.proofs.answers.proceed.Statement.{statement}
 use Rattle.search.proofs.answers.proceed.Tie as tie
 
 returns : tie.Need-returns
-returns c = no-turn _ _ _ _ (search needs)
+returns c = no-step _ _ _ _ (search needs)
 
 enum-told : tie.Need-enum-told
 enum-told c = search needs

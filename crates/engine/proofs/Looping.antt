@@ -1,0 +1,68 @@
+-- The invariant of the loop over turns.
+use Prim.Native.Nat.{ℕ, suc, _≤_, _<_}
+use mathlib.Core.Bool.{Bool, true, false}
+use mathlib.Core.List.{List}
+use mathlib.Core.Path.{_≡_, subst}
+use lib.IntN.{ℤ, pos, _+ℤ_}
+use lib.ListN.{length, set}
+use Rattle.model.specs.Search as model
+use Rattle.model.specs.Ranges.{maxVariables}
+use Rattle.layout.specs.Rows.{numberIn}
+use Rattle.state.specs.View.{flippedReason}
+use Rattle.state.specs.Change.{Whole, held, raised}
+use Rattle.state.specs.declared.Level.{Level}
+use Rattle.state.specs.declared.Status.{Status}
+use Rattle.state.specs.declared.Status.the-variants.{Undecided}
+use Rattle.propagate.specs.Ready.{Ready}
+use Rattle.engine.specs.Advancing.{Advances}
+use Rattle.engine.specs.declared.Ending.{Ending}
+use Rattle.engine.specs.declared.Ending.the-variants.{GoOn}
+use Rattle.engine.proofs.Arms.{stateWith}
+use Rattle.engine.proofs.Carrying.{Carried}
+use Rattle.engine.proofs.Running.{Running}
+
+-- While it goes, the state here is on the way that the model's turns take, and what is kept of the constraints and levels is right; once it ends, the
+-- level `before` at depth `start` completes the answer.
+pub record Looping (s : model.Search) (old : List ℕ) (limit : ℕ) (keep : Bool) (n m budget : ℕ) (inputs now : List ℕ) (rows : List ℤ) (numbers : List ℕ) (levels : List Level) (made conflicts depth : ℕ)
+    (before : Level) (start done : ℕ) (ending : Ending) (status : Status) (lower upper : List ℤ) (below above : List ℕ) (decided : ℕ) (activities reaches olds limits : List ℤ) (gones counts : List ℕ)
+    (lowers uppers : List ℤ) (cuts : List ℕ) (told : ℕ) (going : Bool) : Type 0 where
+  pub running : going ≡ true → Running s old limit keep n m budget now rows numbers levels made conflicts depth (held lower upper below above decided) before start done
+  pub carried : going ≡ true → Carried n m rows levels made depth lower upper activities reaches told olds limits gones counts lowers uppers inputs cuts
+  pub more : going ≡ true → done < limit
+  pub open-ended : going ≡ true → (ending ≡ GoOn) × (status ≡ Undecided)
+  pub ended : going ≡ false → Advances s limit keep (record { ending = ending; blocks = done; state = stateWith n m budget conflicts made start status rows numbers (set levels start before) }) old now
+  pub deep : start ≤ maxVariables
+  pub levelsLong : length levels ≡ suc maxVariables
+  pub bytes : length now ≡ length old
+
+-- the measure: what is left of the turns and the slack, while the loop goes
+abbrev pub weight : Bool → ℕ → ℕ
+weight true k = suc k
+weight false k = 0
+
+-- whatever the decision variable is
+pub ready-with : {n m made : ℕ} {rows lower upper : List ℤ} {below above : List ℕ} {d : ℕ} (e : ℕ) → Ready n m made rows (held lower upper below above d) → Ready n m made rows (held lower upper below above e)
+ready-with e r =
+    let w = r .whole in
+    record {
+      few = r .few;
+      inputs = r .inputs;
+      cuts = r .cuts;
+      whole = record { lower = w .lower; upper = w .upper; below = w .below; above = w .above };
+      constraints = r .constraints;
+      bounds = r .bounds;
+    }
+
+pub whole-with : {lower upper : List ℤ} {below above : List ℕ} {d : ℕ} (e : ℕ) → Whole (held lower upper below above d) → Whole (held lower upper below above e)
+whole-with e w = record { lower = w .lower; upper = w .upper; below = w .below; above = w .above }
+
+-- the level of a decision that was flipped, as the arrays in hand hold it
+pub flipped-level : (o k : Level) (i j : ℕ) (lower : List ℤ) (below : List ℕ) → o ≡ k → i ≡ j → lower ≡ set (o .lower) i (numberIn (o .lower) i +ℤ pos 1) → below ≡ set (o .below) i flippedReason →
+    raised k j (numberIn (k .lower) j +ℤ pos 1) flippedReason ≡ held lower (o .upper) below (o .above) (o .decided)
+flipped-level o k i j lower below e f l b = rw (← e, ← f, l, b)
+
+pub running-with : {s : model.Search} {old : List ℕ} {limit : ℕ} {keep : Bool} {n m budget : ℕ} {now : List ℕ} {rows : List ℤ} {numbers : List ℕ} {levels : List Level} {made conflicts depth : ℕ}
+    {l k : Level} {start done : ℕ} → l ≡ k → Running s old limit keep n m budget now rows numbers levels made conflicts depth l l start done →
+    Running s old limit keep n m budget now rows numbers levels made conflicts depth k k start done
+running-with {s} {old} {limit} {keep} {n} {m} {budget} {now} {rows} {numbers} {levels} {made} {conflicts} {depth} {l} {k} {start} {done} e r =
+    subst (λ (x : Level). Running s old limit keep n m budget now rows numbers levels made conflicts depth x x start done) e r

@@ -1,0 +1,131 @@
+-- A round of the loop: what its first call asks and gives, and the measure after a decision.
+use Prim.Native.Nat.{ℕ, _+_, _-_, _*_, _≤_, _<_}
+use native.Mathlib.Omega.{arith}
+use mathlib.Core.Bool.{Bool, true, false}
+use mathlib.Core.List.{List}
+use mathlib.Core.Path.{_≡_, refl, sym, ap, subst, _∙_}
+use lib.Dec.{T}
+use lib.IntN.{ℤ}
+use lib.ListN.{length, drop, length-append, length-drop}
+use Rattle.model.specs.Lists.{allOf}
+use Rattle.model.specs.Ranges.{maxBudget}
+use Rattle.model.specs.Bytes.{blockLength}
+use Rattle.model.specs.Constraint.{Constraint}
+use Rattle.model.specs.Problem.{boundsInRange}
+use Rattle.model.specs.Search as model
+use Rattle.model.specs.Move.{Move, conflict, decide, slack}
+use Rattle.model.specs.Trace.{joined}
+use Rattle.lists.proofs.Tab.{length-tab}
+use Rattle.layout.specs.Rows.{rowAt, boxOf}
+use Rattle.validity.proofs.Boxes.{Ordered, OpenAt, first-open, lowHalf, low-slack, set-lower-ordered, set-upper-ordered, set-lower-slack, set-upper-slack}
+use Rattle.validity.proofs.Moves.{Chosen}
+use Rattle.validity.proofs.States.{deepest-ordered}
+use Rattle.state.specs.View.{levelOf, levelsFrom, keptCuts, coreWith, numberFor}
+use Rattle.state.specs.Change.{Whole, decidedAt}
+use Rattle.state.specs.declared.Level.{Level}
+use Rattle.state.proofs.Levels.{level-decided}
+use Rattle.state.proofs.Cores.{kept-rows}
+use Rattle.propagate.specs.Moves.{stopOf}
+use Rattle.propagate.specs.Propagation.{Propagation, propagation, propagationOf}
+use Rattle.propagate.specs.Ready.{keptRows, Ready}
+use Rattle.propagate.specs.declared.propagate.Found.{Found}
+use Rattle.propagate.proofs.Fuel.{propagation-keeps}
+use Rattle.propagate.proofs.States.{state-ready, state-descent, state-fits, state-chosen}
+use Rattle.engine.specs.Advancing.{Buffered}
+use Rattle.engine.specs.Learning.{Learnable}
+use Rattle.engine.proofs.Measures.{stepWeight}
+use Rattle.engine.proofs.Running.{Running, Propagates, coreHere, depth-here, decided-variable}
+
+-- ---- propagation does not widen a box
+slack-propagated : (ks : List Constraint) (number : ℕ → ℕ) (l : model.Level) → Ordered (l .box) → slack (propagation ks number l .level .box) ≤ slack (l .box)
+slack-propagated ks number l o =
+    propagation-keeps ks number (λ k. Ordered (k .box) × (slack (k .box) ≤ slack (l .box))) (λ k p. p .0)
+    (λ k j i v p r. unfold model.raiseLower in (set-lower-ordered i v (k .box) (p .0) (r .fits), omega (arith, set-lower-slack i v (k .box) (r .variable) (p .0) (r .better) (r .fits), p .1)))
+    (λ k j i v p r. unfold model.lowerUpper in (set-upper-ordered i v (k .box) (p .0) (r .fits), omega (arith, set-upper-slack i v (k .box) (r .variable) (p .0) (r .fits) (r .better), p .1)))
+    l (o, omega arith) .holds .1
+
+-- the buffer has the length that it had
+buffered-length : (keep : Bool) (blocks : List (List ℕ)) (old now : List ℕ) (done limit : ℕ) → length blocks ≡ done → length (joined blocks) ≡ blockLength * done → done ≤ limit →
+    (keep ≡ true → blockLength * limit ≤ length old) → Buffered keep blocks old now → length now ≡ length old
+buffered-length true blocks old now done limit m l w room b =
+    let h = room refl in
+    ap length (b .written refl) ∙ omega (arith, length-append (joined blocks) (drop (blockLength * length blocks) old), length-drop (blockLength * length blocks) old)
+buffered-length false blocks old now done limit m l w room b = ap length (b .untouched refl)
+
+module _ {s : model.Search} {old : List ℕ} {limit : ℕ} {keep : Bool} {n m budget : ℕ} {now : List ℕ} {rows : List ℤ} {numbers : List ℕ} {levels : List Level} {made conflicts depth : ℕ}
+    {level before : Level} {start done : ℕ} (r : Running s old limit keep n m budget now rows numbers levels made conflicts depth level before start done) where
+  pub depth-small : depth ≤ 32
+  depth-small = omega (arith, depth-here n m rows numbers levels made depth level (r .fits), r .counts .few)
+
+  pub made-small : made ≤ maxBudget
+  made-small = omega (arith, r .counts .cuts, r .counts .afford, r .counts .limited)
+
+  pub ready : Ready n m made rows level
+  ready = state-ready n m made rows numbers level (levelsFrom n levels depth) (r .fits) (r .counts .few) (r .counts .inputs) made-small (r .whole)
+
+  pub same-length : length now ≡ length old
+  same-length = buffered-length keep (r .blocks) old now done limit (r .many) (r .long) (r .within) (r .room) (r .buffer)
+
+  pub box-ordered : Ordered (levelOf n level .box)
+  unfolding coreWith
+  box-ordered = deepest-ordered (coreHere n m rows numbers levels made depth level) (r .fits)
+
+  module _ (here : Level) (found : Found) (e : propagationOf n here found ≡ propagation (keptRows n m made rows) (numberFor m made) (levelOf n level)) where
+    pub propagates : (q : Move) → stopOf found ≡ q → Propagates (coreHere n m rows numbers levels made depth level) (coreHere n m rows numbers levels made depth here) q
+    propagates q f =
+        let ls = levelsFrom n levels depth in
+        let d = coreHere n m rows numbers levels made depth here in
+        let chosen : Chosen (model.kept d) (d .deepest .box) (stopOf found) =
+        unfold coreWith levelOf in
+        subst (λ (ks : List Constraint). Chosen ks (boxOf n (here .lower) (here .upper)) (stopOf found)) (sym (kept-rows n m made rows numbers (levelOf n here) ls))
+        (state-chosen n m made rows numbers level ls (r .fits) here found e) in
+        subst (Propagates (coreHere n m rows numbers levels made depth level) d) f
+        (record { fits = state-fits n m made rows numbers level ls (r .fits) here found e; next = state-descent n m made rows numbers level ls (r .fits) here found e; chosen = chosen })
+
+    -- the level where propagation stopped is ready too
+    pub ready-here : (q : Move) → stopOf found ≡ q → Whole here → Ready n m made rows here
+    ready-here q f w = state-ready n m made rows numbers here (levelsFrom n levels depth) (propagates q f .fits) (r .counts .few) (r .counts .inputs) made-small w
+
+    -- a decision: its variable, and the measure falls
+    pub decided-here : (i : ℕ) → stopOf found ≡ decide i → i < n
+    decided-here i f =
+        let q = propagates (decide i) f in
+        unfold coreWith in decided-variable (coreHere n m rows numbers levels made depth here) i (q .fits) (q .chosen)
+
+    slack-here : slack (levelOf n here .box) ≤ slack (levelOf n level .box)
+    unfolding propagationOf
+    slack-here =
+        subst (λ (q : Propagation). slack (q .level .box) ≤ slack (levelOf n level .box)) (sym e) (slack-propagated (keptRows n m made rows) (numberFor m made) (levelOf n level) box-ordered)
+
+    pub decide-less : (i : ℕ) → stopOf found ≡ decide i → Whole here →
+        (limit - done) * stepWeight + slack (boxOf n (decidedAt here i .lower) (decidedAt here i .upper)) <
+        (limit - done) * stepWeight + slack (boxOf n (level .lower) (level .upper))
+    decide-less i f w =
+        let q = propagates (decide i) f in
+        let c = coreHere n m rows numbers levels made depth here in
+        let o : Ordered (levelOf n here .box) = unfold coreWith in deepest-ordered c (q .fits) in
+        let a : OpenAt (levelOf n here .box) i = unfold coreWith in first-open i (levelOf n here .box) (q .chosen .first) in
+        let k : levelOf n (decidedAt here i) .box ≡ lowHalf i (levelOf n here .box) =
+        unfold model.decideAt lowHalf in ap (λ (x : model.Level). x .box) (level-decided n here w (r .counts .few) i (decided-here i f)) in
+        let less : slack (levelOf n (decidedAt here i) .box) < slack (levelOf n level .box) =
+        rw k (omega (arith, low-slack i (levelOf n here .box) o a, slack-here)) in
+        let small : slack (boxOf n (decidedAt here i .lower) (decidedAt here i .upper)) < slack (boxOf n (level .lower) (level .upper)) = unfold levelOf in less in
+        omega arith
+
+    -- a conflict: what learning from it asks
+    pub learnable : (j : ℕ) → stopOf found ≡ conflict j → Whole here × T (allOf boundsInRange (boxOf n (here .lower) (here .upper))) → Learnable n m made rows numbers here j
+    learnable j f w =
+        let q = propagates (conflict j) f in
+        let g = ready in
+        let size = ap length (kept-rows n m made rows numbers (levelOf n here) (levelsFrom n levels depth)) in
+        record {
+          variables = r .counts .few;
+          inputs = r .counts .inputs;
+          cuts = made-small;
+          rowsLong = r .rowsLong;
+          numbersLong = r .numbersLong;
+          whole = w .0;
+          constraints = g .constraints;
+          bounds = w .1;
+          position = omega (arith, q .chosen .at, size, length-tab (rowAt n rows) 0 (m + keptCuts made));
+        }

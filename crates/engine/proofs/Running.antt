@@ -1,0 +1,136 @@
+-- The loop's invariant: the state here is on the way that the model's turns take from the state at the start, and each arm of the loop keeps that.
+use Prim.Native.Nat.{ℕ, zero, suc, _+_, _-_, _*_, _≤_, _<_}
+use native.Mathlib.Omega.{arith}
+use native.Mathlib.Numerals.{add-one}
+use mathlib.Core.Bool.{Bool, true, false, cond}
+use mathlib.Core.List.{List, [], _∷_, _++_, append-assoc}
+use mathlib.Core.Option.{Option, none, some}
+use mathlib.Core.Path.{_≡_, refl, sym, ap, ap₂, subst, _∙_}
+use lib.IntN.{ℤ, pos}
+use lib.ListN.{getD, set, length, drop, length-set}
+use Rattle.model.specs.Ranges.{maxVariables, maxConstraints, maxBudget}
+use Rattle.model.specs.Lists.{tab}
+use Rattle.model.specs.Search as model
+use Rattle.model.specs.Move.{Move, decide, finish, conflict, Stop, follow, descend}
+use Rattle.model.specs.Conflict.{Conflict, atConflict}
+use Rattle.model.specs.Journal.{recordBytes}
+use Rattle.model.specs.Step.{Verdict, Outcome, recordOf, solvedBy, budgetSpent, counted}
+use Rattle.model.specs.Bytes.{blockLength}
+use Rattle.model.specs.Trace.{Trace, withBlocks, lastStep, advance, joined}
+use Rattle.validity.proofs.Boxes.{first-open}
+use Rattle.validity.proofs.Moves.{Decides, Falsifies, Finishes, Chosen}
+use Rattle.validity.proofs.States.{CoreFits, depth-fits, decide-fits}
+use Rattle.state.specs.View.{decisionReason, levelOf, levelAt, levelsFrom, coreWith}
+use Rattle.state.specs.Change.{Whole, decidedAt}
+use Rattle.state.specs.declared.Level.{Level}
+use Rattle.state.proofs.Levels.{level-decided}
+use Rattle.state.proofs.Cores.{level-here, levels-above, length-levels}
+use Rattle.engine.specs.Advancing.{Buffered}
+use Rattle.engine.proofs.OneStep.{advance-finishes, advance-spent, advance-none, advance-on}
+
+-- the sizes that no turn changes, and the counters
+pub record Counts (n m budget conflicts made : ℕ) : Type 0 where
+  pub some : 1 ≤ n
+  pub few : n ≤ maxVariables
+  pub inputs : m ≤ maxConstraints
+  pub limited : budget ≤ maxBudget
+  pub afford : conflicts ≤ budget
+  pub cuts : made ≤ conflicts
+
+-- the state at the start of the turn
+abbrev pub stepStart : ℕ → ℕ → ℕ → ℕ → List ℤ → List ℕ → List Level → ℕ → Level → ℕ → model.Search
+stepStart n m budget conflicts rows numbers levels made before start =
+    record {
+      core = coreWith n m made rows numbers (levelOf n before) (levelsFrom n levels start);
+      budget = budget;
+      conflicts = conflicts;
+      status = model.undecided;
+    }
+
+-- the core with the level in hand
+abbrev pub coreHere : ℕ → ℕ → List ℤ → List ℕ → List Level → ℕ → ℕ → Level → model.Core
+coreHere n m rows numbers levels made depth level = coreWith n m made rows numbers (levelOf n level) (levelsFrom n levels depth)
+
+-- ---- the invariant
+pub record Running (s : model.Search) (old : List ℕ) (limit : ℕ) (keep : Bool) (n m budget : ℕ) (now : List ℕ) (rows : List ℤ) (numbers : List ℕ) (levels : List Level) (made conflicts depth : ℕ)
+    (level before : Level) (start done : ℕ) : Type 0 where
+  pub counts : Counts n m budget conflicts made
+  pub whole : Whole level
+  pub wholeBefore : Whole before
+  pub rowsLong : length rows ≡ 4224
+  pub numbersLong : length numbers ≡ 64
+  pub levelsLong : length levels ≡ 33
+  pub fits : CoreFits (coreHere n m rows numbers levels made depth level)
+  pub from : start ≤ depth
+  pub turn : descend (stepStart n m budget conflicts rows numbers levels made before start .core) ≡ descend (coreHere n m rows numbers levels made depth level)
+  pub within : done ≤ limit
+  pub blocks : List (List ℕ)
+  pub many : length blocks ≡ done
+  pub long : length (joined blocks) ≡ blockLength * done
+  pub room : keep ≡ true → blockLength * limit ≤ length old
+  pub ahead : advance limit s ≡ withBlocks blocks (advance (limit - done) (stepStart n m budget conflicts rows numbers levels made before start))
+  pub buffer : Buffered keep blocks old now
+
+-- ---- where propagation left the level, and the move that comes next
+pub record Propagates (c d : model.Core) (m : Move) : Type 0 where
+  pub fits : CoreFits d
+  pub next : descend c ≡ follow m d descend
+  pub chosen : Chosen (model.kept d) (d .deepest .box) m
+
+-- ---- a decision
+core-decided : (n m made : ℕ) (rows : List ℤ) (numbers : List ℕ) (levels : List Level) (d i : ℕ) (l : Level) → Whole l → n ≤ 32 → i < n → d < length levels →
+    model.withLevels (coreHere n m rows numbers levels made d l) (model.decideAt i (coreHere n m rows numbers levels made d l .deepest)) (model.levels (coreHere n m rows numbers levels made d l)) ≡
+    coreHere n m rows numbers (set levels d l) made (suc d) (decidedAt l i)
+unfolding model.withLevels coreWith model.levels levelsFrom
+core-decided n m made rows numbers levels d i l w f h k =
+    rw (level-decided n l w f i h, level-here n levels d l k, levels-above n levels d d l (omega arith))
+
+-- the first open variable is one of the n
+pub decided-variable : (c : model.Core) (i : ℕ) → CoreFits c → Decides (model.kept c) (c .deepest .box) i → i < c .variables
+unfolding model.levels
+decided-variable c i f d = omega (arith, first-open i (c .deepest .box) (d .first) .at, f .levels .0 .box)
+
+whole-decided : (l : Level) (i : ℕ) → Whole l → Whole (decidedAt l i)
+whole-decided l i w =
+    record { lower = w .lower; upper = length-set (l .upper) i (getD (l .lower) i (pos 0)) ∙ w .upper; below = w .below; above = length-set (l .above) i decisionReason ∙ w .above }
+
+pub depth-here : (n m : ℕ) (rows : List ℤ) (numbers : List ℕ) (levels : List Level) (made depth : ℕ) (l : Level) → CoreFits (coreHere n m rows numbers levels made depth l) → depth ≤ n
+depth-here n m rows numbers levels made depth l f =
+    let h : length (levelsFrom n levels depth) ≤ n = unfold model.depth coreWith in depth-fits (coreHere n m rows numbers levels made depth l) f in
+    omega (arith, length-levels n levels depth)
+
+-- a store at or below the turn's start leaves the turn's start as it is
+pub start-kept : (n m budget conflicts : ℕ) (rows : List ℤ) (numbers : List ℕ) (levels : List Level) (made : ℕ) (before : Level) (start d : ℕ) (l : Level) → start ≤ d →
+    stepStart n m budget conflicts rows numbers (set levels d l) made before start ≡ stepStart n m budget conflicts rows numbers levels made before start
+start-kept n m budget conflicts rows numbers levels made before start d l h = rw (levels-above n levels start d l h)
+
+module _ {s : model.Search} {old : List ℕ} {limit : ℕ} {keep : Bool} {n m budget : ℕ} {now : List ℕ} {rows : List ℤ} {numbers : List ℕ} {levels : List Level} {made conflicts depth : ℕ}
+    {level before : Level} {start done : ℕ} (r : Running s old limit keep n m budget now rows numbers levels made conflicts depth level before start done) where
+  pub running-decides : (i : ℕ) (here : Level) → Whole here →
+      Propagates (coreHere n m rows numbers levels made depth level) (coreHere n m rows numbers levels made depth here) (decide i) →
+      Running s old limit keep n m budget now rows numbers (set levels depth here) made conflicts (depth + 1) (decidedAt here i) before start done
+  running-decides i here w p =
+      let c = coreHere n m rows numbers levels made depth here in
+      let v : i < n = unfold coreWith in decided-variable c i (p .fits) (p .chosen) in
+      let deep : depth < length levels = omega (arith, depth-here n m rows numbers levels made depth here (p .fits), r .counts .few, r .levelsLong) in
+      let e = core-decided n m made rows numbers levels depth i here w (r .counts .few) v deep in
+      let t = start-kept n m budget conflicts rows numbers levels made before start depth here (r .from) in
+      rw add-one
+      (record {
+        counts = r .counts;
+        whole = whole-decided here i w;
+        wholeBefore = r .wholeBefore;
+        rowsLong = r .rowsLong;
+        numbersLong = r .numbersLong;
+        levelsLong = length-set levels depth here ∙ r .levelsLong;
+        fits = subst CoreFits e (decide-fits c i (p .fits) (p .chosen));
+        from = omega (arith, r .from);
+        turn = ap (λ (x : model.Search). descend (x .core)) t ∙ r .turn ∙ p .next ∙ (unfold follow in ap descend e);
+        within = r .within;
+        blocks = r .blocks;
+        many = r .many;
+        long = r .long;
+        room = r .room;
+        ahead = r .ahead ∙ ap (λ (x : model.Search). withBlocks (r .blocks) (advance (limit - done) x)) (sym t);
+        buffer = r .buffer;
+      })

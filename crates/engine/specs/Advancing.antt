@@ -1,0 +1,45 @@
+-- What turns repeated give, as the model's trace.
+use Prim.Native.Nat.{ℕ, _*_, _≤_}
+use mathlib.Core.Bool.{Bool, true, false}
+use mathlib.Core.List.{List, _++_}
+use mathlib.Core.Path.{_≡_}
+use lib.ListN.{length, drop}
+use Rattle.model.specs.Bytes.{blockLength}
+use Rattle.model.specs.Search as model
+use Rattle.model.specs.Step.{Verdict, goOn, noSolution, outOfBudget, solution, lowers}
+use Rattle.model.specs.Trace.{Trace, advance, joined}
+use Rattle.validity.specs.Valid.{Valid}
+use Rattle.state.specs.View.{view}
+use Rattle.state.specs.declared.Search.{Search}
+use Rattle.state.specs.declared.Status.the-variants.{Undecided}
+use Rattle.engine.specs.declared.Ending.{Ending}
+use Rattle.engine.specs.declared.Ending.the-variants.{GoOn, NoSolution, OutOfBudget, Solution}
+use Rattle.engine.specs.declared.Advanced.{Advanced}
+
+-- the verdict of an ending; a solution's values are the lower bounds of the deepest level
+unfoldable pub verdictOf : Ending → model.Search → Verdict
+verdictOf GoOn s = goOn
+verdictOf NoSolution s = noSolution
+verdictOf OutOfBudget s = outOfBudget
+verdictOf Solution s = solution (lowers (s .core .deepest .box))
+
+-- what stands in the buffer: the blocks and then its old bytes, where they are kept
+pub record Buffered (keep : Bool) (blocks : List (List ℕ)) (old now : List ℕ) : Type 0 where
+  pub written : keep ≡ true → now ≡ joined blocks ++ drop (blockLength * length blocks) old
+  pub untouched : keep ≡ false → now ≡ old
+
+unfoldable pub traceOf : Advanced → List (List ℕ) → Trace
+traceOf r blocks = record { verdict = verdictOf (r .ending) (view (r .state)); count = r .state .conflicts; blocks = blocks; state = view (r .state) }
+
+-- at most `limit` turns from a state
+pub record Advances (s : model.Search) (limit : ℕ) (keep : Bool) (r : Advanced) (old now : List ℕ) : Type 0 where
+  pub blocks : List (List ℕ)
+  pub many : r .blocks ≡ length blocks
+  pub trace : traceOf r blocks ≡ advance limit s
+  pub buffer : Buffered keep blocks old now
+
+-- what the loop asks: a valid state that is not marked, and room for the blocks that are kept
+pub record Starts (s : Search) (limit : ℕ) (keep : Bool) (buffer : List ℕ) : Type 0 where
+  pub valid : Valid (view s)
+  pub unmarked : s .status ≡ Undecided
+  pub room : keep ≡ true → blockLength * limit ≤ length buffer

@@ -1,0 +1,220 @@
+// Turns repeated in place: the loop that `step`, `run` and `trace` share.
+use crate::Advanced;
+use crate::Ending;
+use crate::conflict::conflict;
+use crate::track::track;
+use backtrack::backjump;
+use backtrack::decide;
+use backtrack::mirror::keep_bounds;
+use backtrack::mirror::mirror;
+use propagate::propagate::Found;
+use propagate::propagate::propagate;
+use state::Level;
+use state::Search;
+use state::Status;
+ghost use Rattle.state.specs.View.{view};
+ghost use Rattle.engine.specs.Advancing.{Starts, Advances};
+
+// At most `limit` turns, to a verdict. The level in hand lies in arrays of its own, and is stored when a decision leaves it; `before` is the level where
+// the turn started, at depth `start`, and what the call gives in the end. The block of each counted conflict goes to the buffer, if blocks are kept.
+pub fn advance(s: Search, buffer: &mut [u8], limit: usize, keep: bool) -> Advanced
+    requires { ⌜ Starts s limit keep (now buffer) ⌝ }
+    ensures { λ r. ⌜ Advances (view s) limit keep r (now (buffer .entry)) (now (buffer .exit)) ⌝ }
+{
+    let n = s.n;
+    let m = s.m;
+    let budget = s.budget;
+    let mut rows = s.rows;
+    let mut numbers = s.numbers;
+    let mut levels = s.levels;
+    let mut made = s.made;
+    let mut conflicts = s.conflicts;
+    let mut depth = s.depth;
+    let mut before = state::whole(levels[depth]);
+    let mut start = depth;
+    let mut done: usize = 0;
+    let mut ending = Ending::GoOn;
+    let mut status = Status::Undecided;
+    // The level in hand.
+    let mut lower = before.lower;
+    let mut upper = before.upper;
+    let mut below = before.below;
+    let mut above = before.above;
+    let mut decided = before.decided;
+    // Of each kept constraint: its minimum activity at the level in hand, and a number that no variable's span exceeds, which may be stale but never
+    // too small. Both are stale once a constraint is falsified.
+    let mut activities = [0i64; 128];
+    let mut reaches = [0i64; 128];
+    // The same for each level above, with how many cuts were gone then and how many constraints were kept.
+    let mut olds = [0i64; 4224];
+    let mut limits = [0i64; 4224];
+    let mut gones = [0usize; 33];
+    let mut counts = [0usize; 33];
+    // The bounds of each level above.
+    let mut lowers = [0i64; 1056];
+    let mut uppers = [0i64; 1056];
+    mirror(levels, depth, &mut lowers, &mut uppers);
+    // The variables that each input and each kept cut mentions.
+    let mut inputs = [0usize; 64];
+    let mut cuts = [0usize; 64];
+    let mut told = track(
+        &rows,
+        &lower,
+        &upper,
+        n,
+        m,
+        made,
+        &mut activities,
+        &mut reaches,
+        &mut inputs,
+        &mut cuts,
+    );
+    let mut going = 0 < limit;
+    while going {
+        let found = propagate(
+            &rows,
+            n,
+            m,
+            made,
+            &inputs,
+            &cuts,
+            told,
+            &mut lower,
+            &mut upper,
+            &mut below,
+            &mut above,
+            &mut activities,
+            &mut reaches,
+        );
+        let here = Level {
+            lower,
+            upper,
+            below,
+            above,
+            decided,
+        };
+        levels[depth] = here;
+        match found {
+            Found::Decide(i) => {
+                keep_bounds(&lower, &upper, depth, &mut lowers, &mut uppers);
+                told = decide(
+                    &rows,
+                    n,
+                    m,
+                    made,
+                    i,
+                    depth,
+                    &lower,
+                    &reaches,
+                    &mut upper,
+                    &mut above,
+                    &mut activities,
+                    &mut olds,
+                    &mut limits,
+                    &mut gones,
+                    &mut counts,
+                );
+                decided = i;
+                depth += 1;
+            }
+            Found::Finish => {
+                before = here;
+                start = depth;
+                ending = Ending::Solution;
+                status = Status::Solved;
+                going = false;
+            }
+            Found::Conflict(j) => {
+                if conflicts == budget {
+                    ending = Ending::OutOfBudget;
+                    going = false;
+                    continue;
+                }
+                conflicts += 1;
+                let met = conflict(
+                    &lower,
+                    &upper,
+                    &below,
+                    &above,
+                    &lowers,
+                    &uppers,
+                    n,
+                    m,
+                    made,
+                    j,
+                    depth,
+                    conflicts,
+                    done,
+                    keep,
+                    &mut rows,
+                    &mut numbers,
+                    &mut cuts,
+                    buffer,
+                );
+                let back = met.back;
+                made = met.made;
+                done += 1;
+                if back == 0 {
+                    before = here;
+                    start = depth;
+                    ending = Ending::NoSolution;
+                    status = Status::Infeasible;
+                    going = false;
+                    continue;
+                }
+                let d = state::whole(levels[back]);
+                let i = d.decided;
+                depth = back - 1;
+                let o = state::whole(levels[depth]);
+                lower = o.lower;
+                upper = o.upper;
+                below = o.below;
+                above = o.above;
+                decided = o.decided;
+                told = backjump(
+                    &rows,
+                    n,
+                    m,
+                    made,
+                    i,
+                    depth,
+                    &upper,
+                    &olds,
+                    &limits,
+                    &gones,
+                    &counts,
+                    &mut lower,
+                    &mut below,
+                    &mut activities,
+                    &mut reaches,
+                );
+                before = Level {
+                    lower,
+                    upper,
+                    below,
+                    above,
+                    decided,
+                };
+                start = depth;
+                going = done < limit;
+            }
+        }
+    }
+    levels[start] = before;
+    Advanced {
+        ending,
+        blocks: done,
+        state: Search {
+            n,
+            m,
+            budget,
+            conflicts,
+            made,
+            depth: start,
+            status,
+            rows,
+            numbers,
+            levels,
+        },
+    }
+}

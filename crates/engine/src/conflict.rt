@@ -1,0 +1,70 @@
+// A counted conflict: what is learned from it, the level to go back to, and its journal record.
+use crate::learn::learn;
+use backtrack::mirror::backjump_level;
+use record::emit;
+use state::kept::number_of;
+ghost use Rattle.state.specs.Change.{held};
+ghost use Rattle.engine.specs.Counting.{Countable, Counted};
+
+// The backjump level, and how many cuts are made now.
+pub struct Met {
+    pub back: usize,
+    pub made: usize,
+}
+
+// The conflict in the kept constraint in row j, the `count`-th of the search. The cut is learned and kept, the backjump level sought among the levels
+// above, and the record put as block `done` of the buffer, if records are kept.
+pub fn conflict<'a>(
+    lower: &'a [i64; 32],
+    upper: &'a [i64; 32],
+    below: &'a [usize; 32],
+    above: &'a [usize; 32],
+    lowers: &'a [i64; 1056],
+    uppers: &'a [i64; 1056],
+    n: usize,
+    m: usize,
+    made: usize,
+    j: usize,
+    depth: usize,
+    count: usize,
+    done: usize,
+    keep: bool,
+    rows: &mut [i64; 4224],
+    numbers: &mut [usize; 64],
+    cuts: &mut [usize; 64],
+    buffer: &mut [u8],
+) -> Met
+    requires { ⌜ Countable n m made j depth count done keep (now rows) (now numbers) (held (now lower) (now upper) (now below) (now above) 0) (now lowers) (now uppers) (now cuts) (now buffer) ⌝ }
+    ensures { λ r. ⌜ Counted n m made j depth count done keep (now (rows .entry)) (now (numbers .entry)) (held (now (lower .entry)) (now (upper .entry)) (now (below .entry)) (now (above .entry))) (now (lowers .entry)) (now (uppers .entry)) (now (cuts .entry)) (now (buffer .entry)) (r .back) (r .made) (now (rows .exit)) (now (numbers .exit)) (now (cuts .exit)) (now (buffer .exit)) ⌝ }
+{
+    let falsified = number_of(m, made, j);
+    let l = learn(
+        lower,
+        upper,
+        below,
+        above,
+        n,
+        m,
+        made,
+        j,
+        rows,
+        numbers,
+        cuts,
+    );
+    let cut = l.cut;
+    let used = l.used;
+    let back = backjump_level(&cut, n, depth, lowers, uppers);
+    emit(
+        buffer,
+        keep,
+        done,
+        count,
+        falsified,
+        l.number,
+        depth,
+        back,
+        &cut,
+        &used,
+    );
+    Met { back, made: l.made }
+}
