@@ -25,7 +25,7 @@ pub record Decidable (n m made : ℕ) (rows lower upper : List ℤ) (i depth : �
 -- the level of the decision; r tells the first constraint that it falsifies
 pub record Decided (n m made : ℕ) (rows lower upper : List ℤ) (above : List ℕ) (i depth : ℕ) (upper₁ : List ℤ) (above₁ : List ℕ) (activities reaches : List ℤ) (r : ℕ) : Type 0 where
   pub bound : upper₁ ≡ set upper i (numberIn lower i)
-  pub reason : above₁ ≡ set above i decisionReason
+  pub why : above₁ ≡ set above i decisionReason
   pub told : Told n rows lower upper₁ activities reaches (m + keptCuts made) r
 
 -- the level that the decision leaves, of these bounds
@@ -49,5 +49,5 @@ pub record Flippable (n m made : ℕ) (rows lower upper : List ℤ) (i depth : �
 
 pub record Flipped (n m made : ℕ) (rows lower upper : List ℤ) (below : List ℕ) (i : ℕ) (lower₁ : List ℤ) (below₁ : List ℕ) (activities reaches : List ℤ) (r : ℕ) : Type 0 where
   pub bound : lower₁ ≡ set lower i (numberIn lower i +ℤ pos 1)
-  pub reason : below₁ ≡ set below i flippedReason
+  pub why : below₁ ≡ set below i flippedReason
   pub told : Told n rows lower₁ upper activities reaches (m + keptCuts made) r

@@ -5,8 +5,10 @@ use state::Search;
 ghost use Rattle.io.specs.Counts.{Counts};
 
 mod text;
+mod told;
 
 pub use text::print_ending;
+pub use told::input_failed;
 
 // One byte more than the longest input. Of a longer one this many bytes are read, which is no whole number of blocks: so it counts as truncated.
 pub const INPUT_LENGTH: usize = 65537;
@@ -40,7 +42,8 @@ fn blocks_end(buffer: &[u8], blocks: usize) -> usize
     blocks * block::LENGTH
 }
 
-// Runs an opened search to its verdict and prints it, with a line for each conflict on the way.
+// Runs an opened search to its verdict and prints it, with a line for each conflict on the way. About once a second it tells, where somebody looks, how
+// many conflicts are counted.
 fn print_search(opened: Search) {
     let n = opened.n;
     let m = opened.m;
@@ -49,16 +52,28 @@ fn print_search(opened: Search) {
     let mut blocks = [0u8; BLOCKS_LENGTH];
     let mut out = [0u8; TEXT_LENGTH];
     let mut at = report::plan_line(&mut out, 0, n, m, budget);
+    let mut failed = false;
+    let watched = told::is_watched();
+    let mut last = told::seconds();
     let mut calls: usize = 0;
     while calls < MAX_TURNS {
         let traced = search::trace(s, &mut blocks);
         let end = blocks_end(&blocks, traced.blocks);
-        at = text::put_ends(&mut out, at, &blocks[..end]);
+        at = text::put_ends(&mut out, at, &blocks[..end], &mut failed);
         let verdict = traced.verdict;
         if !goes_on(verdict) {
             let values = traced.values;
-            text::finish(&mut out, at, verdict, &values, n, traced.count);
+            text::finish(&mut out, at, verdict, &values, n, traced.count, &mut failed);
+        }
+        if failed {
+            told::tell_output();
             return;
+        }
+        if !goes_on(verdict) {
+            return;
+        }
+        if watched {
+            last = told::progress(last, traced.count, budget);
         }
         s = traced.state;
         calls += 1;
@@ -91,7 +106,10 @@ pub fn write_journal(file: &[u8]) {
     while calls < MAX_TURNS {
         let traced = search::trace(s, &mut blocks);
         let end = blocks_end(&blocks, traced.blocks);
-        io::write_all(STDOUT_FILENO, &blocks[..end]);
+        if !io::write_all(STDOUT_FILENO, &blocks[..end]) {
+            told::tell_output();
+            return;
+        }
         let verdict = traced.verdict;
         if !goes_on(verdict) {
             return;

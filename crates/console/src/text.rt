@@ -1,4 +1,5 @@
 // The text of a verdict, gathered in a buffer that is written out when it is full.
+use crate::told::tell_output;
 use libc::STDOUT_FILENO;
 use report::LONGEST_LINE;
 use search::Verdict;
@@ -6,40 +7,46 @@ ghost use Prim.Native.Nat.{_+_, _≤_};
 ghost use lib.ListN.{length};
 ghost use Rattle.report.specs.Room.{longestLine};
 
-// Writes out the first bytes of a buffer.
-fn write(out: &[u8], end: usize)
+// Writes out the first bytes of a buffer. What cannot be written is remembered.
+fn write(out: &[u8], end: usize, failed: &mut bool)
     requires { ⌜ end ≤ length (now out) ⌝ }
 {
-    io::write_all(STDOUT_FILENO, &out[..end]);
+    if !io::write_all(STDOUT_FILENO, &out[..end]) {
+        *failed = true;
+    }
 }
 
 pub(crate) fn print_refused(error: usize) {
     let mut out = [0u8; LONGEST_LINE];
     let end = report::refused_line(&mut out, 0, error);
-    write(&out, end);
+    let mut failed = false;
+    write(&out, end, &mut failed);
+    if failed {
+        tell_output();
+    }
 }
 
 // The place of the next line: where too little room is left, the text so far is written out.
-fn next_place(out: &[u8], at: usize) -> usize
+fn next_place(out: &[u8], at: usize, failed: &mut bool) -> usize
     requires { ⌜ (at ≤ length (now out)) × (longestLine ≤ length (now out)) ⌝ }
     ensures { λ r. ⌜ r + longestLine ≤ length (now (out .entry)) ⌝ }
 {
     if out.len() - at < LONGEST_LINE {
-        write(out, at);
+        write(out, at, failed);
         return 0;
     }
     at
 }
 
 // Puts the `end` lines of these journal blocks.
-pub(crate) fn put_ends(out: &mut [u8], at: usize, blocks: &[u8]) -> usize
+pub(crate) fn put_ends(out: &mut [u8], at: usize, blocks: &[u8], failed: &mut bool) -> usize
     requires { ⌜ (at ≤ length (now out)) × (longestLine ≤ length (now out)) ⌝ }
     ensures { λ r. ⌜ r ≤ length (now (out .entry)) ⌝ }
 {
     let mut next = at;
     let mut k: usize = 0;
     while k < blocks.len() / block::LENGTH {
-        let place = next_place(out, next);
+        let place = next_place(out, next, failed);
         let from = k * block::LENGTH;
         next = report::end_line(out, place, &blocks[from..]);
         k += 1;
@@ -69,18 +76,23 @@ pub(crate) fn finish(
     values: &[i64; 32],
     n: usize,
     count: usize,
+    failed: &mut bool,
 )
     requires { ⌜ (at ≤ length (now out)) × (longestLine ≤ length (now out)) ⌝ }
 {
-    let place = next_place(out, at);
+    let place = next_place(out, at, failed);
     let after_verdict = put_verdict(out, place, verdict, values, n);
-    let last = next_place(out, after_verdict);
+    let last = next_place(out, after_verdict, failed);
     let end = report::ends_line(out, last, count);
-    write(out, end);
+    write(out, end, failed);
 }
 
 // Prints the last two lines alone.
 pub fn print_ending(verdict: Verdict, values: &[i64; 32], n: usize, count: usize) {
     let mut out = [0u8; LONGEST_LINE];
-    finish(&mut out, 0, verdict, values, n, count);
+    let mut failed = false;
+    finish(&mut out, 0, verdict, values, n, count, &mut failed);
+    if failed {
+        tell_output();
+    }
 }

@@ -4,5 +4,10 @@ use libc::STDIN_FILENO;
 fn main() {
     let mut file = [0u8; console::INPUT_LENGTH];
     let read = io::read_full(STDIN_FILENO, &mut file);
+    if read == 0 {
+        if console::input_failed() {
+            return;
+        }
+    }
     console::write_journal(&file[..read]);
 }

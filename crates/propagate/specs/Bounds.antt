@@ -16,4 +16,4 @@ pub record Settable (i : ℕ) (v : ℤ) (bounds : List ℤ) (reasons : List ℕ)
 
 pub record BoundSet (i : ℕ) (v : ℤ) (reason : ℕ) (bounds : List ℤ) (reasons : List ℕ) (bounds₁ : List ℤ) (reasons₁ : List ℕ) : Type 0 where
   pub bound : bounds₁ ≡ set bounds i v
-  pub reason : reasons₁ ≡ set reasons i reason
+  pub why : reasons₁ ≡ set reasons i reason

@@ -93,7 +93,7 @@ returns c =
     let t = rw (e, k) at (c .raise-lower .ensures .1) in
     record {
       bound = set .bound;
-      reason = set .reason;
+      why = set .why;
       told = rw (set .bound) (told-set _ _ _ _ _ _ _ _ _ _ _ _ _ _ (rw k at (c .before .before .before .before .before .before .measure .ensures)) (p .next) (length-set (now (a .lower)) _ _ ∙ p .lowers) (p .uppers)
           (raised-closes _ _ _ _ (a .i) _ (p .variable) (omega (arith, p .fits .few, p .lowers)) (flipped-above _ _ _ _ _ (now (a .below)) _ (p .fits) (p .variable))) t);
     }

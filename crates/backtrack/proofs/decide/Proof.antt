@@ -82,7 +82,7 @@ returns c =
     let t = rw (value s, k) at (c .lower-upper .ensures .1) in (
       record {
         bound = set .bound;
-        reason = set .reason;
+        why = set .why;
         told = rw (set .bound) (told-set _ _ _ _ _ _ _ _ _ _ _ _ _ _ (p .tracked) (decided-fits _ _ _ _ _ (now (a .above)) _ (p .fits) (p .variable) (p .uppers)) (p .lowers) (length-set (now (a .upper)) _ _ ∙ p .uppers)
             (lowered-closes _ _ _ _ (a .i) _ (p .variable) (omega (arith, p .fits .few, p .uppers)) (decided-below _ _ _ _ _ (now (a .above)) _ (p .fits) (p .variable))) t);
       },

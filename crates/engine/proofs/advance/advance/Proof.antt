@@ -205,7 +205,7 @@ loop-again c =
     let deep : l .loop .depth < length (l .loop .levels) = omega (arith, r .levelsLong, depth-small r) in
     let d = c .decide .ensures in
     record {
-      running = λ e. rw (d .0 .bound, d .0 .reason) (running-decides r (f .found .given .0 .0) (here p) (whole-here p) (moved p _ (decide-at f)));
+      running = λ e. rw (d .0 .bound, d .0 .why) (running-decides r (f .found .given .0 .0) (here p) (whole-here p) (moved p _ (decide-at f)));
       carried = λ e.
           record {
             falsified = d .0 .told;
@@ -387,7 +387,7 @@ loop-again-5 c =
     let w = c .backjump .ensures in
     let wo = b .whole3 .ensures .1 in
     let some : 1 ≤ x .conflict .result .back = omega (arith, b .before .before .before .before .if2 .left) in
-    let on = running-with (flipped-level _ _ _ _ _ _ (b .whole3 .ensures .0) (ap (λ (k : Level). k .decided) (b .before .before .whole2 .ensures .0)) (w .bound) (w .reason)) (counted-on k some wo) in
+    let on = running-with (flipped-level _ _ _ _ _ _ (b .whole3 .ensures .0) (ap (λ (k : Level). k .decided) (b .before .before .whole2 .ensures .0)) (w .bound) (w .why)) (counted-on k some wo) in
     let deep : x .conflict .result .back - 1 ≤ 32 = omega (arith, k .reach, depth-small (running p)) in
     record {
       running = λ e. on;

@@ -41,7 +41,7 @@ unfolding numberIn
 returns c =
     let p = c .before .pre in
     let v : SFits w64 (c .before .args .v) = search needs in
-    rw (toZ-ofZ v, back (lit< tt) (p .old)) (back (lit< tt) (p .change), record { bound = refl; reason = refl })
+    rw (toZ-ofZ v, back (lit< tt) (p .old)) (back (lit< tt) (p .change), record { bound = refl; why = refl })
 
 pub set-spec : {M : Type 1} → statement M
 set-spec = tie.close (tie.spec mul-old element-copy-out-old mul-v element-set-from-v mul-reasons element-write-reasons sub-result returns)

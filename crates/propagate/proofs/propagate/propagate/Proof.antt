@@ -142,7 +142,7 @@ loop-again c =
     let g = t .before .better .given .0 in
     let v : SFits w64 (g .1 .1 .0) = search needs in
     let e = rw (toZ-ofZ v, l .before .before .before .before .kept-count .ensures) at (c .raise-lower .ensures .1) in
-    rw (c .raise-lower .ensures .0 .bound, c .raise-lower .ensures .0 .reason, c .before .before .before .before .number-of .ensures, toZ-ofZ v)
+    rw (c .raise-lower .ensures .0 .bound, c .raise-lower .ensures .0 .why, c .before .before .before .before .number-of .ensures, toZ-ofZ v)
     (loop-set _ _ _ _ _ _ _ _ _ _ _ _ _ _ _ _ (l .loop .inv) _ _ _ _ _ _ (g .1 .0) (g .0) _ _ _ (raise-level t) (tracked (t .before .before .before))
     (raised-closes (a .n) _ _ _ (g .1 .0) (g .1 .1 .0) (raise-level t 0 .variable) (omega (arith, l .loop .inv .ready .few, l .loop .inv .ready .whole .lower)) (raise-better _ _ _ _ (held (l .loop .lower) (l .loop .upper) (l .loop .below) (l .loop .above) 0) (l .loop .inv .ready) _ _ _ (raise-move t))) e)
 
@@ -196,7 +196,7 @@ loop-again-2 c =
     let g = t .before .better2 .given .0 in
     let v : SFits w64 (g .1 .1 .0) = search needs in
     let e = rw (toZ-ofZ v, l .before .before .before .before .kept-count .ensures) at (c .lower-upper .ensures .1) in
-    rw (c .lower-upper .ensures .0 .bound, c .lower-upper .ensures .0 .reason, c .before .before .before .before .number-of2 .ensures, toZ-ofZ v)
+    rw (c .lower-upper .ensures .0 .bound, c .lower-upper .ensures .0 .why, c .before .before .before .before .number-of2 .ensures, toZ-ofZ v)
     (loop-set _ _ _ _ _ _ _ _ _ _ _ _ _ _ _ _ (l .loop .inv) _ _ _ _ _ _ (g .1 .0) (g .0) _ _ _ (lower-level t) (tracked (t .before .before .before))
     (lowered-closes (a .n) _ _ _ (g .1 .0) (g .1 .1 .0) (lower-level t 0 .variable) (omega (arith, l .loop .inv .ready .few, l .loop .inv .ready .whole .upper)) (lower-better _ _ _ _ (held (l .loop .lower) (l .loop .upper) (l .loop .below) (l .loop .above) 0) (l .loop .inv .ready) _ _ _ (lower-move t))) e)
 
