@@ -1,4 +1,4 @@
--- The two round trips, in the words of the contracts of `read` and `write`. What `read` says of a file is `readingOf (readFile f)`; what `write` says is
+-- The two round trips, in the words of the contracts of `read` and `write`. What `read` says of a file is `seenRead r ≡ readingOf (readFile f)`; what `write` says is
 -- `written a s ≡ writeFile (problemOf p) b`, with the answer a, and the buffer's bytes b before and s after the call.
 use Prim.Native.Nat.{ℕ, zero, suc, _*_, _≤_}
 use mathlib.Core.Path.{_≡_, refl, sym, ap, _∙_}
@@ -26,29 +26,27 @@ use Rattle.problem.specs.declared.Answer.{Answer}
 use Rattle.problem.specs.declared.Answer.the-variants.{Done}
 use Rattle.problem.specs.declared.Problem.{Problem}
 use Rattle.problem.specs.declared.Reading.{Reading}
-use Rattle.problem.specs.Answer.{number, answerOf, answers, written}
-use Rattle.problem.specs.View.{problemOf, packed, readingOf}
-use Rattle.problem.proofs.Numbers.{answer-of, reading-number}
+use Rattle.problem.specs.Answer.{number, written}
+use Rattle.problem.specs.View.{problemOf, packed, SeenReading, seenRead, readingOf}
+use Rattle.problem.proofs.Numbers.{done, reading-number}
 use Rattle.problem.proofs.Views.{view-of-packed, view-of-accepted}
 
 -- ---- a file that `read` accepts, written into a buffer with room for it, stands there as it was, and the bytes after it are kept
-module _ (f : List ℕ) (r : Reading) (reads : r ≡ readingOf (readFile f)) (accepted : r .answer ≡ Done) where
+module _ (f : List ℕ) (r : Reading) (reads : seenRead r ≡ readingOf (readFile f)) (accepted : r .answer ≡ Done) where
   no-error : readError f ≡ 0
   unfolding number
-  no-error = sym (reading-number f) ∙ ap (λ (q : Reading). number (q .answer)) (sym reads) ∙ ap number accepted
+  no-error = sym (reading-number f r reads) ∙ ap number accepted
 
   problem-read : problemOf (r .problem) ≡ problemIn f
-  unfolding readFile readingOf
-  problem-read =
-      let e : r ≡ record { answer = Done; problem = packed (problemIn f) } = reads ∙ ap readingOf (result-ok (problemIn f) no-error) in
-      ap (λ (q : Reading). problemOf (q .problem)) e ∙ view-of-accepted f no-error
+  unfolding readFile seenRead readingOf
+  problem-read = ap (λ (q : SeenReading). problemOf (q .problem)) (reads ∙ ap readingOf (result-ok (problemIn f) no-error)) ∙ view-of-accepted f no-error
 
   pub file-read-then-written : Bytes f → (b : List ℕ) → length f ≤ length b → (a : Answer) (s : List ℕ) → written a s ≡ writeFile (problemOf (r .problem)) b →
       (a ≡ Done) × (s ≡ f ++ drop (length f) b)
-  unfolding written answerOf answers
+  unfolding written
   file-read-then-written y b l a s w =
       let e : written a s ≡ record { number = 0; buffer = f ++ drop (length f) b } = w ∙ rw problem-read (read-then-written f y no-error b l) in
-      (sym (answer-of a) ∙ ap (λ (q : Written). answerOf (q .number)) e, ap (λ (q : Written). q .buffer) e)
+      (done a (ap (λ (q : Written). q .number) e), ap (λ (q : Written). q .buffer) e)
 
 -- ---- a problem that `write` accepts, read from the bytes that were written, is the problem with zeros past its last variable and its last constraint
 rows-shaped : (p : Problem) → T (allOf (constraintShaped (variables (problemOf p))) (problemOf p .constraints))
@@ -58,6 +56,9 @@ rows-shaped p =
     (T-of (allOf-tab (constraintShaped (p .n)) (rowAt (p .n) (p .constraints)) 0 (p .m) ∙
     all-of (λ j. constraintShaped (p .n) (rowAt (p .n) (p .constraints) j)) (p .m)
     (λ j l. eq-eqb _ _ (length-coefficients (p .n) (p .constraints) (rowLength * j)))))
+
+same-reading : {a b : Answer} {p q : Problem} → a ≡ b → p ≡ q → _≡_ {A = Reading} (record { answer = a; problem = p }) (record { answer = b; problem = q })
+same-reading d g = cc
 
 module _ (p : Problem) (b : List ℕ) (a : Answer) (s : List ℕ) (writes : written a s ≡ writeFile (problemOf p) b) (accepted : a ≡ Done) where
   number-is : writtenBy (writeError (problemOf p) (length b)) (problemOf p) b .number ≡ 0
@@ -81,9 +82,11 @@ module _ (p : Problem) (b : List ℕ) (a : Answer) (s : List ℕ) (writes : writ
       ap (take (fileLength (problemOf p))) bytes-are ∙
       take-at (fileOf (problemOf p)) (drop (fileLength (problemOf p)) b) (fileLength (problemOf p)) (length-written (problemOf p) (length b) writes-no-error)
 
-  pub problem-written-then-read : (r : Reading) → r ≡ readingOf (readFile (take (fileLength (problemOf p)) s)) → r ≡ record { answer = Done; problem = packed (problemOf p) }
-  unfolding readingOf
-  problem-written-then-read r e = e ∙ rw file-is (ap readingOf (written-is-read (problemOf p) (length b) (rows-shaped p) writes-no-error))
+  pub problem-written-then-read : (r : Reading) → seenRead r ≡ readingOf (readFile (take (fileLength (problemOf p)) s)) → r ≡ record { answer = Done; problem = packed (problemOf p) }
+  unfolding seenRead readingOf
+  problem-written-then-read r e =
+      let f : seenRead r ≡ record { number = 0; problem = packed (problemOf p) } = e ∙ rw file-is (ap readingOf (written-is-read (problemOf p) (length b) (rows-shaped p) writes-no-error)) in
+      same-reading (done (r .answer) (ap (λ (q : SeenReading). q .number) f)) (ap (λ (q : SeenReading). q .problem) f)
 
   -- and those arrays say what the problem's said
   pub view-of-written : problemOf (packed (problemOf p)) ≡ problemOf p

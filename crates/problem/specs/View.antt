@@ -10,10 +10,9 @@ use Rattle.model.specs.Problem as model
 use Rattle.model.specs.Problem.{variables, Result, ok, error}
 use Rattle.layout.specs.Rows.{rowLength, rowAt, boxOf}
 use Rattle.fields.specs.Fields.{room, cells, zeros, inRow}
-use Rattle.problem.specs.declared.Answer.the-variants.{Done}
 use Rattle.problem.specs.declared.Problem.{Problem}
 use Rattle.problem.specs.declared.Reading.{Reading}
-use Rattle.problem.specs.Answer.{answerOf}
+use Rattle.problem.specs.Answer.{number}
 
 -- What a problem's arrays say. Its n and m stay visible as lengths, whatever they are.
 unfoldable pub problemOf : Problem → model.Problem
@@ -39,11 +38,18 @@ packed p =
       constraints = tab (inRows (p .constraints)) 0 cells;
     }
 
--- ---- what reading gives
+-- ---- what reading shows: its answer's number, and the problem's arrays
+pub record SeenReading : Type 0 where
+  pub number : ℕ
+  pub problem : Problem
+
+unfoldable pub seenRead : Reading → SeenReading
+seenRead r = record { number = number (r .answer); problem = r .problem }
+
 -- what an error shows of the problem
 unfoldable pub empty : Problem
 empty = record { n = 0; m = 0; budget = 0; lower = zeros room; upper = zeros room; constraints = zeros cells }
 
-unfoldable pub readingOf : Result model.Problem → Reading
-readingOf (ok p) = record { answer = Done; problem = packed p }
-readingOf (error e) = record { answer = answerOf e; problem = empty }
+unfoldable pub readingOf : Result model.Problem → SeenReading
+readingOf (ok p) = record { number = 0; problem = packed p }
+readingOf (error e) = record { number = e; problem = empty }

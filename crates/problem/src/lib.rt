@@ -12,7 +12,7 @@ use layout::range::sizes_in_range;
 ghost use mathlib.Core.Path.{_≡_};
 ghost use Rattle.model.specs.File.{readFile, writeFile};
 ghost use Rattle.problem.specs.Answer.{number, written};
-ghost use Rattle.problem.specs.View.{problemOf, empty, readingOf};
+ghost use Rattle.problem.specs.View.{problemOf, empty, seenRead, readingOf};
 
 // A problem, document 01's 'plan'. Its constraints lie in 64 rows of 33 numbers: the constant, then a coefficient for each of 32 variables. What stands
 // past the first n variables and m constraints is ignored; a problem that was read has zeros there.
@@ -84,7 +84,7 @@ fn refused(answer: Answer) -> Reading
 
 // Reads a problem file: the problem in it, or the first error of document 01's table that applies.
 pub fn read(file: &[u8]) -> Reading
-    ensures { λ r. ⌜ r ≡ readingOf (readFile (now (file .entry))) ⌝ }
+    ensures { λ r. ⌜ seenRead r ≡ readingOf (readFile (now (file .entry))) ⌝ }
 {
     if !is_whole(file) {
         return refused(Answer::Truncated);

@@ -12,7 +12,7 @@ use Rattle.model.specs.Search.{openProblem, openedBy, openFile}
 use Rattle.problem.specs.declared.Answer.the-variants.{Done}
 use Rattle.problem.specs.declared.Reading.{Reading}
 use Rattle.problem.specs.Answer.{number}
-use Rattle.problem.specs.View.{problemOf, packed, readingOf}
+use Rattle.problem.specs.View.{problemOf, packed, SeenReading, seenRead, readingOf}
 use Rattle.problem.proofs.Numbers.{reading-number}
 use Rattle.problem.proofs.Views.{view-of-accepted}
 use Rattle.opening.specs.Accepted.{Accepted}
@@ -21,9 +21,9 @@ use Rattle.state.specs.View.{view}
 use Rattle.state.specs.declared.Search.{Search}
 use Rattle.search.specs.Opening.{blank, SeenOpening, seenOpened, opening}
 
-module _ (f : List ℕ) (r : Reading) (e : r ≡ readingOf (readFile f)) where
+module _ (f : List ℕ) (r : Reading) (e : seenRead r ≡ readingOf (readFile f)) where
   answer-number : number (r .answer) ≡ readError f
-  answer-number = ap (λ (x : Reading). number (x .answer)) e ∙ reading-number f
+  answer-number = reading-number f r e
 
   -- ---- an accepted file
   module _ (d : r .answer ≡ Done) where
@@ -35,7 +35,8 @@ module _ (f : List ℕ) (r : Reading) (e : r ≡ readingOf (readFile f)) where
     read-ok = rw no-error (unfold resultOf in refl)
 
     problem-read : r .problem ≡ packed (problemIn f)
-    problem-read = ap (λ (x : Reading). x .problem) e ∙ rw read-ok (unfold readingOf in refl)
+    unfolding seenRead readingOf
+    problem-read = ap (λ (x : SeenReading). x .problem) e ∙ rw read-ok
 
     pub can-open : Accepted (r .problem)
     can-open = rw problem-read (accepted f no-error)
