@@ -1,6 +1,5 @@
 -- Laws of a conflict's functions.
 pub mod Storing
-pub mod Positions
 pub mod Numbering
 pub mod Lowest
 pub mod Resolvents

@@ -1,20 +1,22 @@
 -- Analysis on the code's arrays: F combined with a constraint, with a reason, and the loop over the variables.
 use Prim.Native.Nat.{ℕ, suc, _+_, _-_, _≤_, _<_}
 use native.Mathlib.Omega.{arith}
-use mathlib.Core.Bool.{true, false}
+use mathlib.Core.Bool.{Bool, true, false, cond}
 use mathlib.Core.List.{List, _∷_}
 use mathlib.Core.Logic.{⊎-elim}
+use mathlib.Core.Option.{none}
 use mathlib.Core.Path.{_≡_, refl, sym, ap, _∙_, subst}
-use borrow.Author.Tests.{ltb-true}
+use borrow.Author.Tests.{ltb-true, eqb-true}
+use lib.Dec.{eqb}
 use lib.IntN.{ℤ, pos, negsuc}
 use lib.ListN.{getD, length, set, length-set, replicate}
 use lib.Signed.{ltZ}
 use lib.Seq.{getD-set-same, getD-set-other}
 use Rattle.model.specs.Lists.{tab}
-use Rattle.model.specs.Ranges.{maxVariables}
+use Rattle.model.specs.Ranges.{maxVariables, maxConstraints, maxBudget}
 use Rattle.model.specs.Constraint.{Constraint, Box, coefficientAt, falsified, rounded, resolvent, opposite, inRange}
-use Rattle.model.specs.Search.{noReasons, Level, Core, reasonsAt}
-use Rattle.model.specs.Conflict.{Resolved, unchanged, takeIf, resolveWith, resolveKept, usedReason, resolveAt, analyzeFrom, analyze}
+use Rattle.model.specs.Search.{domain, decision, flipped, constraint, noReasons, Level, Core, reasonsAt, keptNumber}
+use Rattle.model.specs.Conflict.{Resolved, unchanged, takeIf, resolveWith, resolveBy, resolveKept, usedReason, resolveAt, analyzeFrom, analyze}
 use Rattle.lists.proofs.Bools.{true-of, clash}
 use Rattle.lists.proofs.Loops.{every-at}
 use Rattle.lists.proofs.Tab.{getD-tab, tab-ext, tab-end, tab-down, getD-const}
@@ -22,11 +24,32 @@ use Rattle.layout.specs.Rows.{rowLength, constraintAt, rowAt, boxOf}
 use Rattle.linear.specs.Excess.{RoundedOrOut}
 use Rattle.linear.proofs.Sizes.{rounded-range}
 use Rattle.layout.specs.Copies.{Copied}
-use Rattle.state.specs.View.{reasonOf, reasonsIn, keptCuts, coreWith}
-use Rattle.analyze.specs.Position.{absent, constraintIn, PositionOf}
+use Rattle.state.specs.View.{domainReason, decisionReason, flippedReason, reasonOf, reasonsIn, keptCuts, coreWith}
+use Rattle.state.specs.Position.{absent, constraintIn, PositionOf}
+use Rattle.state.proofs.Positions.{at-present, at-absent, position-zero, position-beyond}
 use Rattle.analyze.specs.Analyzed.{Analyzable, Resolving, coreAt, analysisOf, Analyzed}
 use Rattle.analyze.proofs.Lowest.{rounded-holds}
-use Rattle.analyze.proofs.Positions.{reason-resolves, at-present, at-absent}
+
+-- ---- a reason: the three that are named are no constraint's number
+module _ (c : Core) (i : ℕ) (f : Constraint) (k : ℕ) where
+  resolve-cases : (a b d : Bool) → (a ≡ true → keptNumber c k ≡ none) → (b ≡ true → keptNumber c k ≡ none) → (d ≡ true → keptNumber c k ≡ none) →
+      resolveBy c i f (cond a domain (cond b decision (cond d flipped (constraint k)))) ≡ resolveKept (c .deepest .box) i f k (keptNumber c k)
+  unfolding resolveBy resolveKept
+  resolve-cases true b d p q r = rw (p refl)
+  resolve-cases false true d p q r = rw (q refl)
+  resolve-cases false false true p q r = rw (r refl)
+  resolve-cases false false false p q r = refl
+
+reason-resolves : (n m made : ℕ) (rows : List ℤ) (numbers : List ℕ) (l : Level) (ls : List Level) (i : ℕ) (f : Constraint) (reason j : ℕ) → m ≤ maxConstraints → made ≤ maxBudget → PositionOf m made reason j →
+    resolveBy (coreWith n m made rows numbers l ls) i f (reasonOf reason) ≡ resolveKept (l .box) i f reason (constraintIn n rows j)
+unfolding reasonOf coreWith
+reason-resolves n m made rows numbers l ls i f reason j few budget p =
+    let c = coreWith n m made rows numbers l ls in
+    let beyond : m + made < reason → keptNumber c reason ≡ none = λ h. position-beyond m made reason h .found n rows numbers l ls ∙ at-absent n rows in
+    resolve-cases c i f reason (eqb reason domainReason) (eqb reason decisionReason) (eqb reason flippedReason)
+    (λ e. let z : reason ≡ 0 = eqb-true reason domainReason e in rw z (position-zero m made .found n rows numbers l ls ∙ at-absent n rows))
+    (λ e. beyond (omega (arith, eqb-true reason decisionReason e))) (λ e. beyond (omega (arith, eqb-true reason flippedReason e))) ∙
+    ap (resolveKept (l .box) i f reason) (p .found n rows numbers l ls)
 
 -- ---- F combined with J, constraint number k: signs alike, the outcome out of range, the outcome not falsified, the outcome taken
 module _ (box : Box) (i : ℕ) (f : Constraint) (k : ℕ) (j : Constraint) where

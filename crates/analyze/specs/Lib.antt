@@ -1,4 +1,3 @@
 -- What a conflict's functions say of the state's arrays.
 pub mod Storing
-pub mod Position
 pub mod Analyzed

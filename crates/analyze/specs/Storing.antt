@@ -1,7 +1,10 @@
--- Arrays after a cut was kept.
+-- A cut among the kept constraints: where one equals it, and the arrays after it was kept.
 use Prim.Native.Nat.{ℕ, _+_, _-_, _≤_, _<_}
+use mathlib.Core.Bool.{cond}
 use mathlib.Core.List.{List, [], _∷_, _++_}
+use mathlib.Core.Option.{Option, none, some}
 use mathlib.Core.Path.{_≡_}
+use lib.Dec.{ltb}
 use lib.IntN.{ℤ}
 use lib.ListN.{getD, length}
 use Rattle.model.specs.Lists.{tab}
@@ -9,6 +12,10 @@ use Rattle.model.specs.Ranges.{maxVariables, maxCuts}
 use Rattle.model.specs.Search.{newest}
 use Rattle.layout.specs.Rows.{constraintAt, rowAt}
 use Rattle.state.specs.View.{keptCuts, storedNumber}
+
+-- the position that a scan of `count` rows found, none where it went through them all
+unfoldable pub foundBelow : ℕ → ℕ → Option ℕ
+foundBelow count j = cond (ltb j count) (some j) none
 
 -- the newest of all the cuts that can be kept, counted from 0
 abbrev pub lastCut : ℕ

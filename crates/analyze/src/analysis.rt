@@ -1,7 +1,5 @@
 // Analysis of a 'dead end': F starts as a false kept constraint and is combined, variable by variable, with the constraints that set the bounds
 // which its lowest value uses. The last F is the cut.
-use crate::lookup::ABSENT;
-use crate::lookup::position_of;
 use layout::ROW;
 use layout::copy_row;
 use layout::range::is_in_range;
@@ -9,6 +7,8 @@ use linear::activity::is_falsified;
 use linear::resolving::combine_at;
 use linear::resolving::is_opposite;
 use linear::rounding::round_into_range;
+use state::kept::ABSENT;
+use state::kept::position_of;
 ghost use mathlib.Core.Bool.{true, false};
 ghost use mathlib.Core.List.{List};
 ghost use mathlib.Core.Path.{_≡_};

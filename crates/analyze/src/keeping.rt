@@ -11,8 +11,7 @@ ghost use Rattle.model.specs.Lists.{tab};
 ghost use Rattle.model.specs.Ranges.{maxVariables, maxConstraints, maxCuts};
 ghost use Rattle.model.specs.Conflict.{firstEqual};
 ghost use Rattle.layout.specs.Rows.{rowLength, constraintAt, rowAt, maxRows, rowsLength};
-ghost use Rattle.analyze.specs.Storing.{lastCut, Moved, RowKept, NumberKept};
-ghost use Rattle.analyze.specs.Position.{foundBelow};
+ghost use Rattle.analyze.specs.Storing.{lastCut, Moved, RowKept, NumberKept, foundBelow};
 
 // The place of the newest cut where all are held.
 const LAST_CUT: usize = MAX_CUTS - 1;

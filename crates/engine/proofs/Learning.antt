@@ -26,8 +26,7 @@ use Rattle.state.specs.Change.{held}
 use Rattle.state.specs.declared.Level.{Level}
 use Rattle.state.proofs.Cores.{kept-rows, number-at}
 use Rattle.analyze.specs.Analyzed.{Analyzed, analysisOf}
-use Rattle.analyze.specs.Position.{foundBelow}
-use Rattle.analyze.specs.Storing.{RowKept, NumberKept}
+use Rattle.analyze.specs.Storing.{RowKept, NumberKept, foundBelow}
 use Rattle.analyze.specs.declared.analysis.Analysis.{Analysis}
 use Rattle.analyze.proofs.Numbering.{numbered-equal, numbered-kept}
 use Rattle.backtrack.proofs.Saving.{rows-stay}

@@ -1,5 +1,5 @@
--- The tests of one variable's bounds, and loops that go up while the numbers are in range: over the variables of a box, and over rows. The premises of a law are the facts that stand where
--- the code goes on or returns.
+-- The tests of one variable's bounds, and loops that go up while the numbers are in range: over the variables of a box, and over rows. The premises of a
+-- law are the facts that stand where the code goes on or returns.
 use Prim.Native.Nat.{ℕ, _+_, _*_, _<_, _≤_}
 use mathlib.Core.Bool.{Bool, true, false, not, and-true}
 use mathlib.Core.List.{List}

@@ -1,6 +1,6 @@
 -- Constraints lie in rows of 33 numbers, one after the other in a flat array: the constant, then a coefficient for each of 32 variables. Bounds lie
 -- in two arrays. What stands past the first n variables is not read.
-use Prim.Native.Nat.{ℕ, suc, _+_, _*_}
+use Prim.Native.Nat.{ℕ, _+_, _*_}
 use mathlib.Core.List.{List}
 use lib.IntN.{ℤ, pos}
 use lib.ListN.{getD}

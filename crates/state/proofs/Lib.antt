@@ -1,4 +1,5 @@
 -- Laws of the view of a search state.
 pub mod Levels
 pub mod Cores
+pub mod Positions
 pub mod Shape

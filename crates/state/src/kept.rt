@@ -1,10 +1,15 @@
-// The kept constraints by position: the m inputs, then the newest cuts, oldest first.
+// The kept constraints by position, the m inputs and then the newest cuts, oldest first; and by number.
 use layout::MAX_CUTS;
+use layout::MAX_ROWS;
 ghost use mathlib.Core.Path.{_≡_};
 ghost use Prim.Native.Nat.{_+_, _≤_, _<_};
 ghost use Rattle.model.specs.Ranges.{maxConstraints, maxCuts, maxBudget};
 ghost use Rattle.layout.specs.Rows.{maxRows};
 ghost use Rattle.state.specs.View.{keptCuts, droppedCuts, numberFor};
+ghost use Rattle.state.specs.Position.{PositionOf};
+
+// The position of a constraint that is not kept: there are fewer rows.
+pub const ABSENT: usize = MAX_ROWS;
 
 // How many cuts are kept.
 pub fn kept_cuts(made: usize) -> usize
@@ -43,4 +48,25 @@ pub fn number_of(m: usize, made: usize, j: usize) -> usize
         return j + 1;
     }
     j + dropped(made) + 1
+}
+
+// The position of the kept constraint with a number, or ABSENT where none has it.
+pub fn position_of(m: usize, made: usize, number: usize) -> usize
+    requires { ⌜ (m ≤ maxConstraints) × (made ≤ maxBudget) ⌝ }
+    ensures { λ r. ⌜ PositionOf m made number r ⌝ }
+{
+    if number == 0 {
+        return ABSENT;
+    }
+    if number <= m {
+        return number - 1;
+    }
+    let gone = dropped(made);
+    if number <= m + gone {
+        return ABSENT;
+    }
+    if number <= m + made {
+        return number - gone - 1;
+    }
+    ABSENT
 }

@@ -12,7 +12,7 @@ use Rattle.layout.specs.Rows.{constraintAt}
 use Rattle.layout.proofs.Rows.{coefficient-at}
 use Rattle.layout.proofs.Elements.{cell-read}
 use Rattle.state.specs.View.{reasonOf, reasonsIn}
-use Rattle.analyze.specs.Position.{absent}
+use Rattle.state.specs.Position.{absent}
 use Rattle.analyze.proofs.Resolvents.{resolving, resolve-none, resolve-some}
 use Rattle.analyze.proofs.analysis.resolve_at.Statement.{statement}
 use Rattle.analyze.proofs.analysis.resolve_at.Tie as tie

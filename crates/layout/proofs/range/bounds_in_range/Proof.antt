@@ -1,3 +1,4 @@
+-- `layout::range::bounds_in_range` meets its contract. Assumes nothing.
 use borrow.Author.Needs.{needs}
 use Rattle.layout.proofs.Ranges.{lower-beyond, upper-beyond, in-order}
 use Rattle.layout.proofs.range.bounds_in_range.Statement.{statement}

@@ -1,3 +1,4 @@
+-- `layout::range::is_within` meets its contract. Assumes nothing.
 use borrow.Author.Needs.{needs}
 use Rattle.layout.proofs.Limits.{negation-fits, below-least, from-least}
 use Rattle.layout.proofs.range.is_within.Statement.{statement}

@@ -1,3 +1,4 @@
+-- `layout::range::sizes_in_range` meets its contract. Assumes nothing.
 use borrow.Author.Needs.{needs}
 use Rattle.layout.proofs.Limits.{no-variable, many-variables, many-constraints, budget-test}
 use Rattle.layout.proofs.range.sizes_in_range.Statement.{statement}

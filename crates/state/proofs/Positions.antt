@@ -1,23 +1,19 @@
--- The kept constraints by number and by position, and a reason as the position of what it names.
+-- The kept constraints by number and by position.
 use Prim.Native.Nat.{ℕ, zero, suc, _+_, _-_, _≤_, _<_}
 use native.Mathlib.Omega.{arith}
-use mathlib.Core.Bool.{Bool, true, false, cond}
 use mathlib.Core.List.{List}
 use mathlib.Core.Option.{none, some}
 use mathlib.Core.Path.{_≡_, refl, sym, ap, _∙_}
-use borrow.Author.Tests.{lt-ltb, le-ltb, eqb-true}
-use lib.Dec.{eqb}
+use borrow.Author.Tests.{lt-ltb, le-ltb}
 use lib.IntN.{ℤ}
 use lib.ListN.{getElem?}
 use Rattle.model.specs.Lists.{tab}
-use Rattle.model.specs.Ranges.{maxConstraints, maxCuts, maxBudget}
-use Rattle.model.specs.Constraint.{Constraint}
-use Rattle.model.specs.Search.{domain, decision, flipped, constraint, Level, Core, dropped, keptNumber}
-use Rattle.model.specs.Conflict.{resolveBy, resolveKept}
+use Rattle.model.specs.Ranges.{maxConstraints, maxCuts}
+use Rattle.model.specs.Search.{dropped, keptNumber}
 use Rattle.lists.proofs.Tab.{length-tab}
 use Rattle.layout.specs.Rows.{rowAt}
-use Rattle.state.specs.View.{domainReason, decisionReason, flippedReason, reasonOf, keptCuts, coreWith}
-use Rattle.analyze.specs.Position.{absent, constraintIn, PositionOf}
+use Rattle.state.specs.View.{keptCuts, coreWith}
+use Rattle.state.specs.Position.{absent, constraintIn, PositionOf}
 
 -- ---- an element that may be missing
 elem-tab : {A : Type 0} (f : ℕ → A) (i c k : ℕ) → k < c → getElem? (tab f i c) k ≡ some (f (i + k))
@@ -92,24 +88,3 @@ module _ (m made : ℕ) where
             rw (length-tab (rowAt n rows) 0 m, le-ltb k m (omega arith), le-ltb k (m + (made - maxCuts)) (omega arith))
             (elem-past (rowAt n rows) m (keptCuts made) (k - (m + (made - maxCuts))) (omega arith) ∙ sym (at-absent n rows));
       }
-
--- ---- a reason: the three that are named are no constraint's number
-module _ (c : Core) (i : ℕ) (f : Constraint) (k : ℕ) where
-  resolve-cases : (a b d : Bool) → (a ≡ true → keptNumber c k ≡ none) → (b ≡ true → keptNumber c k ≡ none) → (d ≡ true → keptNumber c k ≡ none) →
-      resolveBy c i f (cond a domain (cond b decision (cond d flipped (constraint k)))) ≡ resolveKept (c .deepest .box) i f k (keptNumber c k)
-  unfolding resolveBy resolveKept
-  resolve-cases true b d p q r = rw (p refl)
-  resolve-cases false true d p q r = rw (q refl)
-  resolve-cases false false true p q r = rw (r refl)
-  resolve-cases false false false p q r = refl
-
-pub reason-resolves : (n m made : ℕ) (rows : List ℤ) (numbers : List ℕ) (l : Level) (ls : List Level) (i : ℕ) (f : Constraint) (reason j : ℕ) → m ≤ maxConstraints → made ≤ maxBudget → PositionOf m made reason j →
-    resolveBy (coreWith n m made rows numbers l ls) i f (reasonOf reason) ≡ resolveKept (l .box) i f reason (constraintIn n rows j)
-unfolding reasonOf coreWith
-reason-resolves n m made rows numbers l ls i f reason j few budget p =
-    let c = coreWith n m made rows numbers l ls in
-    let beyond : m + made < reason → keptNumber c reason ≡ none = λ h. position-beyond m made reason h .found n rows numbers l ls ∙ at-absent n rows in
-    resolve-cases c i f reason (eqb reason domainReason) (eqb reason decisionReason) (eqb reason flippedReason)
-    (λ e. let z : reason ≡ 0 = eqb-true reason domainReason e in rw z (position-zero m made .found n rows numbers l ls ∙ at-absent n rows))
-    (λ e. beyond (omega (arith, eqb-true reason decisionReason e))) (λ e. beyond (omega (arith, eqb-true reason flippedReason e))) ∙
-    ap (resolveKept (l .box) i f reason) (p .found n rows numbers l ls)

@@ -1,10 +1,10 @@
--- `analyze::lookup::position_of` meets its contract: no number, an input's, a dropped cut's, a kept cut's, one not given yet. Assumes nothing.
+-- `state::kept::position_of` meets its contract: no number, an input's, a dropped cut's, a kept cut's, one not given yet. Assumes nothing.
 use native.Mathlib.Omega.{arith}
 use mathlib.Core.Path.{_≡_}
 use borrow.Author.Needs.{needs}
-use Rattle.analyze.proofs.Positions.{position-zero, position-input, position-dropped, position-cut, position-beyond}
-use Rattle.analyze.proofs.lookup.position_of.Statement.{statement}
-use Rattle.analyze.proofs.lookup.position_of.Tie as tie
+use Rattle.state.proofs.Positions.{position-zero, position-input, position-dropped, position-cut, position-beyond}
+use Rattle.state.proofs.kept.position_of.Statement.{statement}
+use Rattle.state.proofs.kept.position_of.Tie as tie
 
 returns : tie.Need-returns
 returns c =

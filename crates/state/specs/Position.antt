@@ -24,7 +24,3 @@ pub record PositionOf (m made number j : ℕ) : Type 0 where
   pub most : j ≤ absent
   pub inside : j < absent → j < m + keptCuts made
   pub found : (n : ℕ) (rows : List ℤ) (numbers : List ℕ) (l : Level) (ls : List Level) → keptNumber (coreWith n m made rows numbers l ls) number ≡ constraintIn n rows j
-
--- the position that a scan of `count` rows found, none where it went through them all
-unfoldable pub foundBelow : ℕ → ℕ → Option ℕ
-foundBelow count j = cond (ltb j count) (some j) none
