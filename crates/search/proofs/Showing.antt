@@ -103,14 +103,14 @@ unfolding joined blocksIn noBlock blockOr
 block-shown none = refl
 block-shown (some b) = append-nil (b ++ []) ∙ append-nil b
 
-trace-shown : (s : Search) (o : Outcome) → shown s (written (lastStep o) noBlock .answer) (written (lastStep o) noBlock .buffer) ≡ shown s (ok (lastStep o)) (blockOr (o .block))
+last-shown : (s : Search) (o : Outcome) → shown s (written (lastStep o) noBlock .answer) (written (lastStep o) noBlock .buffer) ≡ shown s (ok (lastStep o)) (blockOr (o .block))
 unfolding written lastStep
-trace-shown s o = rw (block-shown (o .block))
+last-shown s o = rw (block-shown (o .block))
 
 step-by : (s : Search) (b : Bool) → (b ≡ true → s .conflicts ≤ s .budget) →
     shown s (tracedBy b (view s) noBlock .answer) (tracedBy b (view s) noBlock .buffer) ≡ shown s (turn (checked b (step (view s)))) (blockIn (checked b (step (view s))))
 unfolding tracedBy checked turn blockIn
-step-by s true h = rw (one-block, advance-one (view s) (unfold view in h refl)) (trace-shown s (step (view s)))
+step-by s true h = rw (one-block, advance-one (view s) (unfold view in h refl)) (last-shown s (step (view s)))
 step-by s false h = refl
 
 pub step-shown : (s : Search) → traceSeen s noBlock ≡ stepSeen s
