@@ -1,0 +1,93 @@
+#!/usr/bin/env python3
+"""Compares the verdicts of the program `verdict` with other solvers, as a Markdown table.
+
+    scripts/compare_solvers.py VERDICT [--limit SECONDS] [--solvers glpsol,cbc,z3,cvc5] PLAN ..
+
+The plans go to glpsol and cbc as LP, to z3 and cvc5 as SMT-LIB 2. Each answers 'solution' or 'none', or is stopped after the limit (20 s). Where
+`verdict` gives a solution, the SMT solvers are also asked for one that comes earlier in dictionary order: 'first' says that there is none.
+"""
+import argparse
+import subprocess
+import sys
+import tempfile
+import time
+from pathlib import Path
+
+from lp import variables_of, write_lp
+from files import read_problem
+from problem import smt_number, write_smt2
+
+# How each solver is called on a file, and the words of its two answers in what it prints, the more exact ones first.
+SOLVERS = {
+    "glpsol": (["glpsol", "--lp"], "lp", [("NO PRIMAL FEASIBLE", "none"), ("NO INTEGER FEASIBLE", "none"), ("INTEGER OPTIMAL SOLUTION FOUND", "solution")]),
+    "cbc": (["cbc", "{}", "solve", "quit"], "lp", [("infeasible", "none"), ("Optimal solution found", "solution")]),
+    "z3": (["z3"], "smt2", [("unsat", "none"), ("sat", "solution")]),
+    "cvc5": (["cvc5"], "smt2", [("unsat", "none"), ("sat", "solution")]),
+}
+
+
+def answer_of(solver, text, limit):
+    """The solver's answer to a text: solution, none, time or unknown; and its seconds."""
+    command, kind, words = SOLVERS[solver]
+    with tempfile.TemporaryDirectory() as folder:
+        path = Path(folder) / ("model." + kind)
+        path.write_text(text)
+        command = [word.replace("{}", str(path)) for word in command] + ([] if "{}" in command else [str(path)])
+        start = time.time()
+        try:
+            printed = subprocess.run(command, stdout=subprocess.PIPE, stderr=subprocess.STDOUT, timeout=limit, cwd=folder).stdout.decode()
+        except subprocess.TimeoutExpired:
+            return "time", limit
+    return next((answer for word, answer in words if word in printed), "unknown"), time.time() - start
+
+
+def earlier(values, names):
+    """That a point comes before these values in dictionary order."""
+    test = "false"
+    for name, value in reversed(list(zip(names, values))):
+        number = smt_number(value)
+        test = "(or (< %s %s) (and (= %s %s) %s))" % (name, number, name, number, test)
+    return "(assert %s)\n" % test
+
+
+def column(solver, problem, ours, values, limit):
+    """What a solver says of a problem, and whether it disagrees with us."""
+    text = write_lp(problem) if SOLVERS[solver][1] == "lp" else write_smt2(problem)
+    answer, seconds = answer_of(solver, text, limit)
+    said, wrong = "%s, %.1f s" % (answer, seconds), answer in ("solution", "none") and answer != ours
+    if ours == "solution" and SOLVERS[solver][1] == "smt2":
+        before, seconds = answer_of(solver, text.replace("(check-sat)", earlier(values, variables_of(problem)) + "(check-sat)"), limit)
+        said += "; %s, %.1f s" % ({"none": "first", "solution": "NOT FIRST"}.get(before, before), seconds)
+        wrong = wrong or before == "solution"
+    return said, wrong
+
+
+def verdict_of(program, plan):
+    """solution, none or spent; and the values of a solution."""
+    printed = subprocess.run([program], input=plan, stdout=subprocess.PIPE, check=True).stdout.decode().splitlines()
+    words = printed[-2].split()
+    return words[0], [int(word) for word in words[1:]]
+
+
+def main():
+    parser = argparse.ArgumentParser(description=__doc__, formatter_class=argparse.RawDescriptionHelpFormatter)
+    parser.add_argument("verdict")
+    parser.add_argument("--limit", type=float, default=20)
+    parser.add_argument("--solvers", default="glpsol,z3")
+    parser.add_argument("plans", nargs="+", type=Path)
+    options = parser.parse_args()
+    solvers = options.solvers.split(",")
+    print("| plan | verdict | %s |\n|%s" % (" | ".join(solvers), "---|" * (2 + len(solvers))))
+    disagreements = 0
+    for path in options.plans:
+        plan = path.read_bytes()
+        ours, values = verdict_of(options.verdict, plan)
+        columns = [column(solver, read_problem(plan), ours, values, options.limit) for solver in solvers]
+        disagreements += sum(wrong for _, wrong in columns)
+        print("| %s | %s | %s |" % (path.stem, ours, " | ".join(said for said, _ in columns)), flush=True)
+    print("\nDisagreements: %d" % disagreements)
+    sys.exit(1 if disagreements else 0)
+
+
+if __name__ == "__main__":
+    main()
