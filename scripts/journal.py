@@ -5,13 +5,14 @@
     scripts/journal.py [--names model.lp] --svg < journal > journal.svg
 
 The text has two lines for each conflict: the falsified constraint, the depth met and the backjump level; the cut as an inequality and what it was
-resolved from, in order. Variables are v1, v2 and so on, or have the names of the LP text that the problem was made from. In the picture depth goes
+resolved from, in order. Variables are v1, v2 and so on; with --names they and the rows have their names in the LP text that the problem was made from. In the picture depth goes
 downward and time from left to right; a browser shows a conflict's two lines when the pointer is over its column.
 """
 import argparse
 import re
 import sys
 import textwrap
+from dataclasses import dataclass
 from html import escape
 from pathlib import Path
 
@@ -39,17 +40,37 @@ def read_journal(data):
     return records
 
 
-def conflict_text(record):
+@dataclass
+class Names:
+    """Of the variables, and of the first constraints where they have any."""
+
+    variables: list
+    rows: list
+
+    def constraint(self, number):
+        row = self.rows[number - 1] if number <= len(self.rows) else ""
+        return "constraint %d (%s)" % (number, row) if row else "constraint %d" % number
+
+
+def conflict_text(record, names):
     after = ": no solution" if record.back == 0 else ""
-    return "conflict %d: constraint %d falsified at depth %d, backjump level %d%s" % (
-        record.count, record.falsified, record.depth, record.back, after)
+    return "conflict %d: %s falsified at depth %d, backjump level %d%s" % (
+        record.count, names.constraint(record.falsified), record.depth, record.back, after)
 
 
 def cut_text(record, names):
     """The cut, and the constraints that it was resolved from: first the falsified one, then from the last variable to the first."""
-    resolved = [" with %d at %s" % (number, name) for number, name in reversed(list(zip(record.used, names))) if number]
+    pairs = reversed(list(zip(record.used, names.variables)))
+    resolved = [" with %d at %s" % (number, name) for number, name in pairs if number]
     return "cut %d: %s <= %d, from %d%s" % (
-        record.cut_number, sum_text(record.cut.coefficients, names), -record.cut.constant, record.falsified, ",".join(resolved) or " alone")
+        record.cut_number, sum_text(record.cut.coefficients, names.variables), -record.cut.constant, record.falsified, ",".join(resolved) or " alone")
+
+
+def check_names(records, names):
+    """A ValueError where the journal has more variables than there are names."""
+    n = len(names.variables)
+    if any(any(record.cut.coefficients[n:]) or any(record.used[n:]) for record in records):
+        raise ValueError("the journal is not of this LP text: it has more than %d variables" % n)
 
 
 def levels_of(records):
@@ -142,7 +163,7 @@ def draw_conflict(picture, column, record):
     x, width = picture.x(column), picture.column
     top, middle = picture.y(-0.5, column), picture.y(record.depth, column)
     picture.add('<g class="c"><title>%s</title><rect class="h" x="%.2f" y="%.1f" width="%.2f" height="%.1f"/>',
-                escape(conflict_text(record) + "\n" + cut_text(record, picture.names)), x, top, width, picture.row * (picture.deepest + 1))
+                escape(conflict_text(record, picture.names) + "\n" + cut_text(record, picture.names)), x, top, width, picture.row * (picture.deepest + 1))
     # In narrow columns a box's end tells a step back, and arrows are for the long ones.
     if record.back and not (picture.narrow and record.back == record.depth):
         color = STEP if record.back == record.depth else JUMP
@@ -208,7 +229,7 @@ def draw_list(picture):
     if len(picture.records) > LISTED:
         return y - 20
     for record in picture.records:
-        picture.text(LEFT, y, conflict_text(record))
+        picture.text(LEFT, y, conflict_text(record, picture.names))
         # Lines break between constraints: 'with 17 at v6' stays together.
         text = re.sub(r"with (\d+) at ", "with\u00a0\\1\u00a0at\u00a0", cut_text(record, picture.names))
         for line in textwrap.wrap(text, int((picture.width - LEFT - 40) / 7.3), subsequent_indent="  "):
@@ -241,18 +262,18 @@ def main():
     parser.add_argument("--svg", action="store_true", help="a picture in place of text")
     parser.add_argument("--names", type=Path, metavar="model.lp", help="the LP text that the problem was made from")
     options = parser.parse_args()
-    names = ["v%d" % (i + 1) for i in range(MAX_VARIABLES)]
+    names = Names(["v%d" % (i + 1) for i in range(MAX_VARIABLES)], [])
     try:
         if options.names:
-            named = read_lp(options.names.read_text())[1]
-            names[:len(named)] = named
+            names = Names(*read_lp(options.names.read_text())[1:])
         records = read_journal(sys.stdin.buffer.read())
+        check_names(records, names)
     except (LpError, ValueError) as error:
         sys.exit(str(error))
     if options.svg:
         sys.stdout.write(svg(records, names))
     else:
-        sys.stdout.writelines("%s\n    %s\n" % (conflict_text(r), cut_text(r, names)) for r in records)
+        sys.stdout.writelines("%s\n    %s\n" % (conflict_text(r, names), cut_text(r, names)) for r in records)
 
 
 if __name__ == "__main__":

@@ -55,7 +55,7 @@ class Token:
 @dataclass
 class Model:
     """What the text says so far. `places` has the variables of General and Binary in their order; `seen` where each name was first used.
-    `lower` and `upper` have pairs of value and line, `rows` pairs of line and terms; a row's terms are at most 0, "" naming the constant."""
+    `lower` and `upper` have pairs of value and line; `rows` has line, label and terms of each constraint: the terms are at most 0, "" naming the constant."""
 
     places: dict = field(default_factory=dict)
     binary: dict = field(default_factory=dict)
@@ -203,10 +203,25 @@ def check_end(cursor, sides):
         raise LpError(after.line, "'%s' after the end of a row: a row without a name begins a line" % after.text)
 
 
+def add_row(line, label, sides, senses, model):
+    """A row as one constraint, or as two whose labels tell them apart."""
+    for place, sense in enumerate(senses):
+        left, right = sides[place], sides[place + 1]
+        for kind in "<>" if sense == "=" else sense:
+            # In 2 <= x + y <= 8 the first comparison is x + y >= 2, seen from the sum.
+            seen = {"<": ">", ">": "<"}[kind] if len(senses) == 2 and place == 0 else kind
+            two = len(senses) == 2 or sense == "="
+            terms = difference(left, right) if kind == "<" else difference(right, left)
+            model.rows.append((line, "%s %s=" % (label, seen) if label and two else label, terms))
+    if len(model.rows) > MAX_CONSTRAINTS:
+        raise LpError(line, "with this row there are more than %d constraints ('=' and two comparisons count as two)" % MAX_CONSTRAINTS)
+
+
 def read_row(cursor, model):
-    """A row, as one constraint or as two."""
-    line = cursor.peek().line
+    """A row, with a name or without one."""
+    line, label = cursor.peek().line, ""
     if cursor.label():
+        label = cursor.peek().text
         cursor.at += 2
     sides, senses = [read_side(cursor, False, model)], []
     while not senses or (cursor.peek().kind == "sense" and len(senses) < 2 and not cursor.peek().opens):
@@ -218,13 +233,7 @@ def read_row(cursor, model):
     check_end(cursor, sides)
     if len(set(senses)) > 1 or senses == ["=", "="]:
         raise LpError(line, "a row with two comparisons needs <= twice or >= twice")
-    for left, sense, right in zip(sides, senses, sides[1:]):
-        if sense != ">":
-            model.rows.append((line, difference(left, right)))
-        if sense != "<":
-            model.rows.append((line, difference(right, left)))
-    if len(model.rows) > MAX_CONSTRAINTS:
-        raise LpError(line, "with this row there are more than %d constraints ('=' and two comparisons count as two)" % MAX_CONSTRAINTS)
+    add_row(line, label, sides, senses, model)
 
 
 def read_objective(cursor, model):
@@ -340,18 +349,15 @@ def read_sections(cursor, model):
 
 def limits_of(name, model):
     """The limits of a variable: LP's lower limit is 0 where none is given, and Binary means 0 to 1."""
-    line = model.places[name]
-    lower, lower_line = model.lower.get(name, (0, line))
-    if name in model.binary:
-        upper, upper_line = model.upper.get(name, (1, line))
-        if (lower, upper) != (0, 1):
-            raise LpError(max(lower_line, upper_line), "%s is binary, so its limits are 0 and 1 and no others" % name)
-        return 0, 1
-    if name not in model.upper:
-        raise LpError(lower_line, "%s has no upper limit: give it one in the section Bounds" % name)
-    upper, upper_line = model.upper[name]
+    line = max([side[name][1] for side in (model.lower, model.upper) if name in side], default=model.places[name])
+    binary = name in model.binary
+    if name not in model.upper and not binary:
+        raise LpError(line, "%s has no upper limit: give it one in the section Bounds" % name)
+    lower, upper = model.lower.get(name, (0, line))[0], model.upper.get(name, (1, line))[0]
+    if binary and (lower, upper) != (0, 1):
+        raise LpError(line, "%s is binary, so its limits are 0 and 1 and no others" % name)
     if lower > upper:
-        raise LpError(max(upper_line, lower_line), "the lower limit of %s, %d, is above its upper limit, %d" % (name, lower, upper))
+        raise LpError(line, "the lower limit of %s, %d, is above its upper limit, %d" % (name, lower, upper))
     return lower, upper
 
 
@@ -365,7 +371,7 @@ def constraint_of(line, terms, names):
 
 
 def read_lp(text):
-    """The problem that a text says, and its variables' names; an LpError where it says none."""
+    """The problem that a text says, its variables' names and its constraints' labels; an LpError where it says none."""
     model = Model()
     read_sections(Cursor(tokens_of(text, model)), model)
     for name, line in model.seen.items():
@@ -373,8 +379,9 @@ def read_lp(text):
             raise LpError(line, "%s is not known as whole: it is in no section General or Binary" % name)
     names = list(model.places)
     limits = [limits_of(name, model) for name in names]
-    constraints = [constraint_of(line, terms, names) for line, terms in model.rows]
-    return Problem(limits, constraints, DEFAULT_BUDGET if model.budget is None else model.budget), names
+    constraints = [constraint_of(line, terms, names) for line, _, terms in model.rows]
+    problem = Problem(limits, constraints, DEFAULT_BUDGET if model.budget is None else model.budget)
+    return problem, names, [label for _, label, _ in model.rows]
 
 
 def sum_text(coefficients, names):
