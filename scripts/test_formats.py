@@ -169,6 +169,8 @@ def test_round_trips():
         assert write_problem(read_lp(text)[0]) == data
         assert max(map(len, text.splitlines())) <= 100
         tried += 1
+    # Other readers want a variable in each row and in the objective.
+    assert " obj: 0 v1\nSubject To\n c1: 0 v1 <= -5\n" in write_lp(Problem([(0, 1)], [Constraint(5, [0])], 0))
     for path in sorted((ROOT / "examples").glob("*.lp")):
         assert write_problem(read_lp(path.read_text())[0]) == path.with_suffix(".plan").read_bytes(), path
     return tried
@@ -206,6 +208,8 @@ def test_journal_text():
     record = Record(1, 1, 3, 2, 0, Constraint(-7, [2, -3]), [0, 0])
     assert journal.conflict_text(record, names) == "conflict 1: constraint 1 (items) falsified at depth 2, backjump level 0: no solution"
     assert journal.cut_text(record, names) == "cut 3: 2 short - 3 long <= 7, from 1 alone"
+    record = Record(1, 1, 3, 2, 0, Constraint(1, [0, 0]), [4, 2])
+    assert journal.cut_text(record, names) == "cut 3: 0 <= -1, from 1 with 2 at long, with 4 at short"
 
 
 def some_journal(conflicts):
