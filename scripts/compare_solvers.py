@@ -1,12 +1,14 @@
 #!/usr/bin/env python3
 """Compares the verdicts of the program `verdict` with other solvers, as a Markdown table.
 
-    scripts/compare_solvers.py VERDICT [--limit SECONDS] [--solvers glpsol,cbc,z3,cvc5] PLAN ..
+    scripts/compare_solvers.py VERDICT [--limit SECONDS] [--solvers glpsol,cbc,z3,cvc5] [--random N] [--seed S] [PLAN ..]
 
-The plans go to glpsol and cbc as LP, to z3 and cvc5 as SMT-LIB 2. Each answers 'solution' or 'none', or is stopped after the limit (20 s). Where
-`verdict` gives a solution, the SMT solvers are also asked for one that comes earlier in dictionary order: 'first' says that there is none.
+N small random problems come after the plans. All go to glpsol and cbc as LP, to z3 and cvc5 as SMT-LIB 2. Each answers 'solution' or 'none', or is stopped after the limit (20 s). Where
+`verdict` gives a solution, the SMT solvers are also asked for one that comes earlier in dictionary order: 'first' says that there is none. The exit
+status is 1 where some answer disagrees.
 """
 import argparse
+import random
 import subprocess
 import sys
 import tempfile
@@ -14,7 +16,7 @@ import time
 from pathlib import Path
 
 from lp import variables_of, write_lp
-from files import read_problem
+from files import Constraint, Problem, read_problem, write_problem
 from problem import smt_number, write_smt2
 
 # How each solver is called on a file, and the words of its two answers in what it prints, the more exact ones first.
@@ -69,22 +71,38 @@ def verdict_of(program, plan):
     return words[0], [int(word) for word in words[1:]]
 
 
+def small_problem(source):
+    """A few variables and constraints, most of the constraints near a point inside the limits: both verdicts are common."""
+    lowers = [source.randint(-4, 3) for _ in range(source.randint(1, 6))]
+    limits = [(lower, lower + source.randint(0, 5)) for lower in lowers]
+    constraints = []
+    for _ in range(source.randint(1, 7)):
+        coefficients = [source.choice([0, 0, source.randint(-6, 6)]) for _ in limits]
+        point = [source.randint(*pair) for pair in limits]
+        distance = source.choice([0, source.randint(-3, 6)])
+        constraints.append(Constraint(distance - sum(a * v for a, v in zip(coefficients, point)), coefficients))
+    return Problem(limits, constraints, 1000000)
+
+
 def main():
     parser = argparse.ArgumentParser(description=__doc__, formatter_class=argparse.RawDescriptionHelpFormatter)
     parser.add_argument("verdict")
     parser.add_argument("--limit", type=float, default=20)
     parser.add_argument("--solvers", default="glpsol,z3")
-    parser.add_argument("plans", nargs="+", type=Path)
+    parser.add_argument("--random", type=int, default=0)
+    parser.add_argument("--seed", type=int, default=1)
+    parser.add_argument("plans", nargs="*", type=Path)
     options = parser.parse_args()
-    solvers = options.solvers.split(",")
+    solvers, source = options.solvers.split(","), random.Random(options.seed)
+    plans = [(path.stem, path.read_bytes()) for path in options.plans]
+    plans += [("random %d" % (k + 1), write_problem(small_problem(source))) for k in range(options.random)]
     print("| plan | verdict | %s |\n|%s" % (" | ".join(solvers), "---|" * (2 + len(solvers))))
     disagreements = 0
-    for path in options.plans:
-        plan = path.read_bytes()
+    for name, plan in plans:
         ours, values = verdict_of(options.verdict, plan)
         columns = [column(solver, read_problem(plan), ours, values, options.limit) for solver in solvers]
         disagreements += sum(wrong for _, wrong in columns)
-        print("| %s | %s | %s |" % (path.stem, ours, " | ".join(said for said, _ in columns)), flush=True)
+        print("| %s | %s | %s |" % (name, ours, " | ".join(said for said, _ in columns)), flush=True)
     print("\nDisagreements: %d" % disagreements)
     sys.exit(1 if disagreements else 0)
 

@@ -18,6 +18,7 @@ import journal
 ROOT = Path(__file__).resolve().parent.parent
 PLAN_A = ROOT / "examples/plan-a.plan"
 PLAN_A_JOURNAL = ROOT / "crates/journal/stdout"
+RANDOM_TEXTS = 10000
 TAIL = "Bounds\n x <= 5\n y <= 5\nGeneral\n x y\nEnd\n"
 
 # Rows, and the constraints on x and y that they are: constant, then coefficients.
@@ -139,6 +140,20 @@ def test_refused():
             raise AssertionError("accepted: " + text)
 
 
+def test_random_texts():
+    """Whatever the text, a problem or one sentence with a line of the text."""
+    words = "x y 3 2.5 1e3 <= >= = + - : * free inf obj: Bounds General Binary End Minimize".split() + ["Subject To", "\\ budget 5", "\\ c"]
+    random_source = random.Random(5)
+    for _ in range(RANDOM_TEXTS):
+        text = "".join(random_source.choice(words) + random_source.choice(" \n") for _ in range(random_source.randint(0, 25)))
+        text = random_source.choice(["%s", "Subject To\n%s\n" + TAIL]) % text
+        try:
+            read_lp(text)
+        except LpError as error:
+            line, sentence = str(error).removeprefix("line ").split(": ", 1)
+            assert 1 <= int(line) <= 1 + text.count("\n") and "\n" not in sentence, (text, str(error))
+
+
 def some_number(random_source, most):
     """Small numbers, and now and then the ends of the range."""
     return random_source.choice([0, 0, 1, -1, most, -most, random_source.randint(-9, 9), random_source.randint(-most, most)])
@@ -241,6 +256,7 @@ def main():
     test_rows()
     test_limits()
     test_refused()
+    test_random_texts()
     tried = test_round_trips()
     test_commands()
     test_smt2()
