@@ -3,9 +3,9 @@
 
     scripts/compare_solvers.py VERDICT [--limit SECONDS] [--solvers glpsol,cbc,z3,cvc5] [--random N] [--seed S] [PLAN ..]
 
-N small random problems come after the plans. All go to glpsol and cbc as LP, to z3 and cvc5 as SMT-LIB 2. Each answers 'solution' or 'none', or is stopped after the limit (20 s). Where
-`verdict` gives a solution, the SMT solvers are also asked for one that comes earlier in dictionary order: 'first' says that there is none. The exit
-status is 1 where some answer disagrees.
+N small random problems come after the plans. All go to glpsol and cbc as LP, to z3 and cvc5 as SMT-LIB 2. Each answers 'solution' or 'none', or is
+stopped after the limit (20 s). Where `verdict` gives a solution, the SMT solvers are also asked for one that comes earlier in dictionary order: 'first'
+says that there is none. The exit status is 1 where some answer disagrees.
 """
 import argparse
 import random
@@ -15,13 +15,14 @@ import tempfile
 import time
 from pathlib import Path
 
-from lp import variables_of, write_lp
+from lp import variables_of, write_lp  # It makes reference/files.py known.
 from files import Constraint, Problem, read_problem, write_problem
 from problem import smt_number, write_smt2
 
 # How each solver is called on a file, and the words of its two answers in what it prints, the more exact ones first.
 SOLVERS = {
-    "glpsol": (["glpsol", "--lp"], "lp", [("NO PRIMAL FEASIBLE", "none"), ("NO INTEGER FEASIBLE", "none"), ("INTEGER OPTIMAL SOLUTION FOUND", "solution")]),
+    "glpsol": (["glpsol", "--lp"], "lp", [
+        ("NO PRIMAL FEASIBLE", "none"), ("NO INTEGER FEASIBLE", "none"), ("INTEGER OPTIMAL SOLUTION FOUND", "solution")]),
     "cbc": (["cbc", "{}", "solve", "quit"], "lp", [("infeasible", "none"), ("Optimal solution found", "solution")]),
     "z3": (["z3"], "smt2", [("unsat", "none"), ("sat", "solution")]),
     "cvc5": (["cvc5"], "smt2", [("unsat", "none"), ("sat", "solution")]),

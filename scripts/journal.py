@@ -5,8 +5,8 @@
     scripts/journal.py [--names model.lp] --svg < journal > journal.svg
 
 The text has two lines for each conflict: the falsified constraint, the depth met and the backjump level; the cut as an inequality and what it was
-resolved from, in order. Variables are v1, v2 and so on; with --names they and the rows have their names in the LP text that the problem was made from. In the picture depth goes
-downward and time from left to right; a browser shows a conflict's two lines when the pointer is over its column.
+resolved from, in order. Variables are v1, v2 and so on; with --names they and the rows have their names in the LP text that the problem was made
+from. In the picture depth goes downward and time from left to right; a browser shows a conflict's two lines when the pointer is over its column.
 """
 import argparse
 import re
@@ -16,7 +16,7 @@ from dataclasses import dataclass
 from html import escape
 from pathlib import Path
 
-from lp import LpError, read_lp, sum_text
+from lp import LpError, read_lp, sum_text  # It makes reference/files.py known.
 from files import BLOCK, MAX_VARIABLES, blocks_of, has_right_check, read_record
 
 LISTED = 24  # With at most so many conflicts their text stands under the picture.
@@ -89,7 +89,7 @@ def levels_of(records):
 
 
 class Picture:
-    """Sizes and pieces of the picture. Columns get narrow for many conflicts; where they would get too narrow, time goes on in a further strip below."""
+    """Sizes and pieces of the picture. Columns are narrow for many conflicts; before they get too narrow, time goes on in a strip below."""
 
     def __init__(self, records, names):
         self.records, self.names, self.pieces = records, names, []
@@ -162,8 +162,9 @@ def draw_conflict(picture, column, record):
     """A conflict at its depth and its backjump at the right border of its column, with the text for the pointer."""
     x, width = picture.x(column), picture.column
     top, middle = picture.y(-0.5, column), picture.y(record.depth, column)
+    told = escape(conflict_text(record, picture.names) + "\n" + cut_text(record, picture.names))
     picture.add('<g class="c"><title>%s</title><rect class="h" x="%.2f" y="%.1f" width="%.2f" height="%.1f"/>',
-                escape(conflict_text(record, picture.names) + "\n" + cut_text(record, picture.names)), x, top, width, picture.row * (picture.deepest + 1))
+                told, x, top, width, picture.row * (picture.deepest + 1))
     # In narrow columns a box's end tells a step back, and arrows are for the long ones.
     if record.back and not (picture.narrow and record.back == record.depth):
         color = STEP if record.back == record.depth else JUMP
@@ -239,7 +240,8 @@ def draw_list(picture):
     return y
 
 
-STYLE = """text{font:13px "DejaVu Sans",Verdana,sans-serif;fill:%s}.g{fill:%s}.b{font-size:17px;font-weight:bold}.m{font:12px "DejaVu Sans Mono",monospace}
+STYLE = """text{font:13px "DejaVu Sans",Verdana,sans-serif;fill:%s}.g{fill:%s}.b{font-size:17px;font-weight:bold}
+.m{font:12px "DejaVu Sans Mono",monospace}
 .h{fill:%s;fill-opacity:0}.c:hover .h{fill-opacity:.18}""" % (DARK, GREY, DARK)
 
 
@@ -268,7 +270,7 @@ def main():
             names = Names(*read_lp(options.names.read_text())[1:])
         records = read_journal(sys.stdin.buffer.read())
         check_names(records, names)
-    except (LpError, ValueError) as error:
+    except (LpError, OSError, ValueError) as error:
         sys.exit(str(error))
     if options.svg:
         sys.stdout.write(svg(records, names))

@@ -54,8 +54,9 @@ class Token:
 
 @dataclass
 class Model:
-    """What the text says so far. `places` has the variables of General and Binary in their order; `seen` where each name was first used.
-    `lower` and `upper` have pairs of value and line; `rows` has line, label and terms of each constraint: the terms are at most 0, "" naming the constant."""
+    """What the text says so far. `places` has the variables of General and Binary in their order, `seen` where each name was first used,
+    `lower` and `upper` pairs of value and line, `rows` line, label and terms of each constraint. Terms are coefficients by name, the constant
+    under "", and mean that their sum is at most 0."""
 
     places: dict = field(default_factory=dict)
     binary: dict = field(default_factory=dict)
