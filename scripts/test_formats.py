@@ -227,6 +227,17 @@ def test_journal_text():
     assert journal.cut_text(record, names) == "cut 3: 0 <= -1, from 1 with 2 at long, with 4 at short"
 
 
+def test_examples():
+    """The stored pictures are those of the stored journals, and README tells the shorter journal."""
+    for name in ("none", "blueprint"):
+        path = ROOT / "examples" / name
+        arguments, data = ["--names", str(path.with_suffix(".lp"))], path.with_suffix(".journal").read_bytes()
+        assert run("journal.py", *arguments, "--svg", data=data) == (0, path.with_suffix(".svg").read_bytes(), "")
+        if name == "none":
+            text = run("journal.py", *arguments, data=data)[1].decode()
+            assert "".join("    " + line for line in text.splitlines(True)) in (ROOT / "README.md").read_text()
+
+
 def some_journal(conflicts):
     """Records of a search that never was, with depths that could be."""
     random_source, depth, records = random.Random(conflicts), 0, []
@@ -261,6 +272,7 @@ def main():
     test_commands()
     test_smt2()
     test_journal_text()
+    test_examples()
     test_pictures()
     print("%d rows, %d limits, %d refused texts, %d round trips, the commands and the pictures: all as expected" % (
         len(ROWS), len(LIMITS), len(REFUSED), tried))
