@@ -267,7 +267,7 @@ def main():
     names = Names(["v%d" % (i + 1) for i in range(MAX_VARIABLES)], [])
     try:
         if options.names:
-            names = Names(*read_lp(options.names.read_text())[1:])
+            names = Names(*read_lp(options.names.read_text("utf-8-sig", "replace"))[1:])
         records = read_journal(sys.stdin.buffer.read())
         check_names(records, names)
     except (LpError, OSError, ValueError) as error:

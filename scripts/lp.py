@@ -54,17 +54,21 @@ class Token:
 
 @dataclass
 class Model:
-    """What the text says so far. `places` has the variables of General and Binary in their order, `seen` where each name was first used,
+    """What the text says so far. `general` and `binary` have the lines of their variables, `seen` where each name was first used,
     `lower` and `upper` pairs of value and line, `rows` line, label and terms of each constraint. Terms are coefficients by name, the constant
     under "", and mean that their sum is at most 0."""
 
-    places: dict = field(default_factory=dict)
+    general: dict = field(default_factory=dict)
     binary: dict = field(default_factory=dict)
     seen: dict = field(default_factory=dict)
     lower: dict = field(default_factory=dict)
     upper: dict = field(default_factory=dict)
     rows: list = field(default_factory=list)
     budget: int = None
+
+    def variables(self):
+        """Those of General and then those of Binary: what comes first in dictionary order."""
+        return {**self.general, **self.binary}
 
 
 def whole(text, line):
@@ -307,17 +311,15 @@ def read_bounds(cursor, model):
         read_bound(tokens, model)
 
 
-def read_names(cursor, model, binary):
-    """Variables, in the order that decides what comes first in dictionary order."""
+def read_names(cursor, section, model):
+    """The variables of a section, General or Binary."""
     while not cursor.section_over():
         token = cursor.take()
         if token.kind != "name":
             raise LpError(token.line, "a variable's name is expected in place of '%s'" % token.text)
-        model.places.setdefault(token.text, token.line)
-        if binary:
-            model.binary[token.text] = token.line
-        if len(model.places) > MAX_VARIABLES:
-            raise LpError(token.line, "%s is variable %d, and a problem has at most %d" % (token.text, len(model.places), MAX_VARIABLES))
+        section.setdefault(token.text, token.line)
+        if len(model.variables()) > MAX_VARIABLES:
+            raise LpError(token.line, "%s is one variable more than the %d that a problem may have" % (token.text, MAX_VARIABLES))
 
 
 def read_rows(cursor, model):
@@ -335,7 +337,7 @@ def read_sections(cursor, model):
         elif token.kind == "bounds":
             read_bounds(cursor, model)
         elif token.kind in ("general", "binary"):
-            read_names(cursor, model, token.kind == "binary")
+            read_names(cursor, model.general if token.kind == "general" else model.binary, model)
         elif token.kind == "refused":
             raise LpError(token.line, "a problem has no section '%s'" % token.text)
         elif token.kind == "nothing":
@@ -344,13 +346,13 @@ def read_sections(cursor, model):
             raise LpError(token.line, "'%s' stands before the first section" % token.text)
     if cursor.peek().kind != "nothing":
         raise LpError(cursor.peek().line, "'%s' stands after 'End'" % cursor.peek().text)
-    if not model.places:
+    if not model.variables():
         raise LpError(token.line, "there is no variable: name them in a section General or Binary")
 
 
 def limits_of(name, model):
     """The limits of a variable: LP's lower limit is 0 where none is given, and Binary means 0 to 1."""
-    line = max([side[name][1] for side in (model.lower, model.upper) if name in side], default=model.places[name])
+    line = max([side[name][1] for side in (model.lower, model.upper) if name in side], default=model.variables()[name])
     binary = name in model.binary
     if name not in model.upper and not binary:
         raise LpError(line, "%s has no upper limit: give it one in the section Bounds" % name)
@@ -375,10 +377,10 @@ def read_lp(text):
     """The problem that a text says, its variables' names and its constraints' labels; an LpError where it says none."""
     model = Model()
     read_sections(Cursor(tokens_of(text, model)), model)
+    names = list(model.variables())
     for name, line in model.seen.items():
-        if name not in model.places:
+        if name not in names:
             raise LpError(line, "%s is not known as whole: it is in no section General or Binary" % name)
-    names = list(model.places)
     limits = [limits_of(name, model) for name in names]
     constraints = [constraint_of(line, terms, names) for line, _, terms in model.rows]
     problem = Problem(limits, constraints, DEFAULT_BUDGET if model.budget is None else model.budget)

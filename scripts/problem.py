@@ -47,7 +47,7 @@ def write_smt2(problem):
 
 
 def file_from_lp(data):
-    return write_problem(read_lp(data.decode("utf-8", "replace"))[0])
+    return write_problem(read_lp(data.decode("utf-8-sig", "replace"))[0])
 
 
 def lp_from_file(data):

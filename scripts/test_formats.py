@@ -103,7 +103,7 @@ REFUSED = [
     ("Subject To\n" + TAIL + "x", "line 8: 'x' stands after 'End'"),
     ("Subject To\nEnd\n", "line 2: there is no variable: name them in a section General or Binary"),
     ("Subject To\nGeneral\n 3\nEnd\n", "line 3: a variable's name is expected in place of '3'"),
-    ("Binary\n" + "\n".join("x%d" % i for i in range(33)) + "\nEnd\n", "line 34: x32 is variable 33, and a problem has at most 32"),
+    ("Binary\n" + "\n".join("x%d" % i for i in range(33)) + "\nEnd\n", "line 34: x32 is one variable more than the 32 that a problem may have"),
     ("Subject To\n" + " x <= 1\n" * 63 + " x = 1\n" + TAIL,
      "line 65: with this row there are more than 64 constraints ('=' and two comparisons count as two)"),
     ("", "line 1: the text ends without 'End'"),
@@ -124,7 +124,7 @@ def test_limits():
     for text, wanted in LIMITS:
         assert read_lp("Minimize\n obj:\nSubject To\n%s\nEnd" % text)[0].limits == [wanted], text
     order = read_lp("st\nBinary\n b\nBounds\n x <= 5\n y <= 5\nGeneral\n y\n x\nEnd")[1]
-    assert order == ["b", "y", "x"], order
+    assert order == ["y", "x", "b"], order
     for objective in ("", "Minimize\n", "Maximize\n obj:\n", "Min\n obj: 0\n", "max 0 x + y - y\n"):
         assert read_lp(objective + "Subject To\n" + TAIL)[0].constraints == []
     assert read_lp("\\ Budget 7\nSubject To\n" + TAIL)[0].budget == 7
@@ -206,6 +206,9 @@ def test_commands():
         1, b"", "this is no problem file: its length is under 512 bytes or no multiple of 512 (error 1)\n")
     assert run("journal.py", data=plan) == (1, b"", "this is no journal: block 1 has wrong letters, a wrong count or a wrong check\n")
     assert run("journal.py", data=b"") == (0, b"", "")
+    # A text from a Windows editor.
+    windows = b"\xef\xbb\xbf" + text.replace(b"\n", b"\r\n")
+    assert run("problem.py", "file", data=windows) == (0, plan, "")
 
 
 def test_smt2():
