@@ -9,6 +9,7 @@ says that there is none. The exit status is 1 where some answer disagrees.
 """
 import argparse
 import random
+import shutil
 import subprocess
 import sys
 import tempfile
@@ -95,6 +96,9 @@ def main():
     parser.add_argument("plans", nargs="*", type=Path)
     options = parser.parse_args()
     solvers, source = options.solvers.split(","), random.Random(options.seed)
+    for solver in solvers:
+        if solver not in SOLVERS or not shutil.which(solver):
+            sys.exit("%s is not known or not installed" % solver)
     plans = [(path.stem, path.read_bytes()) for path in options.plans]
     plans += [("random %d" % (k + 1), write_problem(small_problem(source))) for k in range(options.random)]
     print("| plan | verdict | %s |\n|%s" % (" | ".join(solvers), "---|" * (2 + len(solvers))))
