@@ -94,7 +94,7 @@ def main():
     parser.add_argument("--random", type=int, default=0)
     parser.add_argument("--seed", type=int, default=1)
     parser.add_argument("plans", nargs="*", type=Path)
-    options = parser.parse_args()
+    options = parser.parse_intermixed_args()
     solvers, source = options.solvers.split(","), random.Random(options.seed)
     for solver in solvers:
         if solver not in SOLVERS or not shutil.which(solver):
