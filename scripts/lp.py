@@ -1,0 +1,421 @@
+"""Problems as text in the LP format (CPLEX LP), as far as a problem goes: `read_lp` and `write_lp`. scripts/problem.py is the command.
+
+LP lets lines break anywhere. Here a right side ends with its line once it is complete, because a right side may hold variables, and
+`x <= 5` with `y >= 2` on the next line must stay two rows. Where another reader could see something else, the text is refused.
+"""
+import re
+import sys
+import textwrap
+from dataclasses import dataclass, field
+from fractions import Fraction
+from pathlib import Path
+
+sys.path.insert(0, str(Path(__file__).resolve().parent.parent / "reference"))
+from files import MAX_BOUND, MAX_BUDGET, MAX_COEFFICIENT, MAX_CONSTRAINTS, MAX_VARIABLES, Constraint, Problem, in_range
+
+DEFAULT_BUDGET = 1000000
+WIDTH = 100
+
+SECTIONS = [
+    ("refused", r"general\s+constraints|lazy\s+constraints|user\s+cuts|semi-?continuous|semis?|sos[12]?|pwlobj"),
+    ("objective", r"minimi[sz]e|minimum|min|maximi[sz]e|maximum|max"),
+    ("rows", r"subject\s+to|such\s+that|s\.t\.|st\.?"),
+    ("bounds", r"bounds?"),
+    ("general", r"generals?|gen|integers?|int"),
+    ("binary", r"binary|binaries|bin"),
+    ("end", r"end"),
+]
+# A word of a section opens its line; before a colon it is a row's name.
+HEADERS = [(kind, re.compile(r"\s*(%s)(?=\s|$)(?!\s*:)" % words, re.IGNORECASE)) for kind, words in SECTIONS]
+SYMBOLS = r"!\"#$%&()/,;?@_`'{}|~"
+TOKEN = re.compile(
+    r"\s*(?:(?P<number>(?:\d+\.?\d*|\.\d+)(?:[eE][+-]?\d+)?)|(?P<name>[A-Za-z%s][A-Za-z0-9.%s]*)"
+    r"|(?P<sense><=|=<|>=|=>|<|>|=)|(?P<sign>[+-])|(?P<colon>:))" % (SYMBOLS, SYMBOLS), re.ASCII)
+BUDGET = re.compile(r"\s*budget\b(.*)", re.IGNORECASE)
+INFINITE = ("inf", "infinity")
+
+
+class LpError(Exception):
+    """What a problem file cannot hold, with the line where it stands."""
+
+    def __init__(self, line, message):
+        super().__init__("line %d: %s" % (line, message))
+
+
+@dataclass
+class Token:
+    """`opens` tells the first token of its line."""
+
+    kind: str
+    text: str
+    line: int
+    opens: bool
+
+
+@dataclass
+class Model:
+    """What the text says so far. `general` and `binary` have the lines of their variables, `seen` where each name was first used,
+    `lower` and `upper` pairs of value and line, `rows` line, label and terms of each constraint. Terms are coefficients by name, the constant
+    under "", and mean that their sum is at most 0."""
+
+    general: dict = field(default_factory=dict)
+    binary: dict = field(default_factory=dict)
+    seen: dict = field(default_factory=dict)
+    lower: dict = field(default_factory=dict)
+    upper: dict = field(default_factory=dict)
+    rows: list = field(default_factory=list)
+    budget: int = None
+
+    def variables(self):
+        """Those of General and then those of Binary: what comes first in dictionary order."""
+        return {**self.general, **self.binary}
+
+
+def whole(text, line):
+    """The number that the text of a token says; 3.0 and 1e3 are whole."""
+    exponent = re.search(r"[eE][+-]?(\d+)", text)
+    # A long exponent would be written out digit by digit.
+    if len(text) > 40 or exponent and len(exponent[1]) > 2:
+        raise LpError(line, "the number %.40s is out of range" % text)
+    value = Fraction(text)
+    if value.denominator != 1:
+        raise LpError(line, "%s is not a whole number" % text)
+    return int(value)
+
+
+def read_budget(comment, line, model):
+    """A comment that begins with 'budget' is the budget; a misspelt one must not fall back to the default in silence."""
+    if not (match := BUDGET.match(comment)):
+        return
+    text = match[1].strip()
+    if not re.fullmatch("[0-9]+", text):
+        raise LpError(line, "a comment that begins with 'budget' gives the budget, as '\\ budget 1000'")
+    if model.budget is not None:
+        raise LpError(line, "the budget is given a second time")
+    model.budget = whole(text, line)
+    if model.budget > MAX_BUDGET:
+        raise LpError(line, "the budget %s is above 1000000000" % text)
+
+
+def header(code):
+    """The kind of section that a line opens and where its words end, or none."""
+    for kind, pattern in HEADERS:
+        if match := pattern.match(code):
+            return kind, match[1], match.end()
+    return None, "", 0
+
+
+def line_tokens(code, line):
+    """The tokens of a line without its comment."""
+    kind, text, at = header(code)
+    if kind:
+        yield Token(kind, text, line, True)
+    opens = not kind
+    while code[at:].strip():
+        match = TOKEN.match(code, at)
+        if not match:
+            raise LpError(line, "'%s' is no part of a problem" % code[at:].strip()[0])
+        yield Token(match.lastgroup, match[match.lastgroup], line, opens)
+        opens, at = False, match.end()
+
+
+def tokens_of(text, model):
+    """All tokens, and one of kind 'nothing' at the end; the budget goes to the model."""
+    tokens = []
+    # Not splitlines: a separator such as U+2028 inside a comment would end the comment.
+    lines = text.removesuffix("\n").split("\n")
+    for number, line in enumerate(lines, 1):
+        code, _, comment = line.partition("\\")
+        read_budget(comment, number, model)
+        tokens += line_tokens(code, number)
+    return tokens + [Token("nothing", "the end of the text", len(lines), True)]
+
+
+class Cursor:
+    """A place in the tokens."""
+
+    def __init__(self, tokens):
+        self.tokens = tokens
+        self.at = 0
+
+    def peek(self, ahead=0):
+        return self.tokens[min(self.at + ahead, len(self.tokens) - 1)]
+
+    def take(self):
+        token = self.peek()
+        self.at += 1
+        return token
+
+    def label(self):
+        """Whether a row's name and its colon stand here."""
+        return self.peek().kind == "name" and self.peek(1).kind == "colon"
+
+    def section_over(self):
+        return self.peek().kind in [kind for kind, _ in SECTIONS] + ["nothing"]
+
+
+def read_signs(cursor):
+    sign = 1
+    while cursor.peek().kind == "sign":
+        sign = -sign if cursor.take().text == "-" else sign
+    return sign
+
+
+def read_term(cursor, one_line, terms, model):
+    """A number, a variable, or a number and a variable, added to the terms."""
+    value = read_signs(cursor)
+    token = cursor.peek()
+    if token.kind not in ("number", "name") or cursor.label():
+        raise LpError(token.line, "a number or a variable is expected before '%s'" % token.text)
+    if token.kind == "number":
+        value *= whole(token.text, token.line)
+        cursor.take()
+    name = ""
+    after = cursor.peek()
+    if after.kind == "name" and not cursor.label() and not (one_line and after.opens and after is not token):
+        name = cursor.take().text
+        model.seen.setdefault(name, after.line)
+    terms[name] = terms.get(name, 0) + value
+
+
+def read_side(cursor, one_line, model):
+    """A sum of terms; with `one_line` it ends with its line."""
+    terms = {}
+    read_term(cursor, one_line, terms, model)
+    while cursor.peek().kind == "sign" and not (one_line and cursor.peek().opens):
+        read_term(cursor, one_line, terms, model)
+    return terms
+
+
+def mentions(terms):
+    """Whether a side mentions a variable."""
+    return any(terms.keys() - {""})
+
+
+def difference(left, right):
+    return {name: left.get(name, 0) - right.get(name, 0) for name in [*left, *right]}
+
+
+def check_end(cursor, sides):
+    """Refuses a row that other readers might end elsewhere."""
+    after = cursor.peek()
+    if len(sides) == 3 and (mentions(sides[0]) or mentions(sides[2])):
+        raise LpError(cursor.peek(-1).line, "a row with two comparisons has a number at each end")
+    plain = mentions(sides[0]) and len(sides) == 2 and not mentions(sides[1])
+    if after.kind == "sign" and after.opens and not plain and len(sides) == 2:
+        raise LpError(after.line, "this line may go on with the row above or be a row of its own: write that row in one line")
+    if not (after.opens or cursor.label() or cursor.section_over()):
+        raise LpError(after.line, "'%s' after the end of a row: a row without a name begins a line" % after.text)
+
+
+def add_row(line, label, sides, senses, model):
+    """A row as one constraint, or as two whose labels tell them apart."""
+    for place, sense in enumerate(senses):
+        left, right = sides[place], sides[place + 1]
+        for kind in "<>" if sense == "=" else sense:
+            # In 2 <= x + y <= 8 the first comparison is x + y >= 2, seen from the sum.
+            seen = {"<": ">", ">": "<"}[kind] if len(senses) == 2 and place == 0 else kind
+            two = len(senses) == 2 or sense == "="
+            terms = difference(left, right) if kind == "<" else difference(right, left)
+            model.rows.append((line, "%s %s=" % (label, seen) if label and two else label, terms))
+    if len(model.rows) > MAX_CONSTRAINTS:
+        raise LpError(line, "with this row there are more than %d constraints ('=' and two comparisons count as two)" % MAX_CONSTRAINTS)
+
+
+def read_row(cursor, model):
+    """A row, with a name or without one."""
+    line, label = cursor.peek().line, ""
+    if cursor.label():
+        label = cursor.peek().text
+        cursor.at += 2
+    sides, senses = [read_side(cursor, False, model)], []
+    while not senses or (cursor.peek().kind == "sense" and len(senses) < 2 and not cursor.peek().opens):
+        token = cursor.take()
+        if token.kind != "sense":
+            raise LpError(token.line, "a row needs <=, >= or = before '%s'" % token.text)
+        senses.append(token.text.replace("=", "") or "=")
+        sides.append(read_side(cursor, True, model))
+    check_end(cursor, sides)
+    if len(set(senses)) > 1 or senses == ["=", "="]:
+        raise LpError(line, "a row with two comparisons needs <= twice or >= twice")
+    add_row(line, label, sides, senses, model)
+
+
+def read_objective(cursor, model):
+    """Only an objective that says nothing."""
+    if cursor.label():
+        cursor.at += 2
+    line = cursor.peek().line
+    if not cursor.section_over() and any(read_side(cursor, False, model).values()):
+        raise LpError(line, "a problem has no objective: leave it empty or write 0")
+    if not cursor.section_over():
+        raise LpError(cursor.peek().line, "'%s' is unexpected in the objective" % cursor.peek().text)
+
+
+def read_limit(tokens):
+    """The finite number that the tokens say."""
+    cursor = Cursor(tokens + [Token("nothing", "the end of the line", tokens[-1].line if tokens else 0, True)])
+    sign, token = read_signs(cursor), cursor.take()
+    if token.kind == "name" and token.text.lower() in INFINITE:
+        raise LpError(token.line, "a limit must be finite, and this one is infinite")
+    if token.kind != "number" or cursor.peek().kind != "nothing":
+        raise LpError(token.line, "a bound has a variable on one side of each comparison and a number on the other")
+    value = sign * whole(token.text, token.line)
+    if not in_range(value, MAX_BOUND):
+        raise LpError(token.line, "the limit %d is out of range: limits lie in -2^20 to 2^20" % value)
+    return value
+
+
+def set_limit(name, sense, number, line, model):
+    """`name sense number` as limits of the variable."""
+    if sense != "<":
+        model.lower[name] = number, line
+    if sense != ">":
+        model.upper[name] = number, line
+
+
+def is_variable(part):
+    return len(part) == 1 and part[0].kind == "name" and part[0].text.lower() not in INFINITE
+
+
+def read_bound(tokens, model):
+    """One line of the section Bounds: a variable with one number or one on each side."""
+    line = tokens[0].line
+    if len(tokens) == 2 and tokens[1].text.lower() == "free":
+        raise LpError(line, "'%s free' has no limits, and both must be finite" % tokens[0].text)
+    parts, senses = [[]], []
+    for token in tokens:
+        if token.kind == "sense":
+            senses.append(token.text.replace("=", "") or "=")
+            parts.append([])
+        else:
+            parts[-1].append(token)
+    place = next((i for i, part in enumerate(parts) if is_variable(part)), None)
+    if place is None or (len(parts), place) not in ((2, 0), (2, 1), (3, 1)) or not all(parts):
+        raise LpError(line, "a bound is written as '0 <= x <= 5', 'x <= 5', 'x >= 0' or 'x = 3', one to a line")
+    if len(senses) == 2 and (senses[0] != senses[1] or "=" in senses):
+        raise LpError(line, "a bound with two comparisons needs <= twice or >= twice")
+    name = parts[place][0].text
+    model.seen.setdefault(name, line)
+    if place == 1:
+        set_limit(name, {"<": ">", ">": "<", "=": "="}[senses[0]], read_limit(parts[0]), line, model)
+    if place < len(parts) - 1:
+        set_limit(name, senses[-1], read_limit(parts[-1]), line, model)
+
+
+def read_bounds(cursor, model):
+    while not cursor.section_over():
+        tokens = [cursor.take()]
+        while not cursor.section_over() and cursor.peek().line == tokens[0].line:
+            tokens.append(cursor.take())
+        read_bound(tokens, model)
+
+
+def read_names(cursor, section, model):
+    """The variables of a section, General or Binary."""
+    while not cursor.section_over():
+        token = cursor.take()
+        if token.kind != "name":
+            raise LpError(token.line, "a variable's name is expected in place of '%s'" % token.text)
+        section.setdefault(token.text, token.line)
+        if len(model.variables()) > MAX_VARIABLES:
+            raise LpError(token.line, "%s is one variable more than the %d that a problem may have" % (token.text, MAX_VARIABLES))
+
+
+def read_rows(cursor, model):
+    while not cursor.section_over():
+        read_row(cursor, model)
+
+
+def read_sections(cursor, model):
+    """All sections to End, which must be there: a text that was cut off says less than its author meant."""
+    while (token := cursor.take()).kind != "end":
+        if token.kind == "objective":
+            read_objective(cursor, model)
+        elif token.kind == "rows":
+            read_rows(cursor, model)
+        elif token.kind == "bounds":
+            read_bounds(cursor, model)
+        elif token.kind in ("general", "binary"):
+            read_names(cursor, model.general if token.kind == "general" else model.binary, model)
+        elif token.kind == "refused":
+            raise LpError(token.line, "a problem has no section '%s'" % token.text)
+        elif token.kind == "nothing":
+            raise LpError(token.line, "the text ends without 'End'")
+        else:
+            raise LpError(token.line, "'%s' stands before the first section" % token.text)
+    if cursor.peek().kind != "nothing":
+        raise LpError(cursor.peek().line, "'%s' stands after 'End'" % cursor.peek().text)
+    if not model.variables():
+        raise LpError(token.line, "there is no variable: name them in a section General or Binary")
+
+
+def limits_of(name, model):
+    """The limits of a variable: LP's lower limit is 0 where none is given, and Binary means 0 to 1."""
+    line = max([side[name][1] for side in (model.lower, model.upper) if name in side], default=model.variables()[name])
+    binary = name in model.binary
+    if name not in model.upper and not binary:
+        raise LpError(line, "%s has no upper limit: give it one in the section Bounds" % name)
+    lower, upper = model.lower.get(name, (0, line))[0], model.upper.get(name, (1, line))[0]
+    if binary and (lower, upper) != (0, 1):
+        raise LpError(line, "%s is binary, so its limits are 0 and 1 and no others" % name)
+    if lower > upper:
+        raise LpError(line, "the lower limit of %s, %d, is above its upper limit, %d" % (name, lower, upper))
+    return lower, upper
+
+
+def constraint_of(line, terms, names):
+    """A row's constraint, in range."""
+    for name, value in terms.items():
+        if not in_range(value, MAX_COEFFICIENT):
+            what = "coefficient of %s" % name if name else "constant"
+            raise LpError(line, "the %s in this row is %d, out of range: it must lie in -2^30 to 2^30" % (what, value))
+    return Constraint(terms.get("", 0), [terms.get(name, 0) for name in names])
+
+
+def read_lp(text):
+    """The problem that a text says, its variables' names and its constraints' labels; an LpError where it says none."""
+    model = Model()
+    read_sections(Cursor(tokens_of(text, model)), model)
+    names = list(model.variables())
+    for name, line in model.seen.items():
+        if name not in names:
+            raise LpError(line, "%s is not known as whole: it is in no section General or Binary" % name)
+    limits = [limits_of(name, model) for name in names]
+    constraints = [constraint_of(line, terms, names) for line, _, terms in model.rows]
+    problem = Problem(limits, constraints, DEFAULT_BUDGET if model.budget is None else model.budget)
+    return problem, names, [label for _, label, _ in model.rows]
+
+
+def sum_text(coefficients, names):
+    """A sum such as `2 x - y`, without the variables whose coefficient is 0; `0` where nothing is left."""
+    words = []
+    for coefficient, name in zip(coefficients, names):
+        if coefficient:
+            words += ["-" if coefficient < 0 else "+", "" if abs(coefficient) == 1 else str(abs(coefficient)), name]
+    text = " ".join(word for word in words if word)
+    return (text[2:] if text.startswith("+ ") else text) or "0"
+
+
+def variables_of(problem):
+    return ["v%d" % (i + 1) for i in range(len(problem.limits))]
+
+
+def row_text(constraint, names):
+    """The constraint as an inequality. LP wants a variable in each row, so an empty sum is 0 times the first one."""
+    left = sum_text(constraint.coefficients, names)
+    return "%s <= %d" % ("0 " + names[0] if left == "0" else left, -constraint.constant)
+
+
+def wrapped(text):
+    # Continuation lines are indented: a word in the first column may be taken for a section.
+    return textwrap.fill(text, WIDTH, initial_indent=" ", subsequent_indent="    ", break_long_words=False, break_on_hyphens=False)
+
+
+def write_lp(problem):
+    """The problem as LP, variables v1 to vn. The objective names every variable, so that each reader has them in this order."""
+    names = variables_of(problem)
+    lines = ["\\ budget %d" % problem.budget, "Minimize", wrapped("obj: " + " + ".join("0 " + name for name in names)), "Subject To"]
+    lines += [wrapped("c%d: %s" % (k, row_text(c, names))) for k, c in enumerate(problem.constraints, 1)]
+    lines += ["Bounds"] + [" %d <= %s <= %d" % (lower, name, upper) for name, (lower, upper) in zip(names, problem.limits)]
+    return "\n".join(lines + ["General", wrapped(" ".join(names)), "End"]) + "\n"
