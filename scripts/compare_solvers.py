@@ -16,9 +16,9 @@ import tempfile
 import time
 from pathlib import Path
 
-from lp import variables_of, write_lp  # It makes reference/files.py known.
+from lp_text import variables_of, write_lp
+from problem import smt_number, write_smt2  # It makes reference/files.py known.
 from files import Constraint, Problem, read_problem, write_problem
-from problem import smt_number, write_smt2
 
 # How each solver is called on a file, and the words of its two answers in what it prints, the more exact ones first.
 SOLVERS = {

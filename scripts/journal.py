@@ -16,7 +16,8 @@ from dataclasses import dataclass
 from html import escape
 from pathlib import Path
 
-from lp import LpError, read_lp, sum_text  # It makes reference/files.py known.
+from lp import LpError, read_lp  # It makes reference/files.py known.
+from lp_text import sum_text
 from files import BLOCK, MAX_VARIABLES, blocks_of, has_right_check, read_record
 
 LISTED = 24  # With at most so many conflicts their text stands under the picture.

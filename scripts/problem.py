@@ -10,7 +10,8 @@ is a comment, '\\ budget 1000'; without one it is 1000000. What a file cannot ho
 """
 import sys
 
-from lp import LpError, read_lp, variables_of, write_lp  # It makes reference/files.py known.
+from lp import LpError, read_lp  # It makes reference/files.py known.
+from lp_text import variables_of, write_lp
 from files import FileError, read_problem, write_problem
 
 ERRORS = {

@@ -9,7 +9,8 @@ import sys
 import xml.etree.ElementTree as ElementTree
 from pathlib import Path
 
-from lp import DEFAULT_BUDGET, LpError, read_lp, write_lp
+from lp import DEFAULT_BUDGET, LpError, read_lp
+from lp_text import write_lp
 from files import (MAX_BOUND, MAX_BUDGET, MAX_COEFFICIENT, MAX_CONSTRAINTS, MAX_VARIABLES, Constraint, FileError, Problem, Record,
                    read_problem, write_problem, write_record)
 from problem import write_smt2
