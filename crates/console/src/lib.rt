@@ -64,12 +64,11 @@ fn print_search(opened: Search) {
         if !goes_on(verdict) {
             let values = traced.values;
             text::finish(&mut out, at, verdict, &values, n, traced.count, &mut failed);
-        }
-        if failed {
-            told::tell_output();
+            told::tell_output(failed);
             return;
         }
-        if !goes_on(verdict) {
+        if failed {
+            told::tell_output(failed);
             return;
         }
         if watched {
@@ -107,7 +106,7 @@ pub fn write_journal(file: &[u8]) {
         let traced = search::trace(s, &mut blocks);
         let end = blocks_end(&blocks, traced.blocks);
         if !io::write_all(STDOUT_FILENO, &blocks[..end]) {
-            told::tell_output();
+            told::tell_output(true);
             return;
         }
         let verdict = traced.verdict;

@@ -21,9 +21,7 @@ pub(crate) fn print_refused(error: usize) {
     let end = report::refused_line(&mut out, 0, error);
     let mut failed = false;
     write(&out, end, &mut failed);
-    if failed {
-        tell_output();
-    }
+    tell_output(failed);
 }
 
 // The place of the next line: where too little room is left, the text so far is written out.
@@ -92,7 +90,5 @@ pub fn print_ending(verdict: Verdict, values: &[i64; 32], n: usize, count: usize
     let mut out = [0u8; LONGEST_LINE];
     let mut failed = false;
     finish(&mut out, 0, verdict, values, n, count, &mut failed);
-    if failed {
-        tell_output();
-    }
+    tell_output(failed);
 }

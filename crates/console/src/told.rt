@@ -2,9 +2,11 @@
 use libc::STDERR_FILENO;
 use libc::STDIN_FILENO;
 
-// Standard output took not all of what was to be written.
-pub(crate) fn tell_output() {
-    io::write_all(STDERR_FILENO, b"standard output cannot be written\n");
+// If so, standard output took not all of what was to be written.
+pub(crate) fn tell_output(failed: bool) {
+    if failed {
+        io::write_all(STDERR_FILENO, b"standard output cannot be written\n");
+    }
 }
 
 // Whether standard input, of which nothing was read, failed; this is told. At its end it has no byte, and has not failed.

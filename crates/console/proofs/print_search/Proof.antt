@@ -1,3 +1,4 @@
+-- `console::print_search` meets its contract. Assumes nothing.
 use borrow.Author.Needs.{needs}
 use Prim.Native.Nat.{_≤_, _-_}
 use lib.ListN.{length}
@@ -6,17 +7,24 @@ use Rattle.console.proofs.print_search.Statement.{statement}
 use Rattle.console.proofs.print_search.Tie as tie
 
 abbrev Inv-loop : tie.InvT-loop
-Inv-loop n m budget s₀ blocks₀ out₀ at₀ calls₀ s blocks out at calls =
+Inv-loop n m budget s₀ blocks₀ out₀ at₀ failed₀ watched last₀ calls₀ s blocks out at failed last calls =
     (calls ≤ 2000000000) × (length blocks ≡ 65536) × (length out ≡ 16384) × (at ≤ 16384)
 
 abbrev μ-loop : tie.MeasureT-loop
-μ-loop n m budget s₀ blocks₀ out₀ at₀ calls₀ s blocks out at calls = 2000000000 - calls
+μ-loop n m budget s₀ blocks₀ out₀ at₀ failed₀ watched last₀ calls₀ s blocks out at failed last calls =
+    2000000000 - calls
 
 slice-aggregate-plan-line : tie.Need-slice-aggregate-plan-line Inv-loop μ-loop
 slice-aggregate-plan-line c = search needs
 
 plan-line-requires : tie.Need-plan-line-requires Inv-loop μ-loop
 plan-line-requires c κs = search needs
+
+is-watched-requires : tie.Need-is-watched-requires Inv-loop μ-loop
+is-watched-requires c κs = search needs
+
+seconds-requires : tie.Need-seconds-requires Inv-loop μ-loop
+seconds-requires c κs = search needs
 
 loop-holds : tie.Need-loop-holds Inv-loop μ-loop
 loop-holds c = search needs
@@ -54,8 +62,20 @@ slice-aggregate-finish c = search needs
 finish-requires : tie.Need-finish-requires Inv-loop μ-loop
 finish-requires c κs = search needs
 
+tell-output-requires : tie.Need-tell-output-requires Inv-loop μ-loop
+tell-output-requires c κs = search needs
+
 returns : tie.Need-returns Inv-loop μ-loop
 returns c = search needs
+
+tell-output-requires-2 : tie.Need-tell-output-requires-2 Inv-loop μ-loop
+tell-output-requires-2 c κs = search needs
+
+returns-2 : tie.Need-returns-2 Inv-loop μ-loop
+returns-2 c = search needs
+
+progress-requires : tie.Need-progress-requires Inv-loop μ-loop
+progress-requires c κs = search needs
 
 add-calls : tie.Need-add-calls Inv-loop μ-loop
 add-calls c = search needs
@@ -66,8 +86,8 @@ loop-less c = search needs
 loop-again : tie.Need-loop-again Inv-loop μ-loop
 loop-again c = search needs
 
-returns-2 : tie.Need-returns-2 Inv-loop μ-loop
-returns-2 c = search needs
+returns-3 : tie.Need-returns-3 Inv-loop μ-loop
+returns-3 c = search needs
 
 pub print-search-spec : {M : Type 1} → statement M
 print-search-spec =
@@ -77,6 +97,8 @@ print-search-spec =
     μ-loop
     slice-aggregate-plan-line
     plan-line-requires
+    is-watched-requires
+    seconds-requires
     loop-holds
     slice-aggregate-trace
     trace-requires
@@ -89,8 +111,12 @@ print-search-spec =
     goes-on-requires
     slice-aggregate-finish
     finish-requires
+    tell-output-requires
     returns
+    tell-output-requires-2
+    returns-2
+    progress-requires
     add-calls
     loop-less
     loop-again
-    returns-2)
+    returns-3)

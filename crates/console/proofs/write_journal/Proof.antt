@@ -1,3 +1,4 @@
+-- `console::write_journal` meets its contract. Assumes nothing.
 use borrow.Author.Needs.{needs}
 use Prim.Native.Nat.{_≤_, _-_}
 use lib.ListN.{length}
@@ -6,10 +7,12 @@ use Rattle.console.proofs.write_journal.Statement.{statement}
 use Rattle.console.proofs.write_journal.Tie as tie
 
 abbrev Inv-loop : tie.InvT-loop
-Inv-loop file s₀ blocks₀ calls₀ s blocks calls = (calls ≤ 2000000000) × (length blocks ≡ 65536)
+Inv-loop file s₀ blocks₀ calls₀ s blocks calls =
+    (calls ≤ 2000000000) × (length blocks ≡ 65536)
 
 abbrev μ-loop : tie.MeasureT-loop
-μ-loop file s₀ blocks₀ calls₀ s blocks calls = 2000000000 - calls
+μ-loop file s₀ blocks₀ calls₀ s blocks calls =
+    2000000000 - calls
 
 open-requires : tie.Need-open-requires Inv-loop μ-loop
 open-requires c κs = search needs
@@ -44,11 +47,17 @@ slice-aggregate-write-all c = search needs
 write-all-requires : tie.Need-write-all-requires Inv-loop μ-loop
 write-all-requires c κs = search needs
 
-goes-on-requires : tie.Need-goes-on-requires Inv-loop μ-loop
-goes-on-requires c κs = search needs
+tell-output-requires : tie.Need-tell-output-requires Inv-loop μ-loop
+tell-output-requires c κs = search needs
 
 returns-2 : tie.Need-returns-2 Inv-loop μ-loop
 returns-2 c = search needs
+
+goes-on-requires : tie.Need-goes-on-requires Inv-loop μ-loop
+goes-on-requires c κs = search needs
+
+returns-3 : tie.Need-returns-3 Inv-loop μ-loop
+returns-3 c = search needs
 
 add-calls : tie.Need-add-calls Inv-loop μ-loop
 add-calls c = search needs
@@ -59,8 +68,8 @@ loop-less c = search needs
 loop-again : tie.Need-loop-again Inv-loop μ-loop
 loop-again c = search needs
 
-returns-3 : tie.Need-returns-3 Inv-loop μ-loop
-returns-3 c = search needs
+returns-4 : tie.Need-returns-4 Inv-loop μ-loop
+returns-4 c = search needs
 
 pub write-journal-spec : {M : Type 1} → statement M
 write-journal-spec =
@@ -79,9 +88,11 @@ write-journal-spec =
     array-share-prefix-blocks
     slice-aggregate-write-all
     write-all-requires
-    goes-on-requires
+    tell-output-requires
     returns-2
+    goes-on-requires
+    returns-3
     add-calls
     loop-less
     loop-again
-    returns-3)
+    returns-4)

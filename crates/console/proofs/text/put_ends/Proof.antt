@@ -1,3 +1,4 @@
+-- `console::text::put_ends` meets its contract. Assumes nothing.
 use borrow.Author.Needs.{needs}
 use Prim.Native.Nat.{_≤_, _-_, _/_}
 use lib.ListN.{length}
@@ -6,11 +7,12 @@ use Rattle.console.proofs.text.put_ends.Statement.{statement}
 use Rattle.console.proofs.text.put_ends.Tie as tie
 
 abbrev Inv-loop : tie.InvT-loop
-Inv-loop out₀ at blocks next₀ k₀ out next k =
+Inv-loop out₀ at blocks failed₀ next₀ k₀ out failed next k =
     (k ≤ length blocks / 512) × (length out ≡ length out₀) × (next ≤ length out₀)
 
 abbrev μ-loop : tie.MeasureT-loop
-μ-loop out₀ at blocks next₀ k₀ out next k = length blocks / 512 - k
+μ-loop out₀ at blocks failed₀ next₀ k₀ out failed next k =
+    length blocks / 512 - k
 
 loop-holds : tie.Need-loop-holds Inv-loop μ-loop
 loop-holds c = search needs
