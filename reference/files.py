@@ -1,0 +1,147 @@
+"""Problem files and journal records as bytes (docs/SPECIFICATION.md, 'Problem files' and 'The journal')."""
+import struct
+from dataclasses import dataclass, field
+
+BLOCK = 512
+CONTENT = BLOCK - 4
+MAX_VARIABLES = 32
+MAX_CONSTRAINTS = 64
+MAX_BUDGET = 10**9
+MAX_BOUND = 2**20
+MAX_COEFFICIENT = 2**30
+
+# The numbers of errors.
+TRUNCATED, BAD_CHECKSUM, BAD_MAGIC, SIZE_RANGE, DOMAIN_RANGE, COEFFICIENT_RANGE, NONZERO_PADDING = range(1, 8)
+
+
+class FileError(Exception):
+    """A file that is no problem file, with the number of its first error."""
+
+    def __init__(self, number):
+        super().__init__("error %d" % number)
+        self.number = number
+
+
+@dataclass
+class Constraint:
+    """constant + sum of coefficients times variables <= 0"""
+
+    constant: int
+    coefficients: list
+
+
+@dataclass
+class Problem:
+    """Limits are pairs (lower, upper), one for each variable."""
+
+    limits: list
+    constraints: list
+    budget: int
+
+
+@dataclass
+class Record:
+    """What a journal block holds. `used` has, for each variable, the number of the constraint resolved with there, or 0."""
+
+    count: int
+    falsified: int
+    cut_number: int
+    depth: int
+    back: int
+    cut: Constraint
+    used: list = field(default_factory=list)
+
+
+def checksum(content, k):
+    """The check of block k, whose first 508 bytes are given."""
+    return (sum(struct.unpack("<127I", content)) + k + 1) % 2**32
+
+
+def sealed(content, k):
+    """Block k with this content, padded, and its check."""
+    content = content.ljust(CONTENT, b"\0")
+    return content + struct.pack("<I", checksum(content, k))
+
+
+def blocks_of(data):
+    return [data[at:at + BLOCK] for at in range(0, len(data), BLOCK)]
+
+
+def has_right_check(block, k):
+    return struct.unpack("<I", block[CONTENT:])[0] == checksum(block[:CONTENT], k)
+
+
+def in_range(value, most):
+    return -most <= value <= most
+
+
+def problem_error(problem):
+    """The first error of a problem's values that a file of any length shows, or 0: domains before coefficients."""
+    if any(lower > upper or not in_range(lower, MAX_BOUND) or not in_range(upper, MAX_BOUND) for lower, upper in problem.limits):
+        return DOMAIN_RANGE
+    numbers = [number for c in problem.constraints for number in [c.constant] + c.coefficients]
+    if any(not in_range(number, MAX_COEFFICIENT) for number in numbers):
+        return COEFFICIENT_RANGE
+    return 0
+
+
+def sizes_fit(n, m, budget):
+    return 1 <= n <= MAX_VARIABLES and 0 <= m <= MAX_CONSTRAINTS and 0 <= budget <= MAX_BUDGET
+
+
+def head_content(problem):
+    limits = b"".join(struct.pack("<ii", *pair) for pair in problem.limits)
+    return b"BLUE" + struct.pack("<HHI", len(problem.limits), len(problem.constraints), problem.budget) + limits
+
+
+def constraint_content(constraint):
+    return struct.pack("<%di" % (1 + len(constraint.coefficients)), constraint.constant, *constraint.coefficients)
+
+
+def write_problem(problem):
+    """The file of a problem whose values are in range."""
+    contents = [head_content(problem)] + [constraint_content(c) for c in problem.constraints]
+    return b"".join(sealed(content, k) for k, content in enumerate(contents))
+
+
+def read_problem(data):
+    """The problem in a file; a FileError with the lowest number that applies where it is none."""
+    if len(data) < BLOCK or len(data) % BLOCK:
+        raise FileError(TRUNCATED)
+    blocks = blocks_of(data)
+    if not all(has_right_check(block, k) for k, block in enumerate(blocks)):
+        raise FileError(BAD_CHECKSUM)
+    head = blocks[0]
+    if head[:4] != b"BLUE":
+        raise FileError(BAD_MAGIC)
+    n, m, budget = struct.unpack("<HHI", head[4:12])
+    if not sizes_fit(n, m, budget) or len(blocks) != 1 + m:
+        raise FileError(SIZE_RANGE)
+    limits = [struct.unpack_from("<ii", head, 12 + 8 * i) for i in range(n)]
+    rows = [struct.unpack_from("<%di" % (1 + n), block) for block in blocks[1:]]
+    problem = Problem(limits, [Constraint(row[0], list(row[1:])) for row in rows], budget)
+    error = problem_error(problem)
+    if error:
+        raise FileError(error)
+    if write_problem(problem) != data:
+        raise FileError(NONZERO_PADDING)
+    return problem
+
+
+def write_record(record):
+    """The journal block of a record. Values past the last variable are 0."""
+    def padded(numbers):
+        return list(numbers) + [0] * (MAX_VARIABLES - len(numbers))
+
+    content = b"DEAD" + struct.pack("<IIIHH", record.count, record.falsified, record.cut_number, record.depth, record.back)
+    content += struct.pack("<33i", record.cut.constant, *padded(record.cut.coefficients))
+    content += struct.pack("<32I", *padded(record.used))
+    return sealed(content, record.count - 1)
+
+
+def read_record(block):
+    """The record in a journal block, with 32 coefficients."""
+    count, falsified, cut_number, depth, back = struct.unpack_from("<IIIHH", block, 4)
+    constant, *coefficients = struct.unpack_from("<33i", block, 20)
+    used = list(struct.unpack_from("<32I", block, 152))
+    return Record(count, falsified, cut_number, depth, back, Constraint(constant, coefficients), used)
