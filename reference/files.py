@@ -1,6 +1,7 @@
-"""Problem files and journal records as bytes (docs/SPECIFICATION.md, 'Problem files' and 'The journal')."""
+"""Problem files and journal records as bytes (docs/SPECIFICATION.md, sections 1 to 3 and 8)."""
 import struct
 from dataclasses import dataclass, field
+from functools import cached_property
 
 BLOCK = 512
 CONTENT = BLOCK - 4
@@ -28,6 +29,11 @@ class Constraint:
 
     constant: int
     coefficients: list
+
+    @cached_property
+    def terms(self):
+        """The coefficients that are not 0, each with its variable, counted from 0."""
+        return [(i, a) for i, a in enumerate(self.coefficients) if a != 0]
 
 
 @dataclass

@@ -1,0 +1,1 @@
+def generate(*a): raise NotImplementedError
