@@ -110,6 +110,16 @@ def write_problem(problem):
     return b"".join(sealed(content, k) for k, content in enumerate(contents))
 
 
+def problem_file(budget, limits, rows):
+    """The file of these values, in range or not. A row is a constraint's constant and its coefficients; those it lacks are 0."""
+    return write_problem(Problem(limits, [Constraint(row[0], row[1:]) for row in rows], budget))
+
+
+def resealed(data):
+    """The same blocks, each with its right check."""
+    return b"".join(sealed(block[:CONTENT], k) for k, block in enumerate(blocks_of(data)))
+
+
 def read_problem(data):
     """The problem in a file; a FileError with the lowest number that applies where it is none."""
     if len(data) < BLOCK or len(data) % BLOCK:
