@@ -1,10 +1,12 @@
-"""Problem files and journal records as bytes (docs/SPECIFICATION.md, sections 1 to 3 and 8)."""
+"""Problem files and journal records as bytes (docs/SPECIFICATION.md, sections 1 to 3 and 9)."""
 import struct
 from dataclasses import dataclass, field
 from functools import cached_property
 
 BLOCK = 512
 CONTENT = BLOCK - 4
+MAGIC = b"BLUE"
+RECORD_MAGIC = b"DEAD"
 MAX_VARIABLES = 32
 MAX_CONSTRAINTS = 64
 MAX_BUDGET = 10**9
@@ -95,9 +97,12 @@ def sizes_fit(n, m, budget):
     return 1 <= n <= MAX_VARIABLES and 0 <= m <= MAX_CONSTRAINTS and 0 <= budget <= MAX_BUDGET
 
 
+def head_fields(n, m, budget, limits, magic=MAGIC):
+    return magic + struct.pack("<HHI", n, m, budget) + b"".join(struct.pack("<ii", *pair) for pair in limits)
+
+
 def head_content(problem):
-    limits = b"".join(struct.pack("<ii", *pair) for pair in problem.limits)
-    return b"BLUE" + struct.pack("<HHI", len(problem.limits), len(problem.constraints), problem.budget) + limits
+    return head_fields(len(problem.limits), len(problem.constraints), problem.budget, problem.limits)
 
 
 def constraint_content(constraint):
@@ -128,7 +133,7 @@ def read_problem(data):
     if not all(has_right_check(block, k) for k, block in enumerate(blocks)):
         raise FileError(BAD_CHECKSUM)
     head = blocks[0]
-    if head[:4] != b"BLUE":
+    if head[:4] != MAGIC:
         raise FileError(BAD_MAGIC)
     n, m, budget = struct.unpack("<HHI", head[4:12])
     if not sizes_fit(n, m, budget) or len(blocks) != 1 + m:
@@ -149,7 +154,7 @@ def write_record(record):
     def padded(numbers):
         return list(numbers) + [0] * (MAX_VARIABLES - len(numbers))
 
-    content = b"DEAD" + struct.pack("<IIIHH", record.count, record.falsified, record.cut_number, record.depth, record.back)
+    content = RECORD_MAGIC + struct.pack("<IIIHH", record.count, record.falsified, record.cut_number, record.depth, record.back)
     content += struct.pack("<33i", record.cut.constant, *padded(record.cut.coefficients))
     content += struct.pack("<32I", *padded(record.used))
     return sealed(content, record.count - 1)

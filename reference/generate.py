@@ -13,9 +13,8 @@ Damage, each a function of a random generator and of a function that gives a goo
   cut, long, random_bytes, changed
 """
 import random
-import struct
 
-from files import BLOCK, MAX_BOUND, MAX_BUDGET, MAX_COEFFICIENT, problem_file, resealed
+from files import BLOCK, MAX_BOUND, MAX_BUDGET, MAX_COEFFICIENT, head_fields, problem_file, resealed
 
 LONGEST_INPUT = 65536
 BUDGETS = [0, 1, 2, 5, 20, 63, 64, 65, 66, 130]
@@ -221,7 +220,7 @@ def random_bytes(rnd, good):
     """Random bytes, sometimes with the letters, small sizes and right checks."""
     data = bytearray(rnd.randbytes(rnd.choice([0, 1, 511, 512, 513, 1024, 1536, 2048])))
     if rnd.random() < 0.7:
-        data[:12] = b"BLUE" + struct.pack("<HHI", rnd.randrange(4), max(len(data) // BLOCK - 1, 0), rnd.randrange(9))
+        data[:12] = head_fields(rnd.randrange(4), max(len(data) // BLOCK - 1, 0), rnd.randrange(9), [])
     return maybe_resealed(rnd, bytes(data))
 
 

@@ -1,4 +1,4 @@
-"""The search (docs/SPECIFICATION.md, sections 4 to 7 and 9), as literally as Python allows. Variables count from 0 here, constraint numbers from 1."""
+"""The search (docs/SPECIFICATION.md, sections 4 to 8 and 10), as literally as Python allows. Variables count from 0 here, constraint numbers from 1."""
 from dataclasses import dataclass, field, replace
 from math import gcd
 

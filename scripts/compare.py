@@ -4,10 +4,10 @@
     scripts/compare.py [--rounds N] [--seed S] [--budget B] [--keep FOLDER] [FILE ..]
                        [--reference PROGRAM] [--generator PROGRAM] [--verdict COMMAND] [--journal COMMAND]
 
-The other implementation is reference/ of this repository, or PROGRAM: called as `PROGRAM verdict` and `PROGRAM journal` (the journal's bytes, or each record
-in hexadecimal, one to a line) with a file on standard input. Compared with it are COMMANDs, each with its arguments in one word: target/bin/verdict and
-target/bin/journal unless others are named. In each round one file of each kind is made (reference/generate.py; with --generator the first 13 kinds come
-from `PROGRAM gen SEED KIND BUDGET`) and compared: the text of `verdict`, and every byte of the journal. FILEs are compared first. B is the largest budget.
+The other implementation is reference/ of this repository, or a PROGRAM (scripts/implementation.py says how it is called). Compared with it are COMMANDs,
+each with its arguments in one word: target/bin/verdict and target/bin/journal unless others are named. In each round one file of each kind is made
+(reference/generate.py; with --generator the first 13 kinds come from `PROGRAM gen SEED KIND BUDGET`) and compared: the text of `verdict`, and every byte of
+the journal. FILEs are compared first. B is the largest budget, 500 where none is given.
 Printed are each disagreement; for each kind how many files were compared, how many of them were refused, and their journal blocks; and how often
 each verdict was met. A file with a disagreement is put into FOLDER. The status is 1 where there is one.
 """
@@ -19,18 +19,11 @@ import sys
 from collections import Counter
 from pathlib import Path
 
-ROOT = Path(__file__).resolve().parent.parent
-sys.path.insert(0, str(ROOT / "reference"))
-from files import BLOCK  # noqa: E402
-from generate import DAMAGE, FAMILIES, PROBLEMS, generate  # noqa: E402
-from solve import solve  # noqa: E402
+from implementation import ROOT, expected, run
+from files import BLOCK
+from generate import DAMAGE, FAMILIES, PROBLEMS, generate
 
 BUDGETS = [0, 1, 2, 5, 20, 63, 64, 65, 66, 130, 500, 2000]
-SECONDS = 60
-
-
-def run(command, file=b""):
-    return subprocess.run(command, input=file, stdout=subprocess.PIPE, check=True, timeout=SECONDS).stdout
 
 
 def answer(command, file):
@@ -39,18 +32,6 @@ def answer(command, file):
         return run(shlex.split(command), file)
     except (subprocess.CalledProcessError, subprocess.TimeoutExpired) as error:
         return str(error).encode()
-
-
-def expected(program, file):
-    """Text and journal by the other implementation."""
-    if program is None:
-        text, journal = solve(file)
-        return text.encode(), journal
-    text = run([program, "verdict"], file)
-    if text.startswith(b"refused"):
-        return text, b""
-    journal = run([program, "journal"], file)
-    return text, journal if journal.startswith(b"DEAD") else bytes.fromhex(journal.decode())
 
 
 class Maker:
@@ -85,12 +66,12 @@ class Comparison:
 
     def compare(self, kind, name, file):
         text, journal = expected(self.options.reference, file)
-        for command, right in [(self.options.verdict, text), (self.options.journal, journal)]:
+        for command, right in [(self.options.verdict, text.encode()), (self.options.journal, journal)]:
             found = answer(command, file)
             if found != right:
                 self.disagree(kind, name, file, command, found, right)
-        refusal = text.startswith(b"refused")
-        self.verdicts[text.decode().strip() if refusal else text.decode().splitlines()[-2].split()[0]] += 1
+        refusal = text.startswith("refused")
+        self.verdicts[text.strip() if refusal else text.splitlines()[-2].split()[0]] += 1
         files, refused, blocks = self.compared.get(kind, (0, 0, 0))
         self.compared[kind] = (files + 1, refused + refusal, blocks + len(journal) // BLOCK)
 
