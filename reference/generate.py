@@ -17,7 +17,7 @@ import random
 from files import BLOCK, MAX_BOUND, MAX_BUDGET, MAX_COEFFICIENT, head_fields, problem_file, resealed
 
 LONGEST_INPUT = 65536
-BUDGETS = [0, 1, 2, 5, 20, 63, 64, 65, 66, 130]
+BUDGETS = [0, 1, 2, 5, 20, 63, 64, 65, 66, 130, 500]
 
 
 def value(numbers, point):
@@ -174,16 +174,17 @@ def heavy(rnd):
 
 
 def small(rnd):
-    """Most rows in pairs that say equal, met by a point: many conflicts."""
-    n, m = rnd.randint(3, 12), rnd.randint(2, 10)
-    most, size = rnd.choice([1, 2, 4, 8]), rnd.choice([3, 9, 20])
+    """Rows in pairs that say equal, or nearly, at a point; sometimes none says so. Many variables and wide pairs give many conflicts and cuts."""
+    many = rnd.random() < 0.5
+    n, pairs = (rnd.randint(9, 12), rnd.randint(3, 5)) if many else (rnd.randint(3, 9), rnd.randint(1, 5))
+    most, size = (4, 20) if many else (rnd.choice([1, 2, 4, 8]), rnd.choice([3, 9, 20]))
     limits = [(0, most)] * n
     point = some_point(rnd, limits)
     rows = []
-    while len(rows) < m:
+    for _ in range(pairs):
         numbers = [rnd.choice([0, rnd.randint(-size, size), rnd.randint(-size, size)]) for _ in range(n)]
-        middle = value(numbers, point)
-        rows += between(numbers, middle + rnd.choice([0, 0, 0, 1, -2]), middle)
+        middle = value(numbers, point) + rnd.choice([0, 0, 0, 1])
+        rows += between(numbers, middle - rnd.randint(0, 2), middle)
     return limits, rows
 
 

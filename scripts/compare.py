@@ -14,6 +14,7 @@ each verdict was met. A file with a disagreement is put into FOLDER. The status 
 import argparse
 import random
 import shlex
+import shutil
 import subprocess
 import sys
 from collections import Counter
@@ -21,9 +22,7 @@ from pathlib import Path
 
 from implementation import ROOT, expected, run
 from files import BLOCK
-from generate import DAMAGE, FAMILIES, PROBLEMS, generate
-
-BUDGETS = [0, 1, 2, 5, 20, 63, 64, 65, 66, 130, 500, 2000]
+from generate import BUDGETS, DAMAGE, FAMILIES, PROBLEMS, generate
 
 
 def answer(command, file):
@@ -39,7 +38,7 @@ class Maker:
 
     def __init__(self, options):
         self.program = options.generator
-        self.budgets = [budget for budget in BUDGETS if budget <= options.budget]
+        self.budgets = [budget for budget in BUDGETS + [2000] if budget <= options.budget]
         self.random = random.Random(options.seed)
 
     def family(self, kind):
@@ -111,6 +110,9 @@ def options_given():
 
 def main():
     options = options_given()
+    for command in [options.verdict, options.journal]:
+        if shutil.which(shlex.split(command)[0]) is None:
+            sys.exit("there is no program %s: `rt check verdict` and `rt check journal` build ours" % command)
     comparison = Comparison(options)
     for path in options.files:
         comparison.compare("given", Path(path).stem, Path(path).read_bytes())
