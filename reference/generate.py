@@ -7,7 +7,8 @@ Problems, each a function of a random generator that gives domain bounds and row
   market, knap, frob equations over 0 and 1; one equation with bounded weights; one equation with large weights and no small remainder
   creep, creepn, creepd   bounds that creep up one by one: two variables, a ring of them, only after decisions
   blue, bluew        examination papers as blueprints: sections, marks, topics; larger and smaller
-  heavy, small, edges     large coefficients, whose resolvents leave the range; pairs that say equal; values at the edges of their ranges, or one beyond
+  heavy, small, dense     large coefficients, whose resolvents leave the range; pairs that say nearly equal, with few cuts and with many
+  edges              values at the edges of their ranges, or one beyond
 
 Damage, each a function of a random generator and of a function that gives a good file:
   cut, long, random_bytes, changed
@@ -174,17 +175,24 @@ def heavy(rnd):
 
 
 def small(rnd):
-    """Rows in pairs that say equal, or nearly, at a point; sometimes none says so. Many variables and wide pairs give many conflicts and cuts."""
-    many = rnd.random() < 0.5
-    n, pairs = (rnd.randint(9, 12), rnd.randint(3, 5)) if many else (rnd.randint(3, 9), rnd.randint(1, 5))
-    most, size = (4, 20) if many else (rnd.choice([1, 2, 4, 8]), rnd.choice([3, 9, 20]))
-    limits = [(0, most)] * n
+    """Rows in pairs that say equal, or nearly, at a point; some miss it."""
+    n, most, size = rnd.randint(3, 9), rnd.choice([1, 2, 4, 8]), rnd.choice([3, 9, 20])
+    return near(rnd, [(0, most)] * n, rnd.randint(1, 5), lambda: rnd.choice([0, rnd.randint(-size, size), rnd.randint(-size, size)]))
+
+
+def dense(rnd):
+    """The same with no coefficient of 0 and more variables: often more cuts than are kept."""
+    n, most = rnd.randint(8, 12), rnd.choice([3, 4, 6])
+    return near(rnd, [(0, most)] * n, rnd.randint(2, 4), lambda: rnd.choice([1, -1]) * rnd.randint(3, 20))
+
+
+def near(rnd, limits, pairs, coefficient):
     point = some_point(rnd, limits)
     rows = []
     for _ in range(pairs):
-        numbers = [rnd.choice([0, rnd.randint(-size, size), rnd.randint(-size, size)]) for _ in range(n)]
-        middle = value(numbers, point) + rnd.choice([0, 0, 0, 1])
-        rows += between(numbers, middle - rnd.randint(0, 2), middle)
+        numbers = [coefficient() for _ in limits]
+        most = value(numbers, point) + rnd.choice([0, 0, 0, 1])
+        rows += between(numbers, most - rnd.randint(0, 2), most)
     return limits, rows
 
 
@@ -240,7 +248,7 @@ def by_name(*functions):
 
 
 FAMILIES = by_name(tiny, tinybig, rand, pigeon, parity, market, knap, frob, creep, creepn, creepd, blue, bluew)
-PROBLEMS = {**FAMILIES, **by_name(heavy, small, edges)}
+PROBLEMS = {**FAMILIES, **by_name(heavy, small, dense, edges)}
 DAMAGE = by_name(cut, long, random_bytes, changed)
 
 
