@@ -1,14 +1,14 @@
 """Generated files, for comparisons: `generate(seed, kind, budget)`. The same seed and kind give the same bytes.
 
 Problems, each a function of a random generator that gives domain bounds and rows (a constraint's constant, then its coefficients):
-  tiny, tinybig      small boxes; with small and with the largest coefficients
-  rand               sparse random constraints, some of them met by a hidden point
-  pigeon, parity     pigeonhole problems; parities of the edges at each corner of a graph
-  market, knap, frob equations over 0 and 1; one equation with bounded weights; one equation with large weights and no small remainder
+  tiny, tinybig           small boxes; with small and with the largest coefficients
+  rand                    sparse random constraints, some of them met by a hidden point
+  pigeon, parity          pigeonhole problems; parities of the edges at each corner of a graph
+  market, knap, frob      equations over 0 and 1; one equation with few of each weight; one equation with large weights, at a total hard to reach
   creep, creepn, creepd   bounds that creep up one by one: two variables, a ring of them, only after decisions
-  blue, bluew        examination papers as blueprints: sections, marks, topics; larger and smaller
+  blue, bluew             examination papers as blueprints: sections, marks, topics; larger and smaller
   heavy, small, dense     large coefficients, whose resolvents leave the range; pairs that say nearly equal, with few cuts and with many
-  edges              values at the edges of their ranges, or one beyond
+  edges                   values at the edges of their ranges, or one beyond
 
 Damage, each a function of a random generator and of a function that gives a good file:
   cut, long, random_bytes, changed
@@ -199,7 +199,7 @@ def near(rnd, limits, pairs, coefficient):
 def edges(rnd):
     n, m = rnd.randint(1, 3), rnd.randint(0, 3)
     lows = [rnd.choice([-MAX_BOUND, MAX_BOUND - 3, -2, 0]) - rnd.choice([0] * 9 + [1]) for _ in range(n)]
-    limits = [(low, low + rnd.choice([0, 1, 2, 3, 3, 3, 4, 5, -1][: rnd.choice([6, 6, 9])])) for low in lows]
+    limits = [(low, low + rnd.choice([0, 1, 2, 3] * 3 + [4, 5, -1])) for low in lows]
     ends = [0, 1, -1, MAX_COEFFICIENT, -MAX_COEFFICIENT, MAX_COEFFICIENT // 2]
     return limits, [[rnd.choice(ends) + rnd.choice([0, 0, 0, 0, 1, -1]) for _ in range(n + 1)] for _ in range(m)]
 
