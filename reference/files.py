@@ -1,9 +1,12 @@
-"""Problem files and journal records as bytes (docs/SPECIFICATION.md, 'Problem files' and 'The journal')."""
+"""Problem files and journal records as bytes (docs/SPECIFICATION.md, sections 1 to 3 and 9)."""
 import struct
 from dataclasses import dataclass, field
+from functools import cached_property
 
 BLOCK = 512
 CONTENT = BLOCK - 4
+MAGIC = b"BLUE"
+RECORD_MAGIC = b"DEAD"
 MAX_VARIABLES = 32
 MAX_CONSTRAINTS = 64
 MAX_BUDGET = 10**9
@@ -28,6 +31,11 @@ class Constraint:
 
     constant: int
     coefficients: list
+
+    @cached_property
+    def terms(self):
+        """The coefficients that are not 0, each with its variable, counted from 0."""
+        return [(i, a) for i, a in enumerate(self.coefficients) if a != 0]
 
 
 @dataclass
@@ -89,9 +97,12 @@ def sizes_fit(n, m, budget):
     return 1 <= n <= MAX_VARIABLES and 0 <= m <= MAX_CONSTRAINTS and 0 <= budget <= MAX_BUDGET
 
 
+def head_fields(n, m, budget, limits, magic=MAGIC):
+    return magic + struct.pack("<HHI", n, m, budget) + b"".join(struct.pack("<ii", *pair) for pair in limits)
+
+
 def head_content(problem):
-    limits = b"".join(struct.pack("<ii", *pair) for pair in problem.limits)
-    return b"BLUE" + struct.pack("<HHI", len(problem.limits), len(problem.constraints), problem.budget) + limits
+    return head_fields(len(problem.limits), len(problem.constraints), problem.budget, problem.limits)
 
 
 def constraint_content(constraint):
@@ -104,6 +115,16 @@ def write_problem(problem):
     return b"".join(sealed(content, k) for k, content in enumerate(contents))
 
 
+def problem_file(budget, limits, rows):
+    """The file of these values, in range or not. A row is a constraint's constant and its coefficients; those it lacks are 0."""
+    return write_problem(Problem(limits, [Constraint(row[0], row[1:]) for row in rows], budget))
+
+
+def resealed(data):
+    """The same blocks, each with its right check."""
+    return b"".join(sealed(block[:CONTENT], k) for k, block in enumerate(blocks_of(data)))
+
+
 def read_problem(data):
     """The problem in a file; a FileError with the lowest number that applies where it is none."""
     if len(data) < BLOCK or len(data) % BLOCK:
@@ -112,7 +133,7 @@ def read_problem(data):
     if not all(has_right_check(block, k) for k, block in enumerate(blocks)):
         raise FileError(BAD_CHECKSUM)
     head = blocks[0]
-    if head[:4] != b"BLUE":
+    if head[:4] != MAGIC:
         raise FileError(BAD_MAGIC)
     n, m, budget = struct.unpack("<HHI", head[4:12])
     if not sizes_fit(n, m, budget) or len(blocks) != 1 + m:
@@ -133,7 +154,7 @@ def write_record(record):
     def padded(numbers):
         return list(numbers) + [0] * (MAX_VARIABLES - len(numbers))
 
-    content = b"DEAD" + struct.pack("<IIIHH", record.count, record.falsified, record.cut_number, record.depth, record.back)
+    content = RECORD_MAGIC + struct.pack("<IIIHH", record.count, record.falsified, record.cut_number, record.depth, record.back)
     content += struct.pack("<33i", record.cut.constant, *padded(record.cut.coefficients))
     content += struct.pack("<32I", *padded(record.used))
     return sealed(content, record.count - 1)

@@ -10,22 +10,17 @@ constraints, so that the start of the process does not count.
 """
 import random
 import shlex
-import struct
 import sys
 
+import implementation  # it puts reference/ on the path
 from benchmark import conflicts, mean_times, time_of
+from files import problem_file
 
 BUDGET = 3000
 SEEDS = 3
 HIGHEST = 9
 HEAVIEST = 10000
 LIGHTEST = 20
-
-
-def block(content, k):
-    """A block of a file, with its check."""
-    padded = content.ljust(508, b"\0")
-    return padded + struct.pack("<I", (sum(struct.unpack("<127I", padded)) + k + 1) % 2**32)
 
 
 def knapsack(seed, n, m):
@@ -38,8 +33,7 @@ def knapsack(seed, n, m):
     while len(lines) < m:
         light = [choose.randint(-LIGHTEST, LIGHTEST) if choose.random() < 0.5 else 0 for _ in range(n)]
         lines.append([-sum(abs(w) for w in light) * HIGHEST * 3 // 8] + light)
-    head = b"BLUE" + struct.pack("<HHI", n, m, BUDGET) + struct.pack("<ii", 0, HIGHEST) * n
-    return block(head, 0) + b"".join(block(struct.pack("<%di" % (n + 1), *line), k + 1) for k, line in enumerate(lines[:m]))
+    return problem_file(BUDGET, [(0, HIGHEST)] * n, lines[:m])
 
 
 def moves(command, plan):

@@ -1,70 +1,52 @@
 #!/usr/bin/env python3
 """Makes the stored files of the programs and of the test program `vectors`.
 
-    scripts/make_vectors.py REFERENCE
+    scripts/make_vectors.py [--reference PROGRAM]
 
-REFERENCE is another implementation of document 01, called as `REFERENCE verdict` (prints what the program `verdict` prints) and
-`REFERENCE journal` (prints each journal block in hex, one to a line), with a plan file on standard input. What is expected comes from it alone,
-never from this repository's programs.
+What is expected comes from this repository's reference/ (which takes some minutes), or from another PROGRAM (scripts/implementation.py says how it is
+called); never from this repository's programs.
 
 Written are the plan files below (crates/vectors/data), the names of these and of the larger files that stand there already (crates/vectors/args),
 what `vectors` must print for them (crates/vectors/stdout), and plan A with its outputs (examples, crates/verdict, crates/journal).
 """
-import struct
-import subprocess
-import sys
-from pathlib import Path
+import argparse
 
-ROOT = Path(__file__).resolve().parent.parent
+from implementation import ROOT, expected
+from files import CONTENT, MAGIC, MAX_BOUND, MAX_BUDGET, MAX_COEFFICIENT, Constraint, constraint_content, head_fields, problem_file, sealed
+
 DATA = ROOT / "crates/vectors/data"
 DIGEST_PRIME = 2**55 - 55
-LIMIT = 2**20
-COEFFICIENT = 2**30
-HALF = COEFFICIENT // 2
-LARGEST_BUDGET = 10**9
-
-
-def block(content, k):
-    """The k-th block of a file: its check is the sum of the other words plus k + 1."""
-    body = content.ljust(508, b"\0")
-    check = sum(struct.unpack("<127I", body)) + k + 1
-    return body + struct.pack("<I", check % 2**32)
+HALF = MAX_COEFFICIENT // 2
 
 
 def blocks(contents):
-    return b"".join(block(content, k) for k, content in enumerate(contents))
+    return b"".join(sealed(content, k) for k, content in enumerate(contents))
 
 
-def head(budget, limits, m, n=None, letters=b"BLUE"):
-    sizes = struct.pack("<HHI", len(limits) if n is None else n, m, budget)
-    return letters + sizes + b"".join(struct.pack("<ii", *pair) for pair in limits)
+def head(budget, limits, m, n=None, letters=MAGIC):
+    return head_fields(len(limits) if n is None else n, m, budget, limits, letters)
 
 
 def line(numbers):
-    """A line's block: the constant, then the coefficients."""
-    return struct.pack("<%di" % len(numbers), *numbers)
-
-
-def plan(budget, limits, lines):
-    return blocks([head(budget, limits, len(lines))] + [line(numbers) for numbers in lines])
+    return constraint_content(Constraint(numbers[0], numbers[1:]))
 
 
 def with_byte(content, place, value):
     """A block's content with one byte set."""
-    padded = bytearray(content.ljust(508, b"\0"))
+    padded = bytearray(content.ljust(CONTENT, b"\0"))
     padded[place] = value
     return bytes(padded)
 
 
 PLAN_A_LIMITS = [(0, 1)] * 2
 PLAN_A_LINES = [[1, -1, -1], [0, -1, 1]]
-PLAN_A = plan(5, PLAN_A_LIMITS, PLAN_A_LINES)
+PLAN_A = problem_file(5, PLAN_A_LIMITS, PLAN_A_LINES)
 PLAN_B_LINES = [[-2, 6, -3], [1, -6, 3]]
 
 
 def torn_files():
     """Refused with 1."""
-    whole = plan(0, [(0, 0)], [])
+    whole = problem_file(0, [(0, 0)], [])
     yield "torn-empty", b""
     yield "torn-511", whole[:511]
     yield "torn-513", whole + b"\0"
@@ -90,45 +72,45 @@ def bad_files():
     yield "check-of-last-line", bytes(broken)
     yield "check-of-block-past-the-lines", PLAN_A + bytes(512)
     yield "check-before-letters-and-size", bytes(1024)
-    yield "check-with-another-index", block(good, 0) + block(first, 2) + block(second, 1)
+    yield "check-with-another-index", sealed(good, 0) + sealed(first, 2) + sealed(second, 1)
     yield "letters", blocks([head(5, PLAN_A_LIMITS, 2, letters=b"BLUF"), first, second])
     yield "letters-before-size", blocks([head(5, [], 0, letters=b"blue")])
     yield "size-n-0", blocks([head(5, [], 0)])
     yield "size-n-33", blocks([head(5, [(0, 1)] * 33, 0)])
     yield "size-m-65", blocks([head(5, [(0, 1)], 65)] + [line([0, 1])] * 65)
-    yield "size-budget", plan(LARGEST_BUDGET + 1, PLAN_A_LIMITS, PLAN_A_LINES)
+    yield "size-budget", problem_file(MAX_BUDGET + 1, PLAN_A_LIMITS, PLAN_A_LINES)
     yield "size-block-missing", blocks([good, first])
     yield "size-block-too-many", blocks([good, first, second, line([0])])
     yield "size-before-limits", blocks([head(5, [(1, 0)], 1)])
-    yield "limits-crossed", plan(5, [(0, 1), (1, 0)], PLAN_A_LINES)
-    yield "limits-upper-one-more", plan(5, [(0, LIMIT + 1)], [])
-    yield "limits-lower-one-less", plan(5, [(-LIMIT - 1, 0)], [])
-    yield "limits-before-heavy-and-stray", blocks([with_byte(head(5, [(1, 0)], 1), 100, 1), line([0, COEFFICIENT + 1])])
-    yield "heavy-coefficient", plan(5, PLAN_A_LIMITS, [[0, 0, COEFFICIENT + 1]])
-    yield "heavy-coefficient-negative", plan(5, PLAN_A_LIMITS, [[0, -COEFFICIENT - 1, 0]])
-    yield "heavy-constant", plan(5, PLAN_A_LIMITS, [[COEFFICIENT + 1, 1, 0]])
-    yield "heavy-constant-negative", plan(5, PLAN_A_LIMITS, [[-COEFFICIENT - 1, 1, 0]])
-    yield "heavy-before-stray", blocks([good, with_byte(first, 507, 1), line([0, -COEFFICIENT - 1, 0])])
+    yield "limits-crossed", problem_file(5, [(0, 1), (1, 0)], PLAN_A_LINES)
+    yield "limits-upper-one-more", problem_file(5, [(0, MAX_BOUND + 1)], [])
+    yield "limits-lower-one-less", problem_file(5, [(-MAX_BOUND - 1, 0)], [])
+    yield "limits-before-heavy-and-stray", blocks([with_byte(head(5, [(1, 0)], 1), 100, 1), line([0, MAX_COEFFICIENT + 1])])
+    yield "heavy-coefficient", problem_file(5, PLAN_A_LIMITS, [[0, 0, MAX_COEFFICIENT + 1]])
+    yield "heavy-coefficient-negative", problem_file(5, PLAN_A_LIMITS, [[0, -MAX_COEFFICIENT - 1, 0]])
+    yield "heavy-constant", problem_file(5, PLAN_A_LIMITS, [[MAX_COEFFICIENT + 1, 1, 0]])
+    yield "heavy-constant-negative", problem_file(5, PLAN_A_LIMITS, [[-MAX_COEFFICIENT - 1, 1, 0]])
+    yield "heavy-before-stray", blocks([good, with_byte(first, 507, 1), line([0, -MAX_COEFFICIENT - 1, 0])])
     yield "stray-limits-past-n", blocks([head(5, PLAN_A_LIMITS + [(1, 0)], 2, n=2), first, second])
-    yield "stray-coefficient-past-n", blocks([good, first, line([0, -1, 1, COEFFICIENT + 1])])
+    yield "stray-coefficient-past-n", blocks([good, first, line([0, -1, 1, MAX_COEFFICIENT + 1])])
     yield "stray-last-byte-of-head", blocks([with_byte(good, 507, 1), first, second])
     yield "stray-last-byte-of-line", blocks([good, first, with_byte(second, 507, 128)])
 
 
 def edge_files():
     """Accepted, at the edges of sizes, limits and numbers."""
-    yield "no-lines", plan(0, [(3, 9), (-7, -7), (-2, 5)], [])
-    yield "no-lines-widest", plan(LARGEST_BUDGET, [(-LIMIT, LIMIT)] * 32, [])
-    yield "one-value", plan(LARGEST_BUDGET, [(LIMIT, LIMIT)], [[-LIMIT, 1]])
+    yield "no-lines", problem_file(0, [(3, 9), (-7, -7), (-2, 5)], [])
+    yield "no-lines-widest", problem_file(MAX_BUDGET, [(-MAX_BOUND, MAX_BOUND)] * 32, [])
+    yield "one-value", problem_file(MAX_BUDGET, [(MAX_BOUND, MAX_BOUND)], [[-MAX_BOUND, 1]])
     cover = [[1] + [-1 if i == j % 32 or i % 31 == j % 31 else 0 for i in range(32)] for j in range(64)]
-    yield "n-32-m-64", plan(9, [(0, 1)] * 32, cover)
-    yield "lowest-value-largest", plan(1, [(LIMIT, LIMIT)] * 32, [[COEFFICIENT] * 32 + [COEFFICIENT - 1]])
-    yield "lowest-value-least", plan(1, [(LIMIT, LIMIT)] * 32, [[-COEFFICIENT] * 32 + [1 - COEFFICIENT]])
-    negative = [COEFFICIENT] + [-COEFFICIENT] * 31 + [1 - COEFFICIENT]
-    yield "lowest-value-largest-negative", plan(1, [(-LIMIT, -LIMIT)] * 32, [negative])
-    yield "no-coefficient-false", plan(5, PLAN_A_LIMITS, [[1], [-1, 1, 1]])
-    yield "no-coefficient-met", plan(5, PLAN_A_LIMITS, [[0], [-COEFFICIENT], [1, -1, -1]])
-    yield "no-coefficient-false-no-budget", plan(0, PLAN_A_LIMITS, [[-1, 1, 1], [COEFFICIENT]])
+    yield "n-32-m-64", problem_file(9, [(0, 1)] * 32, cover)
+    yield "lowest-value-largest", problem_file(1, [(MAX_BOUND, MAX_BOUND)] * 32, [[MAX_COEFFICIENT] * 32 + [MAX_COEFFICIENT - 1]])
+    yield "lowest-value-least", problem_file(1, [(MAX_BOUND, MAX_BOUND)] * 32, [[-MAX_COEFFICIENT] * 32 + [1 - MAX_COEFFICIENT]])
+    negative = [MAX_COEFFICIENT] + [-MAX_COEFFICIENT] * 31 + [1 - MAX_COEFFICIENT]
+    yield "lowest-value-largest-negative", problem_file(1, [(-MAX_BOUND, -MAX_BOUND)] * 32, [negative])
+    yield "no-coefficient-false", problem_file(5, PLAN_A_LIMITS, [[1], [-1, 1, 1]])
+    yield "no-coefficient-met", problem_file(5, PLAN_A_LIMITS, [[0], [-MAX_COEFFICIENT], [1, -1, -1]])
+    yield "no-coefficient-false-no-budget", problem_file(0, PLAN_A_LIMITS, [[-1, 1, 1], [MAX_COEFFICIENT]])
 
 
 def bound_files():
@@ -136,59 +118,59 @@ def bound_files():
     cases = [("plus-plus", [7, 3], -3), ("plus-minus", [-7, 3], 2), ("minus-plus", [7, -3], 3), ("minus-minus", [-7, -3], -2)]
     for name, numbers, bound in cases:
         sign = 1 if numbers[1] < 0 else -1
-        yield "bound-%s" % name, plan(1, [(-9, 9)], [numbers, [-sign * bound, sign]])
-        yield "bound-%s-missed" % name, plan(1, [(-9, 9)], [numbers, [-sign * bound + 1, sign]])
-    yield "rounding", plan(5, [(0, 10)] * 2, [[-2, 6, -3], [5, -4, -6], [-29, 10, 5]])
-    yield "divided-by-the-divisor", plan(5, [(0, 10)] * 2, [[-7, 2, 3], [8, -2, -3]])
+        yield "bound-%s" % name, problem_file(1, [(-9, 9)], [numbers, [-sign * bound, sign]])
+        yield "bound-%s-missed" % name, problem_file(1, [(-9, 9)], [numbers, [-sign * bound + 1, sign]])
+    yield "rounding", problem_file(5, [(0, 10)] * 2, [[-2, 6, -3], [5, -4, -6], [-29, 10, 5]])
+    yield "divided-by-the-divisor", problem_file(5, [(0, 10)] * 2, [[-7, 2, 3], [8, -2, -3]])
 
 
 def walk_files():
     """Dead ends, cuts and turning."""
     yield "plan-a", PLAN_A
-    yield "plan-a-budget-0", plan(0, PLAN_A_LIMITS, PLAN_A_LINES)
-    yield "plan-a-lines-exchanged", plan(5, PLAN_A_LIMITS, PLAN_A_LINES[::-1])
-    yield "plan-a-at-the-end-of-32", plan(5, [(0, 1)] * 32, [[1] + [0] * 30 + [-1, -1], [0] * 31 + [-1, 1]])
-    yield "plan-b", plan(1, [(0, 10)] * 2, PLAN_B_LINES)
-    yield "plan-b-budget-0", plan(0, [(0, 10)] * 2, PLAN_B_LINES)
-    yield "back-below-the-depth-met", plan(5, [(0, 2)] * 4, [[1, -1, -1, 1, 1], [0, 0, 1, -1, -1]])
-    yield "back-two-below", plan(5, [(0, 2)] * 5, [[-1, -2, 1, 1, 1, 1], [4, 0, 0, -2, -2, -2]])
-    yield "back-below-and-outcome-not-false", plan(20, [(0, 3)] * 4, [[10, 3, -3, 4, -4], [-4, -5, 2, -4, 4]])
+    yield "plan-a-budget-0", problem_file(0, PLAN_A_LIMITS, PLAN_A_LINES)
+    yield "plan-a-lines-exchanged", problem_file(5, PLAN_A_LIMITS, PLAN_A_LINES[::-1])
+    yield "plan-a-at-the-end-of-32", problem_file(5, [(0, 1)] * 32, [[1] + [0] * 30 + [-1, -1], [0] * 31 + [-1, 1]])
+    yield "plan-b", problem_file(1, [(0, 10)] * 2, PLAN_B_LINES)
+    yield "plan-b-budget-0", problem_file(0, [(0, 10)] * 2, PLAN_B_LINES)
+    yield "back-below-the-depth-met", problem_file(5, [(0, 2)] * 4, [[1, -1, -1, 1, 1], [0, 0, 1, -1, -1]])
+    yield "back-two-below", problem_file(5, [(0, 2)] * 5, [[-1, -2, 1, 1, 1, 1], [4, 0, 0, -2, -2, -2]])
+    yield "back-below-and-outcome-not-false", problem_file(20, [(0, 3)] * 4, [[10, 3, -3, 4, -4], [-4, -5, 2, -4, 4]])
     five = [[5, 0, 2, 1, -3, -2], [4, 1, -1, 2, 1, -3], [-4, -2, 3, -3, 1, 3], [13, 2, 0, 5, -1, -8]]
-    yield "five-lines-taken-in", plan(5, [(0, 2)] * 5, five)
-    yield "outcome-not-false", plan(5, [(0, 1)] * 2, [[1, -2, 1], [-1, 2, 1]])
-    yield "none-at-depth-1", plan(5, [(0, 2)] * 3, [[0, -1, -1, 1], [1, 1, 1, -1]])
-    yield "none-at-depth-2", plan(5, [(0, 1)] * 4, [[2, 3, 2, -3, -3], [-2, -3, -3, 3, 3]])
-    yield "none-at-depth-1-spent", plan(0, [(0, 2)] * 3, [[0, -1, -1, 1], [1, 1, 1, -1]])
-    yield "lines-equal", plan(5, PLAN_A_LIMITS, PLAN_A_LINES + PLAN_A_LINES)
-    yield "lines-multiples", plan(5, PLAN_A_LIMITS, [[3, -3, -3], [0, -7, 7]] + PLAN_A_LINES)
-    yield "cut-is-the-false-line", plan(5, [(0, 1)] * 2, [[-4, 1, 0], [3, 2, -1], [3, 2, -1]])
+    yield "five-lines-taken-in", problem_file(5, [(0, 2)] * 5, five)
+    yield "outcome-not-false", problem_file(5, [(0, 1)] * 2, [[1, -2, 1], [-1, 2, 1]])
+    yield "none-at-depth-1", problem_file(5, [(0, 2)] * 3, [[0, -1, -1, 1], [1, 1, 1, -1]])
+    yield "none-at-depth-2", problem_file(5, [(0, 1)] * 4, [[2, 3, 2, -3, -3], [-2, -3, -3, 3, 3]])
+    yield "none-at-depth-1-spent", problem_file(0, [(0, 2)] * 3, [[0, -1, -1, 1], [1, 1, 1, -1]])
+    yield "lines-equal", problem_file(5, PLAN_A_LIMITS, PLAN_A_LINES + PLAN_A_LINES)
+    yield "lines-multiples", problem_file(5, PLAN_A_LIMITS, [[3, -3, -3], [0, -7, 7]] + PLAN_A_LINES)
+    yield "cut-is-the-false-line", problem_file(5, [(0, 1)] * 2, [[-4, 1, 0], [3, 2, -1], [3, 2, -1]])
     others = [[-1, -3, 2], [1, -2, -3], [0, 3, 1], [1, -3, -3]]
-    yield "cut-is-another-line", plan(5, [(0, 2)] * 2, others + [[2, 0, -2], [1, 0, -1]])
-    yield "cut-is-an-older-cut", plan(5, [(0, 3)] * 3, [[9, -2, -5, 4], [7, -3, 2, -3]])
-    yield "creep-up", plan(5, [(0, LIMIT)] * 2, [[1, 1, -1], [0, -1, 1]])
-    yield "creep-down", plan(5, [(-LIMIT, 0)] * 2, [[0, 1, -1], [1, -1, 1]])
+    yield "cut-is-another-line", problem_file(5, [(0, 2)] * 2, others + [[2, 0, -2], [1, 0, -1]])
+    yield "cut-is-an-older-cut", problem_file(5, [(0, 3)] * 3, [[9, -2, -5, 4], [7, -3, 2, -3]])
+    yield "creep-up", problem_file(5, [(0, MAX_BOUND)] * 2, [[1, 1, -1], [0, -1, 1]])
+    yield "creep-down", problem_file(5, [(-MAX_BOUND, 0)] * 2, [[0, 1, -1], [1, -1, 1]])
 
 
 def range_files():
     """Outcomes of exactly 2^30 in size, which are taken, and of one more, which are not. The first line raises v3, and so makes the second false."""
     zeros = [(0, 0), (0, 0), (0, 5)]
-    yield "outcome-coefficient", plan(5, zeros, [[1, HALF, 0, -1], [0, HALF, 1, 1]])
-    yield "outcome-coefficient-one-more", plan(5, zeros, [[1, HALF, 0, -1], [0, HALF + 1, 1, 1]])
-    yield "outcome-coefficient-negative", plan(5, zeros, [[1, -HALF, 0, -1], [0, -HALF, 1, 1]])
-    yield "outcome-coefficient-negative-one-more", plan(5, zeros, [[1, -HALF, 0, -1], [0, -HALF - 1, 1, 1]])
+    yield "outcome-coefficient", problem_file(5, zeros, [[1, HALF, 0, -1], [0, HALF, 1, 1]])
+    yield "outcome-coefficient-one-more", problem_file(5, zeros, [[1, HALF, 0, -1], [0, HALF + 1, 1, 1]])
+    yield "outcome-coefficient-negative", problem_file(5, zeros, [[1, -HALF, 0, -1], [0, -HALF, 1, 1]])
+    yield "outcome-coefficient-negative-one-more", problem_file(5, zeros, [[1, -HALF, 0, -1], [0, -HALF - 1, 1, 1]])
     fixed = [(1, 1), (0, 0), (-5, 5)]
-    yield "outcome-constant", plan(5, fixed, [[HALF, 1 - HALF, 0, -1], [HALF, -HALF, 1, 1]])
-    yield "outcome-constant-one-more", plan(5, fixed, [[HALF, 1 - HALF, 0, -1], [HALF + 1, -HALF - 1, 1, 1]])
+    yield "outcome-constant", problem_file(5, fixed, [[HALF, 1 - HALF, 0, -1], [HALF, -HALF, 1, 1]])
+    yield "outcome-constant-one-more", problem_file(5, fixed, [[HALF, 1 - HALF, 0, -1], [HALF + 1, -HALF - 1, 1, 1]])
     fixed[1] = (1, 1)
-    yield "outcome-constant-negative", plan(5, fixed, [[-HALF, HALF + 1, 0, -1], [-HALF, HALF - 1, 1, 1]])
+    yield "outcome-constant-negative", problem_file(5, fixed, [[-HALF, HALF + 1, 0, -1], [-HALF, HALF - 1, 1, 1]])
     fixed[1] = (2, 2)
-    yield "outcome-constant-negative-one-more", plan(5, fixed, [[-HALF, HALF + 1, 0, -1], [-HALF - 1, HALF - 1, 1, 1]])
+    yield "outcome-constant-negative-one-more", problem_file(5, fixed, [[-HALF, HALF + 1, 0, -1], [-HALF - 1, HALF - 1, 1, 1]])
     # The outcomes' coefficients have 61 bits and their lowest values 83: they must be refused before those are computed.
     rows = [
         [371378013, -1073741817, -1073741819, 1073741823, -1073741820, 1073741817, 1073741821, 1073741819, 1073741817],
         [-558807171, -1073741819, -1073741817, -1073741819, -1073741821, -1073741816, -1073741818, -1073741820, -1073741817],
     ]
-    yield "outcome-83-bits", plan(6, [(-LIMIT, LIMIT)] * 8, rows)
+    yield "outcome-83-bits", problem_file(6, [(-MAX_BOUND, MAX_BOUND)] * 8, rows)
 
 
 CUTS = [
@@ -209,21 +191,21 @@ def cut_files():
     """More cuts than are kept. From dead end 107 on, 28 times a bound's cause is a cut that is no longer kept."""
     limits = [(0, 4)] * 11
     for made, budget in [(63, 85), (64, 87), (65, 89), (130, 221)]:
-        yield "cuts-%d-made" % made, plan(budget, limits, CUTS)
+        yield "cuts-%d-made" % made, problem_file(budget, limits, CUTS)
     for name, budget in [("below", 246), ("at", 247), ("above", 248)]:
-        yield "cuts-dropped-budget-%s-the-count" % name, plan(budget, limits, CUTS)
+        yield "cuts-dropped-budget-%s-the-count" % name, problem_file(budget, limits, CUTS)
 
 
 def knapsack(budget, most, total, weights):
     """The weights, each taken up to `most` times, add up to the total. A last variable that is 0 keeps the line from being rounded."""
     numbers = weights + [109]
     limits = [(0, most)] * len(weights) + [(0, 0)]
-    return plan(budget, limits, [[-total] + numbers, [total] + [-a for a in numbers]])
+    return problem_file(budget, limits, [[-total] + numbers, [total] + [-a for a in numbers]])
 
 
 def block_files():
     """A verdict with the last of the 256 blocks that the programs ask for at once, one call later, and one block later."""
-    yield "blocks-256-none", knapsack(LARGEST_BUDGET, 6, 1311, [68, 152, 64, 70, 76])
+    yield "blocks-256-none", knapsack(MAX_BUDGET, 6, 1311, [68, 152, 64, 70, 76])
     yield "blocks-256-spent", knapsack(256, 10, 3595, [108, 144, 102, 124, 132])
     yield "blocks-257-spent", knapsack(257, 10, 3595, [108, 144, 102, 124, 132])
 
@@ -231,33 +213,31 @@ def block_files():
 GROUPS = [torn_files, bad_files, edge_files, bound_files, walk_files, range_files, cut_files, block_files]
 
 
-def ask(reference, mode, file):
-    return subprocess.run([reference, mode], input=file, stdout=subprocess.PIPE, check=True).stdout.decode()
-
-
-def expected(reference, name, file):
+def printed(program, name, file):
     """What `vectors` prints: the name, the verdict's text, a digest of the journal, and the verdict and count of a run."""
-    text = ask(reference, "verdict", file)
+    text, journal = expected(program, file)
     if text.startswith("refused"):
         return "%s\n%s" % (name, text)
-    journal = bytes.fromhex(ask(reference, "journal", file))
     digest = int.from_bytes(journal, "big") % DIGEST_PRIME
     ending = "".join(text.splitlines(keepends=True)[-2:])
     return "%s\n%sjournal %d\n%s" % (name, text, digest, ending)
 
 
-def write_plan_a(reference):
+def write_plan_a(program):
     example = ROOT / "examples/plan-a.plan"
     example.parent.mkdir(exist_ok=True)
     example.write_bytes(PLAN_A)
-    for program in ["verdict", "journal"]:
-        (ROOT / "crates" / program / "stdin").write_bytes(PLAN_A)
-    (ROOT / "crates/verdict/stdout").write_text(ask(reference, "verdict", PLAN_A))
-    (ROOT / "crates/journal/stdout").write_bytes(bytes.fromhex(ask(reference, "journal", PLAN_A)))
+    for name in ["verdict", "journal"]:
+        (ROOT / "crates" / name / "stdin").write_bytes(PLAN_A)
+    text, journal = expected(program, PLAN_A)
+    (ROOT / "crates/verdict/stdout").write_text(text)
+    (ROOT / "crates/journal/stdout").write_bytes(journal)
 
 
 def main():
-    reference = sys.argv[1]
+    parser = argparse.ArgumentParser(description=__doc__, formatter_class=argparse.RawDescriptionHelpFormatter)
+    parser.add_argument("--reference")
+    program = parser.parse_args().reference
     files = {name + ".plan": file for group in GROUPS for name, file in group()}
     DATA.mkdir(parents=True, exist_ok=True)
     for name, file in files.items():
@@ -265,9 +245,9 @@ def main():
     for path in sorted(DATA.glob("*.plan")):
         files.setdefault(path.name, path.read_bytes())
     (ROOT / "crates/vectors/args").write_text("".join(name + "\n" for name in files))
-    texts = [expected(reference, name, file) for name, file in files.items()]
+    texts = [printed(program, name, file) for name, file in files.items()]
     (ROOT / "crates/vectors/stdout").write_text("".join(texts))
-    write_plan_a(reference)
+    write_plan_a(program)
     print("%d files" % len(files))
 
 

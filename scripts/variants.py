@@ -1,0 +1,174 @@
+#!/usr/bin/env python3
+"""How sharp the generated files are: which wrong variants of reference/ they tell from the right one.
+
+    scripts/variants.py [ROUNDS]
+
+Each variant replaces one piece of text in a module of reference/. In each round (60 unless ROUNDS says otherwise) one file of each kind is solved by the
+reference and by each variant that no earlier file has told apart. Printed are, for each variant, the round and kind of the first file with another text or
+journal. A variant that fails, or takes over a minute on a file, is told apart by it.
+"""
+import random
+import signal
+import sys
+import types
+
+from implementation import ROOT
+from generate import DAMAGE, PROBLEMS, generate
+from solve import solve
+
+MODULES = ["files", "search", "solve"]
+SECONDS = 60
+
+# a module, a piece of its text, what stands there in the variant, and the variant's name
+VARIANTS = [
+    ("search", "return -(-z // d)", "return z // d", "rounding down in place of up"),
+    ("search", "bound = -(whole - a * level.lower[i]) // a", "bound = int(-(whole - a * level.lower[i]) / a)", "an upper bound rounded toward zero"),
+    (
+        "search",
+        "bound = ceil_div(whole - a * level.upper[i], -a)",
+        "bound = int((whole - a * level.upper[i]) / -a)",
+        "a lower bound rounded toward zero",
+    ),
+    ("search", "a * (level.lower[i] if a > 0 else level.upper[i])", "a * level.lower[i]", "L used for a negative coefficient"),
+    ("search", "activity(constraint, level) > 0", "activity(constraint, level) >= 0", "falsified at 0"),
+    (
+        "search",
+        "    if d == 0:\n        search.status",
+        "    d = depth if d else 0\n    if d == 0:\n        search.status",
+        "going back to the depth met",
+    ),
+    (
+        "search",
+        "constraint_in_range(outcome) and falsified(outcome, level)",
+        "constraint_in_range(outcome)",
+        "a resolvent taken that is not falsified",
+    ),
+    ("search", "constraint_in_range(outcome) and falsified(outcome, level)", "falsified(outcome, level)", "a resolvent taken that is out of range"),
+    ("search", "KEPT_CUTS = 64", "KEPT_CUTS = 63", "63 cuts kept"),
+    ("search", "KEPT_CUTS = 64", "KEPT_CUTS = 65", "65 cuts kept"),
+    ("search", "    g = gcd(a, b)", "    g = 1", "resolving without the division by g"),
+    ("search", "for i in reversed(range(len(used)))", "for i in range(len(used))", "analysis from variable 1 up"),
+    ("search", "f.coefficients[i] * j.coefficients[i] >= 0", "f.coefficients[i] * j.coefficients[i] == 0", "analysis without the test of signs"),
+    ("search", "    level.lower_reason[variable] = FLIPPED\n", "", "a flipped bound with its old reason"),
+    ("search", "    if equal is not None:\n        return equal\n", "", "a cut made though a kept constraint equals it"),
+    (
+        "search",
+        "for number, constraint in search.kept() if constraint == cut",
+        "for number, constraint in reversed(search.kept()) if constraint == cut",
+        "the last equal constraint",
+    ),
+    (
+        "search",
+        "level.upper[i], level.upper_reason[i], level.decided = level.lower[i]",
+        "level.lower[i], level.lower_reason[i], level.decided = level.upper[i]",
+        "deciding for U",
+    ),
+    ("search", "if search.conflicts == search.budget:", "if search.conflicts + 1 >= search.budget:", "out of budget one early"),
+    ("search", "if search.conflicts == search.budget:", "if search.conflicts > search.budget:", "out of budget one late"),
+    ("search", "[rounded(c) for c in problem.constraints]", "list(problem.constraints)", "constraints not rounded at opening"),
+    ("search", "f, used[i] = outcome, number", "f = outcome", "constraints resolved with not recorded"),
+    ("search", "f, used[i] = outcome, number", "used[i] = number", "the falsified constraint as its own cut"),
+    (
+        "search",
+        "level.lower_reason[i] if a > 0 else level.upper_reason[i]",
+        "level.lower_reason[i] if a < 0 else level.upper_reason[i]",
+        "the other bound's reason",
+    ),
+    ("search", "[-KEPT_CUTS:]", "[:KEPT_CUTS]", "the oldest cuts kept"),
+    (
+        "search",
+        "return rounded(Constraint(s * f.constant + t * j.constant, numbers))",
+        "return Constraint(s * f.constant + t * j.constant, numbers)",
+        "a resolvent not rounded",
+    ),
+    (
+        "search",
+        "if any(improve(number, constraint, level) for number, constraint in kept):",
+        "if [1 for number, constraint in kept if improve(number, constraint, level)]:",
+        "all improvements of a scan at once",
+    ),
+    (
+        "search",
+        "improve(number, constraint, level) for number, constraint in kept)",
+        "improve(number, constraint, level) for number, constraint in reversed(kept))",
+        "the last improvement",
+    ),
+    (
+        "search",
+        "for number, constraint in kept if falsified(constraint, level)",
+        "for number, constraint in reversed(kept) if falsified(constraint, level)",
+        "the last falsified constraint",
+    ),
+    (
+        "search",
+        "in enumerate(zip(level.lower, level.upper)) if lower < upper",
+        "in reversed(list(enumerate(zip(level.lower, level.upper)))) if lower < upper",
+        "the last open variable",
+    ),
+    ("files", "not in_range(number, MAX_COEFFICIENT) for", "not in_range(number, MAX_COEFFICIENT - 1) for", "coefficients of 2^30 refused"),
+    ("files", "not in_range(number, MAX_COEFFICIENT) for", "not in_range(number, MAX_COEFFICIENT + 1) for", "coefficients of 2^30 + 1 accepted"),
+    ("files", "not in_range(upper, MAX_BOUND)", "not in_range(upper, MAX_BOUND + 1)", "upper domain bounds of 2^20 + 1 accepted"),
+    ("files", "lower > upper or ", "", "crossed domain bounds accepted"),
+    ("files", " or len(blocks) != 1 + m", " or len(blocks) < 1 + m", "more blocks than 1 + m accepted"),
+    ("files", "MAX_BUDGET = 10**9", "MAX_BUDGET = 10**9 + 1", "budgets of 1,000,000,001 accepted"),
+    ("files", "    if write_problem(problem) != data:\n        raise FileError(NONZERO_PADDING)\n", "", "nonzero padding accepted"),
+    ("files", "for k, block in enumerate(blocks)):", "for k, block in enumerate(blocks[:1])):", "only the head's check tested"),
+    (
+        "files",
+        "if len(data) < BLOCK or len(data) % BLOCK:",
+        "if len(data) < BLOCK or len(data) % BLOCK and len(data) > 2 * BLOCK:",
+        "short files of a wrong length accepted",
+    ),
+    ("solve", "LONGEST_INPUT = 65536", "LONGEST_INPUT = 10**7", "inputs of any length taken"),
+    ("solve", "len(data) > LONGEST_INPUT", "len(data) >= LONGEST_INPUT", "inputs of 65,536 bytes refused"),
+]
+
+
+def variant(module, right, wrong):
+    """The function `solve` of the reference with one replacement."""
+    texts = {name: (ROOT / "reference" / (name + ".py")).read_text() for name in MODULES}
+    if texts[module].count(right) != 1:
+        sys.exit("not once in %s: %s" % (module, right))
+    texts[module] = texts[module].replace(right, wrong)
+    loaded = {name: sys.modules.get(name) for name in MODULES}
+    for name in MODULES:
+        sys.modules[name] = types.ModuleType(name)
+        exec(compile(texts[name], name, "exec"), sys.modules[name].__dict__)
+    solve_wrongly = sys.modules["solve"].solve
+    sys.modules.update({name: module for name, module in loaded.items() if module})
+    return solve_wrongly
+
+
+def too_long(*_):
+    raise TimeoutError
+
+
+def answer(solve_wrongly, file):
+    signal.alarm(SECONDS)
+    try:
+        return solve_wrongly(file)
+    except Exception as error:
+        return error
+    finally:
+        signal.alarm(0)
+
+
+def main():
+    rounds = int(sys.argv[1]) if len(sys.argv) > 1 else 60
+    signal.signal(signal.SIGALRM, too_long)
+    chosen = random.Random(5)
+    left = {name: variant(module, right, wrong) for module, right, wrong, name in VARIANTS}
+    for number in range(1, rounds + 1):
+        for kind in [*PROBLEMS, *DAMAGE]:
+            file = generate(chosen.randrange(10**6), kind)
+            expected = solve(file)
+            told = [name for name, solve_wrongly in left.items() if answer(solve_wrongly, file) != expected]
+            for name in told:
+                print("round %d, %s: %s" % (number, kind, name), flush=True)
+                del left[name]
+    for name in left:
+        print("not told apart: %s" % name)
+    print("%d of %d told apart" % (len(VARIANTS) - len(left), len(VARIANTS)))
+
+
+main()
