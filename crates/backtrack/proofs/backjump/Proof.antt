@@ -58,7 +58,7 @@ kept-count-requires c κs = search needs
 measure-requires : tie.Need-measure-requires
 measure-requires c κs =
     let t = c .before .before .before .before .take-back .ensures in
-    rw (c .before .before .before .kept-count .ensures) (c .before .before .before .before .before .before .before .before .before .before .pre .0 .fits, (t .0, t .1))
+    rw (c .before .before .before .kept-count .ensures) (c .before .before .before .before .before .before .before .before .before .before .pre .0 .fits, (omega (arith, t .0), t .1))
 
 mul-next-value : tie.Need-mul-next-value
 mul-next-value c = search needs

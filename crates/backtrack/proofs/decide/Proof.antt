@@ -1,8 +1,11 @@
 -- `backtrack::decide` meets its contract. Assumes nothing.
+use Prim.Native.Nat.{ℕ, _≤_, _<_}
 use native.Mathlib.Omega.{arith}
+use mathlib.Core.List.{List}
 use mathlib.Core.Path.{_≡_, _∙_}
 use denote.Ref.{now}
 use lib.Dec.{lit<}
+use lib.IntN.{ℤ}
 use lib.ListN.{length-set}
 use mir.Syntax.{w64}
 use mir.Val.{toZ, ofZ}
@@ -11,6 +14,7 @@ use Rattle.lists.proofs.Bools.{true-of}
 use Rattle.linear.proofs.Ranges.{lower-within}
 use Rattle.layout.specs.Rows.{numberIn}
 use Rattle.state.specs.View.{keptCuts}
+use Rattle.propagate.specs.Tracked.{Shiftable}
 use Rattle.propagate.proofs.Tracking.{shiftable, told-set, lowered-closes}
 use Rattle.backtrack.proofs.Moving.{decided-below, decided-fits, decided-settable}
 use Rattle.backtrack.proofs.Saving.{saved-decided}
@@ -61,13 +65,29 @@ mul-v c = search needs
 element-copy-out-v : tie.Need-element-copy-out-v
 element-copy-out-v c = search needs
 
+-- what holds of all kept constraints holds of fewer
+fewer : {k kept i : ℕ} {rise fall : ℤ} {rows activities : List ℤ} → k ≤ kept → Shiftable kept i rise fall rows activities → Shiftable k i rise fall rows activities
+fewer h s =
+    record {
+      count = omega (arith, s .count);
+      variable = s .variable;
+      coefficients = λ j l. s .coefficients j (omega arith);
+      sizes = λ j l. s .sizes j (omega arith);
+      up = s .up;
+      down = s .down;
+      room = s .room;
+    }
+
 lower-upper-requires : tie.Need-lower-upper-requires
-unfolding numberIn
+unfolding numberIn keptCuts
 lower-upper-requires c κs =
     let s = c .before .before .before .before .before .before .before .before .before .before .before .before .before in
     let p = s .pre in
-    rw (value s, c .before .before .before .before .before .before .before .before .before .before .before .before .kept-count .ensures)
-    (decided-settable _ _ _ _ _ _ _ (p .fits) (p .variable) (p .uppers), shiftable _ _ _ _ _ _ _ _ _ _ (p .fits) (p .tracked) (p .variable) (record { within = omega arith }) (decided-settable _ _ _ _ _ (now (s .args .above)) _ (p .fits) (p .variable) (p .uppers) .change))
+    rw (value s) (
+      decided-settable _ _ _ _ _ _ _ (p .fits) (p .variable) (p .uppers),
+      fewer (omega (arith, c .before .before .before .before .before .before .before .before .before .before .before .before .kept-count .ensures))
+          (shiftable _ _ _ _ _ _ _ _ _ _ (p .fits) (p .tracked) (p .variable) (record { within = omega arith }) (decided-settable _ _ _ _ _ (now (s .args .above)) _ (p .fits) (p .variable) (p .uppers) .change)),
+    )
 
 returns : tie.Need-returns
 unfolding numberIn
