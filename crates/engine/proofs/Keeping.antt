@@ -24,7 +24,8 @@ module _ (n m made : ℕ) (rows cut rows₁ : List ℤ) (few : n ≤ maxVariable
   by : ℕ
   by = droppedCuts (made + 1) - droppedCuts made
 
-  input : (j : ℕ) → j < m → rowAt n rows₁ j ≡ rowAt n rows j
+  -- the inputs stay where they are
+  pub input : (j : ℕ) → j < m → rowAt n rows₁ j ≡ rowAt n rows j
   input j h = sym (getD-tab (rowAt n rows₁) m j noConstraint h) ∙ ap (λ (ks : List Constraint). getD ks j noConstraint) (r .inputs n few) ∙ getD-tab (rowAt n rows) m j noConstraint h
 
   -- the cut in place k of the kept ones

@@ -20,6 +20,7 @@ use Rattle.state.specs.View.{keptCuts, storedNumber}
 use Rattle.propagate.specs.Masks.{bit, Mentions, Masked}
 use Rattle.analyze.specs.Storing.{RowKept, NumberKept}
 use Rattle.engine.specs.Tracking.{Marks}
+use Rattle.engine.proofs.Keeping.{input}
 
 -- the masks at the start
 pub masked-starts : (n m kept : ℕ) (rows : List ℤ) (inputs cuts : List ℕ) → m ≤ kept → Marks n 0 m rows inputs → Marks n m (kept - m) rows cuts → Masked n m kept rows inputs cuts
@@ -65,16 +66,13 @@ module _ (n m made : ℕ) (rows cut rows₁ : List ℤ) (mask : ℕ) (inputs cut
       rw (x, y) (covers n rows (rowLength * (m + q)) (getD cuts q 0) (v .cut q (omega arith))))
       (eq-or-lt-of-le h)
 
-  input : (j : ℕ) → j < m → rowAt n rows₁ j ≡ rowAt n rows j
-  input j h = sym (getD-tab (rowAt n rows₁) m j noConstraint h) ∙ ap (λ (ks : List Constraint). getD ks j noConstraint) (r .inputs n few) ∙ getD-tab (rowAt n rows) m j noConstraint h
-
   pub masked-kept : Masked n m (m + keptCuts (made + 1)) rows₁ inputs cuts₁
   unfolding rowAt storedNumber keptCuts
   masked-kept =
       record {
         inputRoom = v .inputRoom;
         cutRoom = k .size ∙ v .cutRoom;
-        input = λ j h. mentions n rows₁ (rowLength * j) (getD inputs j 0) (subst (λ (z : Constraint). Covers n z (getD inputs j 0)) (sym (input j h)) (covers n rows (rowLength * j) (getD inputs j 0) (v .input j h)));
+        input = λ j h. mentions n rows₁ (rowLength * j) (getD inputs j 0) (subst (λ (z : Constraint). Covers n z (getD inputs j 0)) (sym (input n m made rows cut rows₁ few r j h)) (covers n rows (rowLength * j) (getD inputs j 0) (v .input j h)));
         cut = λ p h.
             let l : p < keptCuts (made + 1) = omega arith in
             let q = keptCuts made + 1 - maxCuts + p in
