@@ -13,7 +13,7 @@ use Rattle.model.specs.Search as model
 use Rattle.model.specs.Search.{openProblem, openFile}
 use Rattle.model.specs.Points.{Point, points, Solution, First}
 use Rattle.model.specs.Step.{Verdict as ModelVerdict, Outcome, outOfBudget, solution, step, run}
-use Rattle.model.specs.Demand.{stateAfter, journal, withBudget, verdictWith, Decides, Agree, Steps, Accepted}
+use Rattle.model.specs.Demand.{stateAfter, journal, withBudget, verdictWith, Decides, Agree, SameSolutions, Steps, Accepted}
 use Rattle.problem.specs.declared.Answer.{Answer}
 use Rattle.problem.specs.declared.Answer.the-variants.{Done, Truncated, BadChecksum, BadMagic, SizeRange, DomainRange, CoefficientRange, NonzeroPadding, ShortBuffer, InvalidSearch}
 use Rattle.problem.specs.Answer.{number}
@@ -205,16 +205,18 @@ spent : (f : List ℕ) (q : Ran) → RunOf f q → verdictWith (problemIn f) (pr
 spent f q r e = run-of f q r .verdict ∙ ap caseOf (own f (r .fine) ∙ e) ∙ (unfold caseOf in refl)
 
 -- g's problem is f's under g's budget
+under-budget : (f g : List ℕ) {u : Ran} → RunOf g u → problemIn g ≡ withBudget (problemIn f) (problemIn g .budget) →
+    verdictWith (problemIn g) (problemIn g .budget) ≡ verdictWith (problemIn f) (problemIn g .budget)
+unfolding verdictWith
+under-budget f g s b = sym (own g (s .fine)) ∙ ap (λ (p : Problem). run (openProblem p) .verdict) b
+
 smaller-holds : (f g : List ℕ) (q u : Ran) → RunOf f q → RunOf g u → problemIn g ≡ withBudget (problemIn f) (problemIn g .budget) → problemIn g .budget ≤ problemIn f .budget →
     SameAnswer u q ⊎ (u .verdict ≡ verdict.OutOfBudget)
 smaller-holds f g q u r s b n = by (demand-3 .steps f (r .fine) .smaller (problemIn g .budget) (problemIn f .budget) n)
   where
-    same : verdictWith (problemIn g) (problemIn g .budget) ≡ verdictWith (problemIn f) (problemIn g .budget)
-    same = sym (own g (s .fine)) ∙ (unfold verdictWith in ap (λ (p : Problem). run (openProblem p) .verdict) b)
-
     by : ((verdictWith (problemIn f) (problemIn g .budget) ≡ verdictWith (problemIn f) (problemIn f .budget)) ⊎ (verdictWith (problemIn f) (problemIn g .budget) ≡ outOfBudget)) → SameAnswer u q ⊎ (u .verdict ≡ verdict.OutOfBudget)
-    by (inl e) = inl (same-answer g f u q s r (same ∙ e))
-    by (inr e) = inr (spent g u s (same ∙ e))
+    by (inl e) = inl (same-answer g f u q s r (under-budget f g s b ∙ e))
+    by (inr e) = inr (spent g u s (under-budget f g s b ∙ e))
 
 same-holds : (f g : List ℕ) (q u : Ran) → RunOf f q → RunOf g u → Agree (verdictWith (problemIn f) (problemIn f .budget)) (verdictWith (problemIn g) (problemIn g .budget)) →
     SameAnswer q u ⊎ ((q .verdict ≡ verdict.OutOfBudget) ⊎ (u .verdict ≡ verdict.OutOfBudget))
@@ -229,3 +231,31 @@ calls-hold =
       smaller = smaller-holds;
       same = λ f g q u r s e. same-holds f g q u r s (demand-3 .same f g (r .fine) (s .fine) e (problemIn f .budget) (problemIn g .budget));
     }
+
+-- ---- with budgets of at least the points neither answer is 'spent'
+not-spent : (f : List ℕ) (q : Ran) → RunOf f q → points (problemIn f .domain) ≤ problemIn f .budget → ¬ (q .verdict ≡ verdict.OutOfBudget)
+not-spent f q r n e =
+    let d = calls-hold .opening f (r .fine) (r .opened) (r .opens) q (r .runs) .decides n in
+    let s = d .else-first (λ h. impossible (cc)) .0 in
+    impossible (cc)
+
+-- the answer under another budget, smaller or larger, is that under one of at least the points, or 'spent'
+pub smaller-enough : (f g : List ℕ) (q u : Ran) → RunOf f q → RunOf g u → problemIn g ≡ withBudget (problemIn f) (problemIn g .budget) → points (problemIn f .domain) ≤ problemIn f .budget →
+    SameAnswer u q ⊎ (u .verdict ≡ verdict.OutOfBudget)
+smaller-enough f g q u r s b n =
+    ⊎-elim (λ (l : problemIn f .budget < problemIn g .budget). larger (demand-3 .steps f (r .fine) .smaller (problemIn f .budget) (problemIn g .budget) (omega arith)))
+    (λ (l : problemIn g .budget ≤ problemIn f .budget). smaller-holds f g q u r s b l) (lt-or-le (problemIn f .budget) (problemIn g .budget))
+  where
+    larger : ((verdictWith (problemIn f) (problemIn f .budget) ≡ verdictWith (problemIn f) (problemIn g .budget)) ⊎ (verdictWith (problemIn f) (problemIn f .budget) ≡ outOfBudget)) →
+        SameAnswer u q ⊎ (u .verdict ≡ verdict.OutOfBudget)
+    larger (inl e) = inl (same-answer g f u q s r (under-budget f g s b ∙ sym e))
+    larger (inr e) = absurd (not-spent f q r n (spent f q r e))
+
+pub same-enough : (f g : List ℕ) (q u : Ran) → RunOf f q → RunOf g u → SameSolutions (problemIn f) (problemIn g) → points (problemIn f .domain) ≤ problemIn f .budget →
+    points (problemIn g .domain) ≤ problemIn g .budget → SameAnswer q u
+same-enough f g q u r s e n k = by (calls-hold .same f g q u r s e)
+  where
+    by : SameAnswer q u ⊎ ((q .verdict ≡ verdict.OutOfBudget) ⊎ (u .verdict ≡ verdict.OutOfBudget)) → SameAnswer q u
+    by (inl x) = x
+    by (inr (inl x)) = absurd (not-spent f q r n x)
+    by (inr (inr x)) = absurd (not-spent g u s k x)
