@@ -9,7 +9,7 @@ pub(crate) fn tell_output(failed: bool) {
     }
 }
 
-// Whether standard input, of which nothing was read, failed; this is told. At its end it has no byte, and has not failed.
+// Whether standard input failed where reading stopped; this is told. At its end there is no further byte, and it has not failed.
 pub fn input_failed() -> bool {
     let mut byte = [0u8; 1];
     if libc::read(STDIN_FILENO, &mut byte) < 0 {

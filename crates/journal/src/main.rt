@@ -4,7 +4,7 @@ use libc::STDIN_FILENO;
 fn main() {
     let mut file = [0u8; console::INPUT_LENGTH];
     let read = io::read_full(STDIN_FILENO, &mut file);
-    if read == 0 {
+    if read < console::INPUT_LENGTH {
         if console::input_failed() {
             return;
         }
