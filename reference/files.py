@@ -12,9 +12,13 @@ MAX_CONSTRAINTS = 64
 MAX_BUDGET = 10**9
 MAX_BOUND = 2**20
 MAX_COEFFICIENT = 2**30
+MIN_DIVISOR = 2
+MAX_DIVISOR = 2**20
+DIVISOR_OFFSET = 132
 
 # The numbers of errors.
 TRUNCATED, BAD_CHECKSUM, BAD_MAGIC, SIZE_RANGE, DOMAIN_RANGE, COEFFICIENT_RANGE, NONZERO_PADDING = range(1, 8)
+DIVISOR_RANGE = 10
 
 
 class FileError(Exception):
@@ -27,10 +31,11 @@ class FileError(Exception):
 
 @dataclass
 class Constraint:
-    """constant + sum of coefficients times variables <= 0"""
+    """constant + sum of coefficients times variables <= 0; where the divisor is not 0, it divides that sum."""
 
     constant: int
     coefficients: list
+    divisor: int = 0
 
     @cached_property
     def terms(self):
@@ -83,13 +88,19 @@ def in_range(value, most):
     return -most <= value <= most
 
 
+def divisor_fits(divisor):
+    return divisor == 0 or MIN_DIVISOR <= divisor <= MAX_DIVISOR
+
+
 def problem_error(problem):
-    """The first error of a problem's values that a file of any length shows, or 0: domains before coefficients."""
+    """The first error of a problem's values that a file of any length shows, or 0: domains, coefficients, divisors."""
     if any(lower > upper or not in_range(lower, MAX_BOUND) or not in_range(upper, MAX_BOUND) for lower, upper in problem.limits):
         return DOMAIN_RANGE
     numbers = [number for c in problem.constraints for number in [c.constant] + c.coefficients]
     if any(not in_range(number, MAX_COEFFICIENT) for number in numbers):
         return COEFFICIENT_RANGE
+    if not all(divisor_fits(c.divisor) for c in problem.constraints):
+        return DIVISOR_RANGE
     return 0
 
 
@@ -106,7 +117,14 @@ def head_content(problem):
 
 
 def constraint_content(constraint):
-    return struct.pack("<%di" % (1 + len(constraint.coefficients)), constraint.constant, *constraint.coefficients)
+    numbers = struct.pack("<%di" % (1 + len(constraint.coefficients)), constraint.constant, *constraint.coefficients)
+    return numbers.ljust(DIVISOR_OFFSET, b"\0") + struct.pack("<i", constraint.divisor)
+
+
+def constraint_in(block, n):
+    """The constraint in its block, with n coefficients."""
+    constant, *coefficients = struct.unpack_from("<%di" % (1 + n), block)
+    return Constraint(constant, coefficients, *struct.unpack_from("<i", block, DIVISOR_OFFSET))
 
 
 def write_problem(problem):
@@ -115,9 +133,14 @@ def write_problem(problem):
     return b"".join(sealed(content, k) for k, content in enumerate(contents))
 
 
+def constraint_of(row):
+    """A row is a constraint, or the numbers of an inequality: its constant and its coefficients."""
+    return row if isinstance(row, Constraint) else Constraint(row[0], row[1:])
+
+
 def problem_file(budget, limits, rows):
-    """The file of these values, in range or not. A row is a constraint's constant and its coefficients; those it lacks are 0."""
-    return write_problem(Problem(limits, [Constraint(row[0], row[1:]) for row in rows], budget))
+    """The file of these values, in range or not. Coefficients that a row lacks are 0."""
+    return write_problem(Problem(limits, [constraint_of(row) for row in rows], budget))
 
 
 def resealed(data):
@@ -126,7 +149,7 @@ def resealed(data):
 
 
 def read_problem(data):
-    """The problem in a file; a FileError with the lowest number that applies where it is none."""
+    """The problem in a file; a FileError where it is none, with the first error in the order of reading."""
     if len(data) < BLOCK or len(data) % BLOCK:
         raise FileError(TRUNCATED)
     blocks = blocks_of(data)
@@ -139,8 +162,7 @@ def read_problem(data):
     if not sizes_fit(n, m, budget) or len(blocks) != 1 + m:
         raise FileError(SIZE_RANGE)
     limits = [struct.unpack_from("<ii", head, 12 + 8 * i) for i in range(n)]
-    rows = [struct.unpack_from("<%di" % (1 + n), block) for block in blocks[1:]]
-    problem = Problem(limits, [Constraint(row[0], list(row[1:])) for row in rows], budget)
+    problem = Problem(limits, [constraint_in(block, n) for block in blocks[1:]], budget)
     error = problem_error(problem)
     if error:
         raise FileError(error)

@@ -1,6 +1,6 @@
 """Generated files, for comparisons: `generate(seed, kind, budget)`. The same seed and kind give the same bytes.
 
-Problems, each a function of a random generator that gives domain bounds and rows (a constraint's constant, then its coefficients):
+Problems, each a function of a random generator that gives domain bounds and rows (an inequality's constant, then its coefficients; or a constraint):
   tiny, tinybig           small boxes; with small and with the largest coefficients
   rand                    sparse random constraints, some of them met by a hidden point
   pigeon, parity          pigeonhole problems; parities of the edges at each corner of a graph
@@ -9,13 +9,22 @@ Problems, each a function of a random generator that gives domain bounds and row
   blue, bluew             examination papers as blueprints: sections, marks, topics; larger and smaller
   heavy, small, dense     large coefficients, whose resolvents leave the range; pairs that say nearly equal, with few cuts and with many
   edges                   values at the edges of their ranges, or one beyond
+With divisor constraints:
+  div, divbig             small boxes; with small numbers, and with the largest divisors, coefficients and domain bounds
+  passage                 examination papers whose items are printed so many to a passage
+  sums                    equations, each as two inequalities, and what divides other sums of the same variables
+  residues                remainders that contradict each other, at once or only when all is decided; most have no solution
+  jumps                   pigeonhole problems with divisors: both sorts of conflicts far down, and cuts that go back over many levels
+  divisor_edges           divisors at the edges of their range, or one beyond
 
 Damage, each a function of a random generator and of a function that gives a good file:
   cut, long, random_bytes, changed
+  wrong_divisor           a divisor out of range, alone or beside other errors
 """
 import random
 
-from files import BLOCK, MAX_BOUND, MAX_BUDGET, MAX_COEFFICIENT, head_fields, problem_file, resealed
+from files import (BLOCK, CONTENT, DIVISOR_OFFSET, MAX_BOUND, MAX_BUDGET, MAX_COEFFICIENT, MAX_DIVISOR, Constraint, head_fields,
+                   problem_file, resealed)
 
 LONGEST_INPUT = 65536
 BUDGETS = [0, 1, 2, 5, 20, 63, 64, 65, 66, 130, 500]
@@ -204,6 +213,105 @@ def edges(rnd):
     return limits, [[rnd.choice(ends) + rnd.choice([0, 0, 0, 0, 1, -1]) for _ in range(n + 1)] for _ in range(m)]
 
 
+# ---- problems with divisor constraints
+
+def multiple(rnd, q, numbers, point):
+    """q divides the sum of numbers times variables plus a constant, so that the point meets it; one in eight misses."""
+    return Constraint(q * rnd.randint(-2, 2) - value(numbers, point) + (rnd.random() < 0.12), numbers, q)
+
+
+def some_of(rnd, n, most):
+    """1 for up to so many of n variables, 0 for the others."""
+    chosen = rnd.sample(range(n), rnd.randint(1, min(most, n)))
+    return [1 if i in chosen else 0 for i in range(n)]
+
+
+def div(rnd):
+    """Random rows, some with a divisor, some twice: with a divisor and then without."""
+    limits, rows = tiny(rnd, 4)
+    chosen = []
+    for row in rows:
+        sort = rnd.randrange(4)
+        chosen += [Constraint(row[0], row[1:], rnd.choice([2, 3, 4, 5, 6, 7, 12]))] * (sort > 0) + [row] * (sort < 2)
+    return limits, chosen
+
+
+def divbig(rnd):
+    n = rnd.randint(1, 4)
+    lows = [rnd.choice([-MAX_BOUND, MAX_BOUND - 9, 0]) for _ in range(n)]
+    limits = [(low, min(MAX_BOUND, low + rnd.choice([0, 1, 3, 9, 2 * MAX_BOUND]))) for low in lows]
+    point = some_point(rnd, limits)
+    rows = []
+    for _ in range(rnd.randint(1, 4)):
+        q = rnd.choice([2, 6, 999983, MAX_DIVISOR - 1, MAX_DIVISOR, MAX_DIVISOR])
+        numbers = [rnd.choice([0, 1, q, MAX_DIVISOR // 2, MAX_COEFFICIENT, rnd.randint(1, MAX_COEFFICIENT)]) * rnd.choice([1, -1]) for _ in range(n)]
+        # A multiple of q away from the value at the point, if it is in range.
+        rows.append(Constraint(-value(numbers, point) % q + rnd.choice([0, 0, 0, -q, 1]), numbers, q))
+    return limits, rows + [[rnd.randint(-9, 9) - value(numbers, point)] + numbers for numbers in [some_of(rnd, n, n)]]
+
+
+def passage(rnd):
+    n, q = rnd.randint(3, 10), rnd.choice([3, 4, 5, 5, 5, 6])
+    limits = [(0, rnd.randint(2, 3 * q)) for _ in range(n)]
+    point = some_point(rnd, limits)
+    rows = [Constraint(rnd.choice([0, 0, 0, 1]), some_of(rnd, n, 3), q) for _ in range(rnd.randint(1, 4))]
+    for numbers in [[1] * n, [rnd.randint(1, 4) for _ in range(n)]]:
+        middle = value(numbers, point)
+        rows += between(numbers, middle - rnd.randint(0, q), middle + rnd.randint(0, q))
+    rnd.shuffle(rows)
+    return limits, rows
+
+
+def sums(rnd):
+    limits = some_box(rnd, rnd.randint(2, 7), 8)
+    point = some_point(rnd, limits)
+    rows = []
+    for _ in range(rnd.randint(1, 3)):
+        numbers = [rnd.randint(-3, 9) for _ in limits]
+        rows += equation(numbers, value(numbers, point))
+        rows.append(multiple(rnd, rnd.choice([2, 3, 5, 7, 16]), [rnd.randint(-6, 6) for _ in limits], point))
+    rnd.shuffle(rows)
+    return limits, rows
+
+
+def residues(rnd):
+    """A ring of neighbours whose differences have remainders; they add up to 0 by chance only. Sometimes one sum that q cannot divide."""
+    q, n = rnd.choice([2, 2, 3, 4, 5]), rnd.randint(2, 6)
+    rows = []
+    for i in range(n):
+        numbers = [0] * n
+        numbers[i], numbers[(i + 1) % n] = 1, -1
+        rows.append(Constraint(rnd.randint(-q, q), numbers, q))
+    if rnd.random() < 0.25:
+        rows.insert(rnd.randint(0, n), Constraint(rnd.randint(1, 9), [4 * rnd.randint(-2, 2) for _ in range(n)], 2 * rnd.randint(1, 6)))
+    return some_box(rnd, n, q), rows
+
+
+def jumps(rnd):
+    """Pigeons in holes, with what divides the number of some seats taken."""
+    limits, rows = pigeon(rnd)
+    for _ in range(rnd.randint(1, 3)):
+        numbers = [rnd.randint(1, 2) * (rnd.random() < 0.3) for _ in limits]
+        rows.insert(rnd.randint(0, len(rows)), Constraint(rnd.randint(-3, 3), numbers, rnd.choice([2, 2, 3, 4])))
+    return limits, rows
+
+
+DIVISOR_EDGES = [2, MAX_DIVISOR, MAX_DIVISOR, 0, 1, -1, -2, MAX_DIVISOR + 1, -MAX_DIVISOR, 2**31 - 1, -(2**31)]
+
+
+def divisor_edges(rnd):
+    """Most often with all divisors in range."""
+    n, good = rnd.choice([1, 2, 31, 32]), rnd.random() < 0.6
+    limits = [(0, rnd.randint(0, 2)) for _ in range(n)]
+    choices = DIVISOR_EDGES[:4] if good else DIVISOR_EDGES
+    ends = [0, 1, 1, 2, MAX_DIVISOR, MAX_DIVISOR // 2, MAX_COEFFICIENT]
+    rows = []
+    for _ in range(rnd.randint(1, 3)):
+        numbers = [rnd.choice(ends) * rnd.choice([1, -1]) for _ in range(n)]
+        rows.append(Constraint(rnd.choice(ends), numbers, rnd.choice(choices)))
+    return limits, rows
+
+
 # ---- damage
 
 def maybe_resealed(rnd, data):
@@ -241,15 +349,43 @@ def changed(rnd, good):
     return maybe_resealed(rnd, bytes(data))
 
 
+WRONG_DIVISORS = [1, -1, -5, MAX_DIVISOR + 1, 2**31 - 1, -(2**31)]
+
+
+def put_number(data, place, number):
+    data[place : place + 4] = number.to_bytes(4, "little", signed=True)
+
+
+def wrong_divisor(rnd, good):
+    """A divisor out of range; often beside limits, coefficients or padding that are wrong too, in the same block or another. The checks are right."""
+    data = bytearray(good())
+    while len(data) < 2 * BLOCK:
+        data = bytearray(good())
+
+    def some_block():
+        return rnd.randrange(1, len(data) // BLOCK) * BLOCK
+
+    if rnd.random() < 0.9:
+        put_number(data, some_block() + DIVISOR_OFFSET, rnd.choice(WRONG_DIVISORS))
+    if rnd.random() < 0.2:
+        put_number(data, some_block(), rnd.choice([1, -1]) * (MAX_COEFFICIENT + 1))
+    if rnd.random() < 0.3:
+        # Just before the divisor (a coefficient where there are 32 variables), just after it, and before the check.
+        data[some_block() + rnd.choice([DIVISOR_OFFSET - 4, DIVISOR_OFFSET + 4, CONTENT - 1])] ^= 1
+    if rnd.random() < 0.1:
+        put_number(data, 12, MAX_BOUND + 1)
+    return resealed(bytes(data))
+
+
 # ---- by name
 
 def by_name(*functions):
     return {function.__name__: function for function in functions}
 
 
-FAMILIES = by_name(tiny, tinybig, rand, pigeon, parity, market, knap, frob, creep, creepn, creepd, blue, bluew)
-PROBLEMS = {**FAMILIES, **by_name(heavy, small, dense, edges)}
-DAMAGE = by_name(cut, long, random_bytes, changed)
+FAMILIES = by_name(tiny, tinybig, rand, pigeon, parity, market, knap, frob, creep, creepn, creepd, blue, bluew, div, divbig, passage)
+PROBLEMS = {**FAMILIES, **by_name(heavy, small, dense, edges, sums, residues, jumps, divisor_edges)}
+DAMAGE = by_name(cut, long, random_bytes, changed, wrong_divisor)
 
 
 def some_budget(rnd, kind):

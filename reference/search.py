@@ -2,7 +2,7 @@
 from dataclasses import dataclass, field, replace
 from math import gcd
 
-from files import MAX_BOUND, MAX_COEFFICIENT, Constraint, Record, in_range, sizes_fit, write_record
+from files import MAX_BOUND, MAX_COEFFICIENT, Constraint, Record, divisor_fits, in_range, sizes_fit, write_record
 
 KEPT_CUTS = 64
 
@@ -74,13 +74,25 @@ def activity(constraint, level):
     return constraint.constant + sum(a * (level.lower[i] if a > 0 else level.upper[i]) for i, a in constraint.terms)
 
 
+def open_divisor(constraint, level):
+    """The gcd of the divisor and the coefficients of the open variables."""
+    return gcd(constraint.divisor, *(a for i, a in constraint.terms if level.lower[i] < level.upper[i]))
+
+
+def rest(constraint, level):
+    """The constant, and the terms of the variables that have one value."""
+    return constraint.constant + sum(a * level.lower[i] for i, a in constraint.terms if level.lower[i] == level.upper[i])
+
+
 def falsified(constraint, level):
+    if constraint.divisor:
+        return rest(constraint, level) % open_divisor(constraint, level) != 0
     return activity(constraint, level) > 0
 
 
 def rounded(constraint):
     h = gcd(*constraint.coefficients)
-    if h == 0:
+    if h == 0 or constraint.divisor:
         return constraint
     return Constraint(ceil_div(constraint.constant, h), [a // h for a in constraint.coefficients])
 
@@ -113,7 +125,9 @@ def first_falsified(kept, level):
 
 
 def improve(number, constraint, level):
-    """Sets the first bound that the constraint improves; whether there is one."""
+    """Sets the first bound that the constraint improves; whether there is one. A divisor constraint implies no bound."""
+    if constraint.divisor:
+        return False
     whole = activity(constraint, level)
     for i, a in constraint.terms:
         if a > 0:
@@ -171,7 +185,7 @@ def analyze(search, f):
     for i in reversed(range(len(used))):
         number = reason_used(f, i, level)
         j = kept.get(number)
-        if j is None or f.coefficients[i] * j.coefficients[i] >= 0:
+        if j is None or j.divisor or f.coefficients[i] * j.coefficients[i] >= 0:
             continue
         outcome = resolvent(f, j, i)
         if constraint_in_range(outcome) and falsified(outcome, level):
@@ -199,13 +213,27 @@ def back_up(search, d):
     level.lower_reason[variable] = FLIPPED
 
 
+def learn(search, f):
+    """The cut's number, the cut, and the constraints resolved with. From a divisor constraint nothing is learned: all are 0."""
+    if f.divisor:
+        zeros = [0] * len(f.coefficients)
+        return 0, Constraint(0, zeros), zeros
+    cut, used = analyze(search, f)
+    return keep(search, cut), cut, used
+
+
+def backjump_level(search, constraint):
+    """The least depth whose level falsifies the constraint."""
+    return next(e for e, level in enumerate(search.levels) if falsified(constraint, level))
+
+
 def conflict(search, number):
     """Counts a conflict at the falsified constraint with this number, and goes back: d, and the journal record."""
     search.conflicts += 1
     depth = search.depth
-    cut, used = analyze(search, dict(search.kept())[number])
-    cut_number = keep(search, cut)
-    d = next(e for e, level in enumerate(search.levels) if falsified(cut, level))
+    f = dict(search.kept())[number]
+    cut_number, cut, used = learn(search, f)
+    d = backjump_level(search, f if f.divisor else cut)
     if d == 0:
         search.status = INFEASIBLE
     else:
@@ -278,6 +306,8 @@ def valid(search):
     if not (sizes_fit(n, m, search.budget) and search.depth <= n and search.made <= search.conflicts <= search.budget):
         return False
     if not all(constraint_in_range(constraint) for _, constraint in search.kept()):
+        return False
+    if not all(divisor_fits(constraint.divisor) for constraint in search.inputs):
         return False
     if [number for number, _ in search.cuts] != list(range(last - min(search.made, KEPT_CUTS) + 1, last + 1)):
         return False

@@ -3,12 +3,13 @@
 
     scripts/compare_solvers.py VERDICT [--limit SECONDS] [--solvers glpsol,cbc,z3,cvc5] [--random N] [--seed S] [PLAN ..]
 
-N small random problems come after the plans. All go to glpsol and cbc as LP, to z3 and cvc5 as SMT-LIB 2. Each answers 'solution' or 'none', or is
+VERDICT is the program, with arguments or without, in one word. N small random problems, a third of their constraints with a divisor, come after the plans. All go to glpsol and cbc as LP, to z3 and cvc5 as SMT-LIB 2. Each answers 'solution' or 'none', or is
 stopped after the limit (20 s). Where `verdict` gives a solution, the SMT solvers are also asked for one that comes earlier in dictionary order: 'first'
 says that there is none. The exit status is 1 where some answer disagrees.
 """
 import argparse
 import random
+import shlex
 import shutil
 import subprocess
 import sys
@@ -68,7 +69,7 @@ def column(solver, problem, ours, values, limit):
 
 def verdict_of(program, plan):
     """solution, none or spent; and the values of a solution."""
-    printed = subprocess.run([program], input=plan, stdout=subprocess.PIPE, check=True).stdout.decode().splitlines()
+    printed = subprocess.run(shlex.split(program), input=plan, stdout=subprocess.PIPE, check=True).stdout.decode().splitlines()
     words = printed[-2].split()
     return words[0], [int(word) for word in words[1:]]
 
@@ -82,7 +83,8 @@ def small_problem(source):
         coefficients = [source.choice([0, 0, source.randint(-6, 6)]) for _ in limits]
         point = [source.randint(*pair) for pair in limits]
         distance = source.choice([0, source.randint(-3, 6)])
-        constraints.append(Constraint(distance - sum(a * v for a, v in zip(coefficients, point)), coefficients))
+        divisor = source.choice([0, 0, source.choice([2, 3, 4, 5, 12])])
+        constraints.append(Constraint(distance - sum(a * v for a, v in zip(coefficients, point)), coefficients, divisor))
     return Problem(limits, constraints, 1000000)
 
 

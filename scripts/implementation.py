@@ -1,8 +1,9 @@
 """Where the scripts' expectations come from: this repository's reference/, or another program that implements docs/SPECIFICATION.md.
 
-A PROGRAM is called as `PROGRAM verdict` and `PROGRAM journal` with a problem file on standard input. The first prints what the program `verdict` prints, the
-second the journal's bytes, or each record in hexadecimal, one to a line.
+A PROGRAM, with arguments of its own or without, in one word, is called as `PROGRAM verdict` and `PROGRAM journal` with a problem file on standard input. The
+first prints what the program `verdict` prints, the second the journal's bytes, or each record in hexadecimal, one to a line.
 """
+import shlex
 import subprocess
 import sys
 from pathlib import Path
@@ -24,8 +25,9 @@ def expected(program, file):
     """The text of `verdict` and the bytes of `journal`, by the program, or by reference/ where it is None."""
     if program is None:
         return solve.solve(file)
-    text = run([program, "verdict"], file).decode()
+    command = shlex.split(program)
+    text = run(command + ["verdict"], file).decode()
     if text.startswith("refused"):
         return text, b""
-    journal = run([program, "journal"], file)
+    journal = run(command + ["journal"], file)
     return text, journal if journal.startswith(RECORD_MAGIC) else bytes.fromhex(journal.decode())

@@ -5,7 +5,7 @@
     scripts/journal.py [--names model.lp] --svg < journal > journal.svg
 
 The text has two lines for each conflict: the falsified constraint, the depth met and the backjump level; the cut as an inequality and what it was
-resolved from, in order. Variables are v1, v2 and so on; with --names they and the rows have their names in the LP text that the problem was made
+resolved from, in order, or that nothing was learned, which is so at a divisor constraint. Variables are v1, v2 and so on; with --names they and the rows have their names in the LP text that the problem was made
 from. In the picture depth goes downward and time from left to right; a browser shows a conflict's two lines when the pointer is over its column.
 """
 import argparse
@@ -60,7 +60,10 @@ def conflict_text(record, names):
 
 
 def cut_text(record, names):
-    """The cut, and the constraints that it was resolved from: first the falsified one, then from the last variable to the first."""
+    """The cut, and the constraints that it was resolved from: first the falsified one, then from the last variable to the first. A conflict on a divisor
+    constraint has none."""
+    if record.cut_number == 0:
+        return "no cut: nothing is learned from a divisor constraint"
     pairs = reversed(list(zip(record.used, names.variables)))
     resolved = [" with %d at %s" % (number, name) for number, name in pairs if number]
     return "cut %d: %s <= %d, from %d%s" % (
@@ -152,11 +155,15 @@ def arrow(x, start, end, color, width):
     return line + '<path d="M%.2f %.1fl%.2f %.2fh%.2fz" fill="%s"/>' % (x, end, -size, 1.6 * size, 2 * size, color)
 
 
-def mark(x, y, width):
-    """A conflict; an upright stroke where a circle would be too small to see."""
+def mark(x, y, width, cut=True):
+    """A conflict, hollow without a cut; an upright stroke, short without a cut, where a circle would be too small to see."""
     if width < 10:
-        return '<rect x="%.2f" y="%.1f" width="%.2f" height="10" fill="%s"/>' % (x - width * 0.35, y - 5, width * 0.7, RED)
-    return '<circle cx="%.2f" cy="%.1f" r="%.2f" fill="%s"/>' % (x, y, min(7, width * 0.3), RED)
+        height = 10 if cut else 4
+        return '<rect x="%.2f" y="%.1f" width="%.2f" height="%d" fill="%s"/>' % (x - width * 0.35, y - height / 2, width * 0.7, height, RED)
+    radius = min(7, width * 0.3)
+    if cut:
+        return '<circle cx="%.2f" cy="%.1f" r="%.2f" fill="%s"/>' % (x, y, radius, RED)
+    return '<circle cx="%.2f" cy="%.1f" r="%.2f" fill="white" stroke="%s" stroke-width="2"/>' % (x, y, radius - 1, RED)
 
 
 def draw_conflict(picture, column, record):
@@ -171,11 +178,12 @@ def draw_conflict(picture, column, record):
         color = STEP if record.back == record.depth else JUMP
         line = min(3, max(1.4, width * 0.2))
         picture.pieces.append(arrow(x + width - line, middle + picture.row * 0.3, picture.y(record.back - 1, column), color, line))
-    picture.pieces.append((mark(x + width * 0.45, middle, width) if record.back else end_mark(x + width * 0.45, middle)) + "</g>")
+    shape = mark(x + width * 0.45, middle, width, record.cut_number > 0) if record.back else end_mark(x + width * 0.45, middle)
+    picture.pieces.append(shape + "</g>")
 
 
 def end_mark(x, y):
-    """The conflict whose cut is falsified at level 0."""
+    """The conflict whose cut, or divisor constraint, is falsified at level 0."""
     return ('<rect x="%.1f" y="%.1f" width="16" height="16" rx="2" fill="%s"/><path d="M%.1f %.1fl8 8m0 -8l-8 8" stroke="white" stroke-width="2"/>'
             % (x - 8, y - 8, DARK, x - 4, y - 4))
 
@@ -212,17 +220,21 @@ def draw_legend(picture):
     picture.text(LEFT, 30, "The search: " + ", ".join(what), 'class="b"')
     box = '<rect x="-9" y="52" width="18" height="14" rx="3" fill="hsl(208,60%,80%)"/>'
     marks = [(box, "level, while it stands" + ("; its end: back by one level" if picture.narrow else "")), (mark(0, 59, picture.column), "conflict")]
+    if any(record.cut_number == 0 for record in picture.records):
+        marks.append((mark(0, 59, picture.column, False), "conflict on a divisor, no cut"))
     if not picture.narrow:
         marks.append((arrow(0, 68, 50, STEP, 3), "back by one level"))
     if jumps:
         marks.append((arrow(0, 68, 50, JUMP, 3), "backjump over more"))
     if picture.over:
-        marks.append((end_mark(0, 59), "cut falsified at level 0: no solution"))
+        last = "cut" if picture.records[-1].cut_number else "divisor constraint"
+        marks.append((end_mark(0, 59), last + " falsified at level 0: no solution"))
     x = LEFT + 9
     for shape, text in marks:
         picture.add('<g transform="translate(%.1f 0)">%s</g>', x, shape)
         picture.text(x + 16, 64, text)
         x += 46 + 7.4 * len(text)
+    picture.width = max(picture.width, x)
 
 
 def draw_list(picture):

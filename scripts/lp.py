@@ -3,6 +3,9 @@ scripts/problem.py is the command.
 
 LP lets lines break anywhere. Here a right side ends with its line once it is complete, because a right side may hold variables, and
 `x <= 5` with `y >= 2` on the next line must stay two rows. Where another reader could see something else, the text is refused.
+
+LP has no divisor constraints. `5 | x + y + 2` is an equation with a whole variable of its own, `x + y + 2 = 5 k`, where `k` is `free` in Bounds and stands in
+no other row: every reader of LP sees the same solutions in x and y. Such a variable is none of the problem's; its coefficient, of either sign, is the divisor.
 """
 import re
 import sys
@@ -11,7 +14,8 @@ from fractions import Fraction
 from pathlib import Path
 
 sys.path.insert(0, str(Path(__file__).resolve().parent.parent / "reference"))
-from files import MAX_BOUND, MAX_BUDGET, MAX_COEFFICIENT, MAX_CONSTRAINTS, MAX_VARIABLES, Constraint, Problem, in_range
+from files import (MAX_BOUND, MAX_BUDGET, MAX_COEFFICIENT, MAX_CONSTRAINTS, MAX_DIVISOR, MAX_VARIABLES, MIN_DIVISOR, Constraint, Problem,
+                   in_range)
 
 DEFAULT_BUDGET = 1000000
 
@@ -52,22 +56,39 @@ class Token:
 
 
 @dataclass
+class Row:
+    """A row's line, its name or "", its sides, and the comparisons between them. A side is terms: coefficients by name, the constant under ""."""
+
+    line: int
+    label: str
+    sides: list
+    senses: list
+
+    def mentions(self, name):
+        return any(name in side for side in self.sides)
+
+
+@dataclass
 class Model:
-    """What the text says so far. `general` and `binary` have the lines of their variables, `seen` where each name was first used,
-    `lower` and `upper` pairs of value and line, `rows` line, label and terms of each constraint. Terms are coefficients by name, the constant
-    under "", and mean that their sum is at most 0."""
+    """What the text says so far. `general` and `binary` have the lines of their variables, `seen` where each name was first used, `free` where it is
+    said to be free, `lower` and `upper` pairs of value and line."""
 
     general: dict = field(default_factory=dict)
     binary: dict = field(default_factory=dict)
     seen: dict = field(default_factory=dict)
+    free: dict = field(default_factory=dict)
     lower: dict = field(default_factory=dict)
     upper: dict = field(default_factory=dict)
     rows: list = field(default_factory=list)
     budget: int = None
 
-    def variables(self):
-        """Those of General and then those of Binary: what comes first in dictionary order."""
+    def whole(self):
+        """The variables of General and then those of Binary."""
         return {**self.general, **self.binary}
+
+    def variables(self):
+        """Without those that stand for multiples of a divisor. Their order decides what comes first in dictionary order."""
+        return {name: line for name, line in self.whole().items() if name not in self.free}
 
 
 def whole(text, line):
@@ -207,20 +228,6 @@ def check_end(cursor, sides):
         raise LpError(after.line, "'%s' after the end of a row: a row without a name begins a line" % after.text)
 
 
-def add_row(line, label, sides, senses, model):
-    """A row as one constraint, or as two whose labels tell them apart."""
-    for place, sense in enumerate(senses):
-        left, right = sides[place], sides[place + 1]
-        for kind in "<>" if sense == "=" else sense:
-            # In 2 <= x + y <= 8 the first comparison is x + y >= 2, seen from the sum.
-            seen = {"<": ">", ">": "<"}[kind] if len(senses) == 2 and place == 0 else kind
-            two = len(senses) == 2 or sense == "="
-            terms = difference(left, right) if kind == "<" else difference(right, left)
-            model.rows.append((line, "%s %s=" % (label, seen) if label and two else label, terms))
-    if len(model.rows) > MAX_CONSTRAINTS:
-        raise LpError(line, "with this row there are more than %d constraints ('=' and two comparisons count as two)" % MAX_CONSTRAINTS)
-
-
 def read_row(cursor, model):
     """A row, with a name or without one."""
     line, label = cursor.peek().line, ""
@@ -237,7 +244,7 @@ def read_row(cursor, model):
     check_end(cursor, sides)
     if len(set(senses)) > 1 or senses == ["=", "="]:
         raise LpError(line, "a row with two comparisons needs <= twice or >= twice")
-    add_row(line, label, sides, senses, model)
+    model.rows.append(Row(line, label, sides, senses))
 
 
 def read_objective(cursor, model):
@@ -280,8 +287,10 @@ def is_variable(part):
 def read_bound(tokens, model):
     """One line of the section Bounds: a variable with one number or one on each side."""
     line = tokens[0].line
-    if len(tokens) == 2 and tokens[1].text.lower() == "free":
-        raise LpError(line, "'%s free' has no limits, and both must be finite" % tokens[0].text)
+    if len(tokens) == 2 and tokens[0].kind == "name" and tokens[1].text.lower() == "free":
+        model.seen.setdefault(tokens[0].text, line)
+        model.free.setdefault(tokens[0].text, line)
+        return
     parts, senses = [[]], []
     for token in tokens:
         if token.kind == "sense":
@@ -310,15 +319,13 @@ def read_bounds(cursor, model):
         read_bound(tokens, model)
 
 
-def read_names(cursor, section, model):
+def read_names(cursor, section):
     """The variables of a section, General or Binary."""
     while not cursor.section_over():
         token = cursor.take()
         if token.kind != "name":
             raise LpError(token.line, "a variable's name is expected in place of '%s'" % token.text)
         section.setdefault(token.text, token.line)
-        if len(model.variables()) > MAX_VARIABLES:
-            raise LpError(token.line, "%s is one variable more than the %d that a problem may have" % (token.text, MAX_VARIABLES))
 
 
 def read_rows(cursor, model):
@@ -336,7 +343,7 @@ def read_sections(cursor, model):
         elif token.kind == "bounds":
             read_bounds(cursor, model)
         elif token.kind in ("general", "binary"):
-            read_names(cursor, model.general if token.kind == "general" else model.binary, model)
+            read_names(cursor, model.general if token.kind == "general" else model.binary)
         elif token.kind == "refused":
             raise LpError(token.line, "a problem has no section '%s'" % token.text)
         elif token.kind == "nothing":
@@ -347,6 +354,27 @@ def read_sections(cursor, model):
         raise LpError(cursor.peek().line, "'%s' stands after 'End'" % cursor.peek().text)
     if not model.variables():
         raise LpError(token.line, "there is no variable: name them in a section General or Binary")
+
+
+def check_variables(model):
+    """Every name is whole, and there is not one too many."""
+    for name, line in model.seen.items():
+        if name not in model.whole():
+            raise LpError(line, "%s is not known as whole: it is in no section General or Binary" % name)
+    for name, line in list(model.variables().items())[MAX_VARIABLES:]:
+        raise LpError(line, "%s is one variable more than the %d that a problem may have" % (name, MAX_VARIABLES))
+
+
+def check_free(model):
+    """A free variable has no limits and stands in one row."""
+    for name, line in model.free.items():
+        if name in model.binary:
+            raise LpError(line, "%s is binary, so its limits are 0 and 1 and no others" % name)
+        if name in model.lower or name in model.upper:
+            raise LpError(line, "%s is free and has limits too" % name)
+        lines = [row.line for row in model.rows if row.mentions(name)]
+        if len(lines) != 1:
+            raise LpError(lines[1] if lines else line, "%s is free: it must stand in one row, an equation, whose divisor it gives" % name)
 
 
 def limits_of(name, model):
@@ -363,24 +391,63 @@ def limits_of(name, model):
     return lower, upper
 
 
-def constraint_of(line, terms, names):
+def inequalities_of(row):
+    """The terms whose sum is at most 0: of one inequality, or of two whose labels tell them apart."""
+    for place, sense in enumerate(row.senses):
+        left, right = row.sides[place], row.sides[place + 1]
+        for kind in "<>" if sense == "=" else sense:
+            # In 2 <= x + y <= 8 the first comparison is x + y >= 2, seen from the sum.
+            seen = {"<": ">", ">": "<"}[kind] if len(row.senses) == 2 and place == 0 else kind
+            two = len(row.senses) == 2 or sense == "="
+            terms = difference(left, right) if kind == "<" else difference(right, left)
+            yield "%s %s=" % (row.label, seen) if row.label and two else row.label, terms
+
+
+def divided(row, free):
+    """The divisor of a row with free variables, and the terms that it divides."""
+    if row.senses != ["="] or len(free) > 1:
+        raise LpError(row.line, "%s is free: this row must be an equation with no other free variable" % free[0])
+    terms = difference(*row.sides)
+    divisor = abs(terms.pop(free[0]))
+    if not MIN_DIVISOR <= divisor <= MAX_DIVISOR:
+        raise LpError(row.line, "%s is free, and its coefficient in this row is the divisor %d, out of range: it must lie in 2 to 2^20" % (free[0], divisor))
+    return divisor, terms
+
+
+def constraints_of(row, names, model):
+    """The constraints that a row says, with their labels."""
+    if free := [name for name in model.free if row.mentions(name)]:
+        divisor, terms = divided(row, free)
+        return [(row.label, constraint_of(row.line, terms, names, divisor))]
+    return [(label, constraint_of(row.line, terms, names)) for label, terms in inequalities_of(row)]
+
+
+def labelled_constraints(names, model):
+    constraints = []
+    for row in model.rows:
+        constraints += constraints_of(row, names, model)
+        if len(constraints) > MAX_CONSTRAINTS:
+            raise LpError(row.line, "with this row there are more than %d constraints ('=' and two comparisons count as two)" % MAX_CONSTRAINTS)
+    return constraints
+
+
+def constraint_of(line, terms, names, divisor=0):
     """A row's constraint, in range."""
     for name, value in terms.items():
         if not in_range(value, MAX_COEFFICIENT):
             what = "coefficient of %s" % name if name else "constant"
             raise LpError(line, "the %s in this row is %d, out of range: it must lie in -2^30 to 2^30" % (what, value))
-    return Constraint(terms.get("", 0), [terms.get(name, 0) for name in names])
+    return Constraint(terms.get("", 0), [terms.get(name, 0) for name in names], divisor)
 
 
 def read_lp(text):
     """The problem that a text says, its variables' names and its constraints' labels; an LpError where it says none."""
     model = Model()
     read_sections(Cursor(tokens_of(text, model)), model)
+    check_variables(model)
+    check_free(model)
     names = list(model.variables())
-    for name, line in model.seen.items():
-        if name not in names:
-            raise LpError(line, "%s is not known as whole: it is in no section General or Binary" % name)
     limits = [limits_of(name, model) for name in names]
-    constraints = [constraint_of(line, terms, names) for line, _, terms in model.rows]
-    problem = Problem(limits, constraints, DEFAULT_BUDGET if model.budget is None else model.budget)
-    return problem, names, [label for _, label, _ in model.rows]
+    constraints = labelled_constraints(names, model)
+    problem = Problem(limits, [constraint for _, constraint in constraints], DEFAULT_BUDGET if model.budget is None else model.budget)
+    return problem, names, [label for label, _ in constraints]

@@ -18,8 +18,15 @@ def variables_of(problem):
     return ["v%d" % (i + 1) for i in range(len(problem.limits))]
 
 
-def row_text(constraint, names):
-    """The constraint as an inequality. LP wants a variable in each row, so an empty sum is 0 times the first one."""
+def multiplier(number):
+    """The free variable of the divisor constraint with this number."""
+    return "k%d" % number
+
+
+def row_text(number, constraint, names):
+    """An inequality, or the equation of a divisor constraint. LP wants a variable in each row, so an empty sum is 0 times the first one."""
+    if constraint.divisor:
+        return "%s = %d" % (sum_text(constraint.coefficients + [-constraint.divisor], names + [multiplier(number)]), -constraint.constant)
     left = sum_text(constraint.coefficients, names)
     return "%s <= %d" % ("0 " + names[0] if left == "0" else left, -constraint.constant)
 
@@ -30,9 +37,12 @@ def wrapped(text):
 
 
 def write_lp(problem):
-    """The problem as LP, variables v1 to vn. The objective names every variable, so that each reader has them in this order."""
+    """The problem as LP, variables v1 to vn; a divisor constraint is an equation with a free variable of its own. The objective names every variable of
+    the problem, so that each reader has them first and in this order."""
     names = variables_of(problem)
+    multipliers = [multiplier(k) for k, c in enumerate(problem.constraints, 1) if c.divisor]
     lines = ["\\ budget %d" % problem.budget, "Minimize", wrapped("obj: " + " + ".join("0 " + name for name in names)), "Subject To"]
-    lines += [wrapped("c%d: %s" % (k, row_text(c, names))) for k, c in enumerate(problem.constraints, 1)]
+    lines += [wrapped("c%d: %s" % (k, row_text(k, c, names))) for k, c in enumerate(problem.constraints, 1)]
     lines += ["Bounds"] + [" %d <= %s <= %d" % (lower, name, upper) for name, (lower, upper) in zip(names, problem.limits)]
-    return "\n".join(lines + ["General", wrapped(" ".join(names)), "End"]) + "\n"
+    lines += [" %s free" % name for name in multipliers]
+    return "\n".join(lines + ["General", wrapped(" ".join(names + multipliers)), "End"]) + "\n"

@@ -12,7 +12,8 @@ what `vectors` must print for them (crates/vectors/stdout), and plan A with its 
 import argparse
 
 from implementation import ROOT, expected
-from files import CONTENT, MAGIC, MAX_BOUND, MAX_BUDGET, MAX_COEFFICIENT, Constraint, constraint_content, head_fields, problem_file, sealed
+from files import (CONTENT, DIVISOR_OFFSET, MAGIC, MAX_BOUND, MAX_BUDGET, MAX_COEFFICIENT, MAX_DIVISOR, Constraint, constraint_content,
+                   constraint_of, head_fields, problem_file, sealed)
 
 DATA = ROOT / "crates/vectors/data"
 DIGEST_PRIME = 2**55 - 55
@@ -27,8 +28,12 @@ def head(budget, limits, m, n=None, letters=MAGIC):
     return head_fields(len(limits) if n is None else n, m, budget, limits, letters)
 
 
-def line(numbers):
-    return constraint_content(Constraint(numbers[0], numbers[1:]))
+def line(row):
+    return constraint_content(constraint_of(row))
+
+
+def divided(divisor, constant, *coefficients):
+    return Constraint(constant, list(coefficients), divisor)
 
 
 def with_byte(content, place, value):
@@ -210,7 +215,94 @@ def block_files():
     yield "blocks-257-spent", knapsack(257, 10, 3595, [108, 144, 102, 124, 132])
 
 
-GROUPS = [torn_files, bad_files, edge_files, bound_files, walk_files, range_files, cut_files, block_files]
+def bad_divisor_files():
+    """Refused with 10, alone and beside others; and with what comes before and after it."""
+    good = head(5, PLAN_A_LIMITS, 2)
+    first, second = (line(numbers) for numbers in PLAN_A_LINES)
+    for name, divisor in [("1", 1), ("minus-1", -1), ("minus-5", -5), ("one-more", MAX_DIVISOR + 1), ("least", -(2**31)), ("most", 2**31 - 1)]:
+        yield "divisor-%s" % name, problem_file(5, PLAN_A_LIMITS, [divided(divisor, 1, -1, -1), [0, -1, 1]])
+    yield "divisor-in-the-last-line", problem_file(5, PLAN_A_LIMITS, [divided(5, 1, -1, -1), divided(1, 0, -1, 1)])
+    yield "divisor-with-32-quantities", problem_file(5, [(0, 1)] * 32, [divided(-2, 1, *[1] * 32)])
+    yield "limits-before-divisor", problem_file(5, [(0, 1), (1, 0)], [divided(1, 1, -1, -1)])
+    yield "heavy-before-divisor", problem_file(5, PLAN_A_LIMITS, [divided(1, 1, -1, -1), [MAX_COEFFICIENT + 1, 1, 0]])
+    yield "heavy-before-divisor-in-one-line", problem_file(5, PLAN_A_LIMITS, [divided(1, 0, MAX_COEFFICIENT + 1, 1)])
+    yield "heavy-before-divisor-and-stray", blocks([with_byte(good, 507, 1), line(divided(1, 1, 1, 1)), line([0, -MAX_COEFFICIENT - 1, 0])])
+    yield "divisor-before-stray-in-head", blocks([with_byte(good, 100, 1), first, line(divided(1, 0, -1, 1))])
+    yield "divisor-before-stray-in-line", blocks([good, with_byte(first, 507, 1), line(divided(MAX_DIVISOR + 1, 0, -1, 1))])
+    yield "divisor-before-stray-beside-it", blocks([good, with_byte(line(divided(1, 1, -1, -1)), DIVISOR_OFFSET + 4, 1), second])
+    yield "stray-before-a-divisor", blocks([good, with_byte(line(divided(5, 1, -1, -1)), DIVISOR_OFFSET - 1, 1), second])
+    yield "stray-after-a-divisor", blocks([good, with_byte(line(divided(5, 1, -1, -1)), DIVISOR_OFFSET + 4, 1), second])
+    yield "stray-coefficient-32-of-31", blocks([head(5, [(0, 1)] * 31, 1), line([0] * 32 + [1])])
+    yield "stray-divisor-in-head", blocks([with_byte(good, DIVISOR_OFFSET, 5), first, second])
+
+
+def divisor_files():
+    """Divisor lines: when they are false, what a dead end on them gives, and what they leave alone."""
+    plan_c = [divided(3, 0, 1, 1), [2, -1, -1]]
+    yield "plan-c", problem_file(5, [(0, 2)] * 2, plan_c)
+    yield "plan-c-budget-0", problem_file(0, [(0, 2)] * 2, plan_c)
+    yield "plan-c-budget-1", problem_file(1, [(0, 2)] * 2, plan_c)
+    yield "plan-c-lines-exchanged", problem_file(5, [(0, 2)] * 2, plan_c[::-1])
+    # Items on dialogues and on talks are printed five to a passage.
+    paper = [(2, 10), (1, 7), (1, 5), (2, 7), (4, 8)]
+    fives = [divided(5, 0, 1, 1), divided(5, 0, 0, 0, 1, 1)]
+    points = [[-46, 1, 2, 2, 2, 3], [46, -1, -2, -2, -2, -3]]
+    others = [[-24] + [1] * 5, [24] + [-1] * 5] + points + [[-70, 2, 3, 3, 2, 3], [0, 0, 0, -2, 1, 0]]
+    yield "five-to-a-passage", problem_file(100, paper, fives + others)
+    yield "five-to-a-passage-fives-last", problem_file(100, paper, others + fives)
+    yield "five-to-a-passage-none", problem_file(500, paper, fives + others + [[5, -1, 0, 0, 0, 0], [-5, 1, 0, 0, 0, 0]])
+    # An equation as two lines, with what divides one of its quantities or another sum.
+    equation = [[-41, 3, 5, 7], [41, -3, -5, -7]]
+    yield "equation-and-divisor", problem_file(50, [(0, 9)] * 3, equation + [divided(4, 0, 0, 0, 1)])
+    yield "equation-and-divisor-of-a-sum", problem_file(50, [(0, 9)] * 3, equation + [divided(6, 3, 1, 2, 3)])
+    yield "equation-and-divisor-none", problem_file(200, [(0, 9)] * 3, equation + [divided(7, 0, 1, 1, 0), divided(6, 5, 1, 0, 1)])
+    yield "divisor-none-at-once", problem_file(5, [(0, 9)] * 2, [divided(4, 1, 2, 2)])
+    yield "divisor-none-at-once-budget-0", problem_file(0, [(0, 9)] * 2, [divided(4, 1, 2, 2)])
+    yield "divisor-none-of-parities", problem_file(50, [(0, 2)] * 3, [divided(2, 0, 1, 1, 0), divided(2, 0, 0, 1, 1), divided(2, 1, 1, 0, 1)])
+    yield "divisor-none-not-seen-at-once", problem_file(9, [(1, 3)], [divided(5, 0, 1)])
+    yield "divisor-without-coefficients-met", problem_file(5, [(0, 1)], [divided(7, -14, 0)])
+    yield "divisor-without-coefficients-false", problem_file(5, [(0, 1)], [divided(7, -13, 0)])
+    yield "divisor-first-of-the-false", problem_file(5, [(0, 3)] * 2, [divided(6, 3, 2, 4), [1, -1, 1], [1]])
+    yield "inequality-first-of-the-false", problem_file(5, [(0, 3)] * 2, [[1], divided(6, 3, 2, 4)])
+    # The divisor of the open quantities alone: 3 does not count once v2 is fixed.
+    yield "divisor-fixed-left-out", problem_file(9, [(0, 4), (1, 1)], [divided(6, 1, 2, 3)])
+    yield "divisor-fixed-left-out-false", problem_file(9, [(0, 4), (2, 2)], [divided(6, 1, 2, 3)])
+    yield "divisor-of-a-negative-rest", problem_file(9, [(-9, -5), (-3, 3)], [divided(7, -3, 1, -2)])
+    yield "divisor-is-not-rounded", problem_file(9, [(1, 9)], [divided(4, 0, 2)])
+    yield "divisor-constant-is-not-rounded", problem_file(9, [(0, 9)] * 2, [divided(9, 3, 3, 6), [3, -1, -1]])
+    yield "divisor-implies-no-bound", problem_file(9, [(0, 9)] * 2, [divided(4, 3, -1, 0), [-12, 1, 1]])
+    # A cut with the numbers of a divisor line is made; a false line with such a twin keeps its own number.
+    yield "cut-with-the-numbers-of-a-divisor-line", problem_file(9, [(0, 2)] * 3, [[2, -2, -2, 2], [0, -1, 2, -1], divided(2, 2, -3, 0, 1)])
+    yield "false-line-with-a-divisor-twin", problem_file(5, PLAN_A_LIMITS, [divided(2, 3, 2, -1), [3, 2, -1]])
+    yield "divisor-2", problem_file(9, [(0, 1)] * 3, [divided(2, 0, 1, 1, 1), [1, -1, 0, -1]])
+    far = [(MAX_BOUND - 3, MAX_BOUND)]
+    yield "divisor-largest", problem_file(9, far * 2, [divided(MAX_DIVISOR, 0, 1, 0), divided(MAX_DIVISOR, MAX_DIVISOR // 2, 0, MAX_DIVISOR // 2)])
+    yield "divisor-largest-none", problem_file(9, [(-MAX_BOUND, 3 - MAX_BOUND)], [divided(MAX_DIVISOR, 4, 1)])
+    heaviest = [MAX_COEFFICIENT] * 31 + [MAX_COEFFICIENT - 1]
+    corner = [(MAX_BOUND, MAX_BOUND)] * 32
+    yield "rest-largest", problem_file(9, corner, [divided(MAX_DIVISOR - 1, MAX_COEFFICIENT, *heaviest)])
+    yield "rest-largest-met", problem_file(9, corner, [divided(MAX_DIVISOR, MAX_COEFFICIENT, *heaviest)])
+    yield "rest-least", problem_file(9, corner, [divided(MAX_DIVISOR - 1, -MAX_COEFFICIENT, *[-a for a in heaviest])])
+    yield "divisor-at-depth-32", problem_file(9, [(0, 1)] * 32, [divided(2, 1, *[1] * 32)])
+    # Neighbours in a ring of 32 differ: v1 + v2 + 1 is even, and so on, said twice.
+    ring = [[1 if i in (k, (k + 1) % 32) else 0 for i in range(32)] for k in range(32)]
+    twice = [divided(2, 1, *numbers) for numbers in ring] + [divided(4, 2, *[2 * a for a in numbers]) for numbers in ring]
+    yield "divisor-n-32-m-64", problem_file(40, [(0, 1)] * 32, twice)
+    yield "cuts-dropped-with-a-divisor", problem_file(260, [(0, 4)] * 11, CUTS + [divided(2, 1, *[1] * 7)])
+
+
+def jump_files():
+    """Five pigeons in four holes, with divisors of some of the seats taken: cuts go back over up to four levels, between dead ends on divisors."""
+    seats = range(20)
+    pigeons = [[1] + [-1 if i // 4 == k else 0 for i in seats] for k in range(5)] + [[-1] + [1 if i % 4 == k else 0 for i in seats] for k in range(4)]
+    threes = divided(3, 0, *[1 if i in (5, 8, 11) else 0 for i in seats])
+    pair, four = (divided(2, 1, *[1 if i in some else 0 for i in seats]) for some in [(4, 12), (3, 4, 10, 11)])
+    yield "back-over-levels-and-a-divisor", problem_file(60, [(0, 1)] * 20, [threes] + pigeons)
+    yield "back-over-levels-and-divisors", problem_file(60, [(0, 1)] * 20, [pair, four] + pigeons)
+    yield "back-over-levels-and-divisors-last", problem_file(60, [(0, 1)] * 20, pigeons + [pair, four])
+
+
+GROUPS = [torn_files, bad_files, edge_files, bound_files, walk_files, range_files, cut_files, block_files, bad_divisor_files, divisor_files, jump_files]
 
 
 def printed(program, name, file):

@@ -6,7 +6,9 @@
     scripts/problem.py smt2 < model.plan > model.smt2   to SMT-LIB 2 (z3, cvc5)
 
 Variables are in the order of LP's section General, then Binary; the first solution in dictionary order is with respect to it. The budget
-is a comment, '\\ budget 1000'; without one it is 1000000. What a file cannot hold is told in one sentence with its line, and nothing is written.
+is a comment, '\\ budget 1000'; without one it is 1000000. That 5 divides x + y + 2 is an equation, x + y - 5 k = -2, whose variable k is 'free' in
+Bounds and stands in no other row; it is none of the problem's variables. What a file cannot hold is told in one sentence with its line, and nothing is
+written.
 """
 import sys
 
@@ -22,6 +24,7 @@ ERRORS = {
     5: "a limit is out of range or limits are crossed",
     6: "a coefficient or constant is out of range",
     7: "a byte that should be zero is not",
+    10: "a divisor is negative, 1 or above 2^20",
 }
 
 
@@ -35,6 +38,14 @@ def smt_sum(coefficients, names):
     return "(+ %s)" % " ".join(terms) if len(terms) > 1 else "".join(terms) or "0"
 
 
+def smt_constraint(constraint, names):
+    """An inequality, or what a divisor divides: SMT-LIB's remainder by a positive number is never negative."""
+    left = smt_sum(constraint.coefficients, names)
+    if constraint.divisor:
+        return "(= 0 (mod (+ %s %s) %d))" % (left, smt_number(constraint.constant), constraint.divisor)
+    return "(<= %s %s)" % (left, smt_number(-constraint.constant))
+
+
 def write_smt2(problem):
     """The problem in SMT-LIB 2, logic QF_LIA. The budget has no counterpart there."""
     names = variables_of(problem)
@@ -42,8 +53,7 @@ def write_smt2(problem):
     lines += ["(declare-fun %s () Int)" % name for name in names]
     for name, (lower, upper) in zip(names, problem.limits):
         lines.append("(assert (and (<= %s %s) (<= %s %s)))" % (smt_number(lower), name, name, smt_number(upper)))
-    for c in problem.constraints:
-        lines.append("(assert (<= %s %s))" % (smt_sum(c.coefficients, names), smt_number(-c.constant)))
+    lines += ["(assert %s)" % smt_constraint(c, names) for c in problem.constraints]
     return "\n".join(lines + ["(check-sat)", "(get-model)"]) + "\n"
 
 

@@ -11,7 +11,7 @@ from pathlib import Path
 
 from lp import DEFAULT_BUDGET, LpError, read_lp
 from lp_text import write_lp
-from files import (MAX_BOUND, MAX_BUDGET, MAX_COEFFICIENT, MAX_CONSTRAINTS, MAX_VARIABLES, Constraint, FileError, Problem, Record,
+from files import (MAX_BOUND, MAX_BUDGET, MAX_COEFFICIENT, MAX_CONSTRAINTS, MAX_DIVISOR, MAX_VARIABLES, Constraint, FileError, Problem, Record,
                    read_problem, write_problem, write_record)
 from problem import write_smt2
 import journal
@@ -21,6 +21,7 @@ PLAN_A = ROOT / "examples/plan-a.plan"
 PLAN_A_JOURNAL = ROOT / "crates/journal/stdout"
 RANDOM_TEXTS = 10000
 TAIL = "Bounds\n x <= 5\n y <= 5\nGeneral\n x y\nEnd\n"
+TAIL_FREE = "Bounds\n x <= 5\n y <= 5\n k free\nGeneral\n x k y\nEnd\n"
 
 # Rows, and the constraints on x and y that they are: constant, then coefficients.
 ROWS = [
@@ -45,6 +46,18 @@ ROWS = [
     ("a: x <= 4 b: y >= 2", [(-4, 1, 0), (2, 0, -1)]),
     ("end: x <= 4\n st : y <= 2", [(-4, 1, 0), (-2, 0, 1)]),
     ("", []),
+]
+
+# Rows with the free variable k, and the divisor constraints on x and y that they are: divisor, constant, then coefficients.
+DIVIDED = [
+    ("x + y - 5 k = 0", (5, 0, 1, 1)),
+    ("x + y + 2 = 5 k", (5, 2, 1, 1)),
+    ("x + y + 5 k = -2", (5, 2, 1, 1)),
+    ("5 k = x + y + 2", (5, -2, -1, -1)),
+    ("2 x - 4 k = 3", (4, -3, 2, 0)),
+    ("3 x + k + k = y", (2, 0, 3, -1)),
+    ("- 2 k = 3", (2, -3, 0, 0)),
+    ("1048576 k - 1073741824 = 1e9 y", (MAX_DIVISOR, -MAX_COEFFICIENT, 0, -(10**9))),
 ]
 
 # What stands in Bounds and after, and the limits of x that it gives.
@@ -74,7 +87,20 @@ REFUSED = [
     ("Subject To\nBounds\n x <= 5\n z <= 5\nGeneral\n x\nEnd", "line 4: z is not known as whole: it is in no section General or Binary"),
     ("Subject To\n x <= 2\nGeneral\n\n x\nEnd\n", "line 5: x has no upper limit: give it one in the section Bounds"),
     ("Subject To\nBounds\n x >= 2\nGeneral\n x\nEnd\n", "line 3: x has no upper limit: give it one in the section Bounds"),
-    ("Subject To\nBounds\n x free\nGeneral\n x\nEnd\n", "line 3: 'x free' has no limits, and both must be finite"),
+    ("Subject To\n x - 5 y <= 2\nBounds\n x <= 5\n y free\nGeneral\n x y\nEnd\n",
+     "line 2: y is free: this row must be an equation with no other free variable"),
+    ("Subject To\n x - 5 k = 3 y\n" + TAIL_FREE.replace("y <= 5", "y free"), "line 2: y is free: this row must be an equation with no other free variable"),
+    ("Subject To\n x + 5 k = 3\n\n y = 2 k\n" + TAIL_FREE, "line 4: k is free: it must stand in one row, an equation, whose divisor it gives"),
+    ("Subject To\n x = 3\n" + TAIL_FREE, "line 6: k is free: it must stand in one row, an equation, whose divisor it gives"),
+    ("Subject To\n x - k = 3\n" + TAIL_FREE, "line 2: k is free, and its coefficient in this row is the divisor 1, out of range: it must lie in 2 to 2^20"),
+    ("Subject To\n x - k = 3 - k\n" + TAIL_FREE, "line 2: k is free, and its coefficient in this row is the divisor 0, out of range: it must lie in 2 to 2^20"),
+    ("Subject To\n x = -1048577 k\n" + TAIL_FREE,
+     "line 2: k is free, and its coefficient in this row is the divisor 1048577, out of range: it must lie in 2 to 2^20"),
+    ("Subject To\n x = 5 k\nBounds\n k >= 2\n" + TAIL_FREE, "line 8: k is free and has limits too"),
+    ("Subject To\n x = 5 k\nBinary\n k\n" + TAIL_FREE, "line 8: k is binary, so its limits are 0 and 1 and no others"),
+    ("Subject To\n x = 5 k\n" + TAIL + "\\", "line 2: k is not known as whole: it is in no section General or Binary"),
+    ("Subject To\nBounds\n 5 free\nGeneral\n x\nEnd\n", "line 3: a bound is written as '0 <= x <= 5', 'x <= 5', 'x >= 0' or 'x = 3', one to a line"),
+    ("Subject To\nBounds\n x free\nGeneral\n x\nEnd\n", "line 6: there is no variable: name them in a section General or Binary"),
     ("Subject To\nBounds\n -inf <= x <= 3\nGeneral\n x\nEnd\n", "line 3: a limit must be finite, and this one is infinite"),
     ("Subject To\nBounds\n x <= +Infinity\nGeneral\n x\nEnd\n", "line 3: a limit must be finite, and this one is infinite"),
     ("Subject To\nBounds\n x <= -3\nGeneral\n x\nEnd\n", "line 3: the lower limit of x, 0, is above its upper limit, -3"),
@@ -121,6 +147,25 @@ def test_rows():
     assert labels == ["a", "", "b <=", "b >=", "c >=", "c <="], labels
 
 
+def test_divided():
+    for text, wanted in DIVIDED:
+        problem, names, labels = read_lp("Subject To\n fives: %s\n%s" % (text, TAIL_FREE))
+        got = [(c.divisor, c.constant, *c.coefficients) for c in problem.constraints]
+        assert (got, names, labels) == ([wanted], ["x", "y"], ["fives"]), (text, got)
+    # Among other rows, in their order; what is said of k may come first.
+    text = "Bounds\n k FREE\nSubject To\n a: x = 1\n b: x + y = 3 k\n x >= 1\n c: x = 2 j\nBounds\n j free\n" + TAIL.replace("x y", "j k x y")
+    problem, names, labels = read_lp(text)
+    assert (names, labels) == (["x", "y"], ["a <=", "a >=", "b", "", "c"])
+    assert [c.divisor for c in problem.constraints] == [0, 0, 3, 0, 2] and len(problem.limits) == 2
+    # 32 variables beside the free ones, and 64 divisor constraints.
+    names = ["x%d" % i for i in range(MAX_VARIABLES)]
+    multipliers = ["k%d" % i for i in range(MAX_CONSTRAINTS)]
+    rows = "".join(" x1 - 2 %s = 0\n" % name for name in multipliers)
+    bounds = "".join(" %s <= 1\n" % name for name in names) + "".join(" %s free\n" % name for name in multipliers)
+    problem = read_lp("st\n%sBounds\n%sGeneral\n%s\nEnd" % (rows, bounds, " ".join(multipliers + names)))[0]
+    assert (len(problem.limits), len(problem.constraints)) == (MAX_VARIABLES, MAX_CONSTRAINTS)
+
+
 def test_limits():
     for text, wanted in LIMITS:
         assert read_lp("Minimize\n obj:\nSubject To\n%s\nEnd" % text)[0].limits == [wanted], text
@@ -143,11 +188,11 @@ def test_refused():
 
 def test_random_texts():
     """Whatever the text, a problem or one sentence with a line of the text."""
-    words = "x y 3 2.5 1e3 <= >= = + - : * free inf obj: Bounds General Binary End Minimize".split() + ["Subject To", "\\ budget 5", "\\ c"]
+    words = "x y k 3 2.5 1e3 <= >= = + - : * free inf obj: Bounds General Binary End Minimize".split() + ["Subject To", "\\ budget 5", "\\ c"]
     random_source = random.Random(5)
     for _ in range(RANDOM_TEXTS):
         text = "".join(random_source.choice(words) + random_source.choice(" \n") for _ in range(random_source.randint(0, 25)))
-        text = random_source.choice(["%s", "Subject To\n%s\n" + TAIL]) % text
+        text = random_source.choice(["%s", "Subject To\n%s\n" + TAIL, "Subject To\n%s\n" + TAIL_FREE]) % text
         try:
             read_lp(text)
         except LpError as error:
@@ -167,7 +212,8 @@ def some_problem(random_source):
     for k in range(1, m):
         # Duplicates, and rows without any variable.
         rows[k] = random_source.choice([rows[k], rows[k], rows[k - 1], rows[k][:1] + [0] * n])
-    constraints = [Constraint(row[0], row[1:]) for row in rows]
+    divisors = [random_source.choice([0, 0, 2, 5, MAX_DIVISOR]) for _ in rows]
+    constraints = [Constraint(row[0], row[1:], divisor) for row, divisor in zip(rows, divisors)]
     return Problem(limits, constraints, random_source.choice([0, 1, DEFAULT_BUDGET, MAX_BUDGET]))
 
 
@@ -187,6 +233,8 @@ def test_round_trips():
         tried += 1
     # Other readers want a variable in each row and in the objective.
     assert " obj: 0 v1\nSubject To\n c1: 0 v1 <= -5\n" in write_lp(Problem([(0, 1)], [Constraint(5, [0])], 0))
+    divided = write_lp(Problem([(0, 9)] * 2, [Constraint(-7, [1, -1]), Constraint(2, [1, 3], 5)], 0))
+    assert " c1: v1 - v2 <= 7\n c2: v1 + 3 v2 - 5 k2 = -2\n" in divided and " k2 free\nGeneral\n v1 v2 k2\nEnd\n" in divided
     for path in sorted((ROOT / "examples").glob("*.lp")):
         assert write_problem(read_lp(path.read_text())[0]) == path.with_suffix(".plan").read_bytes(), path
     return tried
@@ -216,6 +264,8 @@ def test_smt2():
     lines = write_smt2(read_problem(PLAN_A.read_bytes())).splitlines()
     assert "(assert (<= (+ (* (- 1) v1) (* (- 1) v2)) (- 1)))" in lines and lines[-2:] == ["(check-sat)", "(get-model)"]
     assert "(assert (<= 0 (- 5)))" in write_smt2(Problem([(0, 1)], [Constraint(5, [0])], 0))
+    divided = write_smt2(Problem([(0, 9)] * 2, [Constraint(-2, [1, -3], 5), Constraint(1, [0, 0], 2)], 0))
+    assert "(assert (= 0 (mod (+ (+ (* 1 v1) (* (- 3) v2)) (- 2)) 5)))" in divided and "(assert (= 0 (mod (+ 0 1) 2)))" in divided
 
 
 def test_journal_text():
@@ -227,13 +277,16 @@ def test_journal_text():
     record = Record(1, 1, 3, 2, 0, Constraint(-7, [2, -3]), [0, 0])
     assert journal.conflict_text(record, names) == "conflict 1: constraint 1 (items) falsified at depth 2, backjump level 0: no solution"
     assert journal.cut_text(record, names) == "cut 3: 2 short - 3 long <= 7, from 1 alone"
+    record = Record(2, 1, 0, 2, 2, Constraint(0, [0, 0]), [0, 0])
+    assert journal.conflict_text(record, names) == "conflict 2: constraint 1 (items) falsified at depth 2, backjump level 2"
+    assert journal.cut_text(record, names) == "no cut: nothing is learned from a divisor constraint"
     record = Record(1, 1, 3, 2, 0, Constraint(1, [0, 0]), [4, 2])
     assert journal.cut_text(record, names) == "cut 3: 0 <= -1, from 1 with 2 at long, with 4 at short"
 
 
 def test_examples():
     """The stored pictures are those of the stored journals, and README tells the shorter journal."""
-    for name in ("none", "blueprint"):
+    for name in ("none", "blueprint", "passages"):
         path = ROOT / "examples" / name
         arguments, data = ["--names", str(path.with_suffix(".lp"))], path.with_suffix(".journal").read_bytes()
         assert run("journal.py", *arguments, "--svg", data=data) == (0, path.with_suffix(".svg").read_bytes(), "")
@@ -248,7 +301,7 @@ def some_journal(conflicts):
     for count in range(1, conflicts + 1):
         depth = min(MAX_VARIABLES, max(1, depth + random_source.randint(0, 3)))
         back = random_source.randint(max(1, depth - 3), depth)
-        records.append(Record(count, 1, 2, depth, back, Constraint(0, [1]), [1]))
+        records.append(Record(count, 1, random_source.choice([0, 2]), depth, back, Constraint(0, [1]), [1]))
         depth = back - 1
     return records
 
@@ -260,7 +313,9 @@ def test_pictures():
         records = some_journal(conflicts)
         read = journal.read_journal(b"".join(write_record(record) for record in records))
         root = ElementTree.fromstring(journal.svg(read, names))
-        assert len(list(root.iter("{http://www.w3.org/2000/svg}title"))) == conflicts
+        titles = [title.text for title in root.iter("{http://www.w3.org/2000/svg}title")]
+        assert len(titles) == conflicts
+        assert sum("no cut" in title for title in titles) == sum(record.cut_number == 0 for record in records)
         for box in root.iter("{http://www.w3.org/2000/svg}rect"):
             if "x" in box.attrib and "y" in box.attrib:
                 assert float(box.attrib["x"]) + float(box.attrib["width"]) <= float(root.attrib["width"])
@@ -269,6 +324,7 @@ def test_pictures():
 
 def main():
     test_rows()
+    test_divided()
     test_limits()
     test_refused()
     test_random_texts()
@@ -278,8 +334,8 @@ def main():
     test_journal_text()
     test_examples()
     test_pictures()
-    print("%d rows, %d limits, %d refused texts, %d round trips, the commands and the pictures: all as expected" % (
-        len(ROWS), len(LIMITS), len(REFUSED), tried))
+    print("%d rows, %d with a divisor, %d limits, %d refused texts, %d round trips, the commands and the pictures: all as expected" % (
+        len(ROWS), len(DIVIDED), len(LIMITS), len(REFUSED), tried))
 
 
 if __name__ == "__main__":

@@ -5,14 +5,16 @@ use mathlib.Core.Bool.{false}
 use mathlib.Core.List.{List, [], _∷_, map}
 use mathlib.Core.Path.{_≡_, refl, sym, ap, ap₂, _∙_}
 use borrow.Author.Tests.{not-true}
-use lib.IntN.{ℤ, pos, negsuc, negℤ, _+ℤ_, _*ℤ_, zero-*ℤ}
+use lib.IntN.{ℤ, pos, negsuc, negℤ, natAbs, _+ℤ_, _*ℤ_, zero-*ℤ}
+use lib.Signed.{ltZ}
 use Rattle.model.specs.Division.{ceilDiv, exactDiv}
-use Rattle.model.specs.Constraint.{Constraint, Bounds, Box, term, terms, activity, falsified, divisor, roundedBy, rounded}
-use Rattle.model.specs.Points.{Point, dot, value, Meets}
-use Rattle.integer.specs.Parts.{le-in, le-out, nlt-in, nlt-out}
+use Rattle.model.specs.Constraint.{Constraint, Bounds, Box, modulus, term, terms, activity, falsifiedBy, falsified, commonDivisor, roundedBy, rounded}
+use Rattle.model.specs.Points.{Point, dot, value}
+use Rattle.integer.specs.Parts.{nlt-in, nlt-out}
 use Rattle.integer.specs.Tests.{of-false}
 use Rattle.lists.proofs.Bools.{true-of}
-use Rattle.validity.proofs.Constraints.{rounded-meets}
+use Rattle.validity.proofs.Constraints.{meets-in, meets-out, rounded-meets, rounded-divisor}
+use Rattle.linear.proofs.RoundingLaws.{rounded-by}
 
 -- ---- where the lowest value of coefficient a is, and of each coefficient
 bound : ℤ → Bounds → ℤ
@@ -53,12 +55,20 @@ unfolding activity value roundedBy
 by-lowest zero k box = ap (λ (z : ℤ). k .constant +ℤ z) (terms-are (k .coefficients) box)
 by-lowest (suc h) k box = ap (λ (z : ℤ). ceilDiv (k .constant) (suc h) +ℤ z) (terms-exact (suc h) (k .coefficients) box)
 
-pub rounded-holds : (k : Constraint) (box : Box) → falsified k box ≡ false → falsified (rounded k) box ≡ false
-unfolding falsified rounded roundedBy
-rounded-holds k box e =
+-- an inequality is false exactly when its lowest value is above 0
+lowest-test : (k : Constraint) (box : Box) → k .divisor ≡ pos 0 → falsified k box ≡ ltZ (pos 0) (activity k box)
+unfolding falsified falsifiedBy modulus
+lowest-test k box q = rw q
+
+pub rounded-holds : (k : Constraint) (box : Box) → k .divisor ≡ pos 0 → falsified k box ≡ false → falsified (rounded k) box ≡ false
+unfolding modulus roundedBy
+rounded-holds k box q e =
     let x = lowest (k .coefficients) box in
+    let h = commonDivisor (k .coefficients) in
+    let r = rounded k in
+    let plain : r .divisor ≡ pos 0 = rounded-divisor k ∙ q in
     let v = by-lowest 0 k box in
-    let w = by-lowest (divisor (k .coefficients)) k box in
-    let m : Meets x k = record { le = le-out (value k x) (pos 0) (rw v at (nlt-in (pos 0) (activity k box) (of-false _ e))) } in
-    let r = rounded-meets k x .1 m in
-    not-true _ (true-of _ (nlt-out (pos 0) (activity (rounded k) box) (rw w (le-in (value (rounded k) x) (pos 0) (r .le)))))
+    let w : activity r box ≡ value r x = rw (rounded-by k h q refl) at (by-lowest h k box) in
+    let m = meets-out x k (ap natAbs q) (rw v at (nlt-in (pos 0) (activity k box) (of-false _ (sym (lowest-test k box q) ∙ e)))) in
+    let n = meets-in x r (ap natAbs plain) (rounded-meets k x .1 m) in
+    lowest-test r box plain ∙ not-true _ (true-of _ (nlt-out (pos 0) (activity r box) (rw w n)))

@@ -15,7 +15,7 @@ use Rattle.model.specs.Search.{Level, Core, kept, numberAt, nextNumber, keep}
 use Rattle.model.specs.Conflict.{firstEqual, numberedBy, numbered}
 use Rattle.lists.proofs.Tab.{length-tab, tab-step, tab-end}
 use Rattle.layout.specs.Rows.{constraintAt, rowAt}
-use Rattle.state.specs.View.{keptCuts, coreWith}
+use Rattle.state.specs.View.{keptCuts, coreOver, coreWith}
 use Rattle.state.proofs.Cores.{kept-rows}
 use Rattle.analyze.specs.Storing.{RowKept, NumberKept, foundBelow}
 
@@ -50,12 +50,12 @@ module _ (n m made : ℕ) (rows : List ℤ) (numbers : List ℕ) (l : Level) (ls
 
 -- the number of the next cut
 pub next-number : (n m made : ℕ) (rows : List ℤ) (numbers : List ℕ) (l : Level) (ls : List Level) → nextNumber (coreWith n m made rows numbers l ls) ≡ m + made + 1
-unfolding nextNumber coreWith
+unfolding nextNumber coreOver
 next-number n m made rows numbers l ls = rw (length-tab (rowAt n rows) 0 m) (omega arith)
 
 keep-core : (n m made : ℕ) (rows cut rows′ : List ℤ) (numbers numbers′ : List ℕ) (l : Level) (ls : List Level) → n ≤ maxVariables → RowKept m made rows cut rows′ → NumberKept made (m + made + 1) numbers numbers′ →
     keep (constraintAt n cut 0) (coreWith n m made rows numbers l ls) ≡ coreWith n m (made + 1) rows′ numbers′ l ls
-unfolding keep coreWith
+unfolding keep coreOver
 keep-core n m made rows cut rows′ numbers numbers′ l ls few r k =
     let e = next-number n m made rows numbers l ls in
     let s : suc made ≡ made + 1 = omega arith in

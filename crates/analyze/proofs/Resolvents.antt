@@ -14,7 +14,7 @@ use lib.Signed.{ltZ}
 use lib.Seq.{getD-set-same, getD-set-other}
 use Rattle.model.specs.Lists.{tab}
 use Rattle.model.specs.Ranges.{maxVariables, maxConstraints, maxBudget}
-use Rattle.model.specs.Constraint.{Constraint, Box, coefficientAt, falsified, rounded, resolvent, opposite, inRange}
+use Rattle.model.specs.Constraint.{Constraint, Box, modulus, isInequality, coefficientAt, falsified, rounded, resolvent, opposite, inRange}
 use Rattle.model.specs.Search.{domain, decision, flipped, constraint, noReasons, Level, Core, reasonsAt, keptNumber}
 use Rattle.model.specs.Conflict.{Resolved, unchanged, takeIf, resolveWith, resolveBy, resolveKept, usedReason, resolveAt, analyzeFrom, analyze}
 use Rattle.lists.proofs.Bools.{true-of, clash}
@@ -24,7 +24,7 @@ use Rattle.layout.specs.Rows.{rowLength, constraintAt, rowAt, boxOf}
 use Rattle.linear.specs.Excess.{RoundedOrOut}
 use Rattle.linear.proofs.Sizes.{rounded-range}
 use Rattle.layout.specs.Copies.{Copied}
-use Rattle.state.specs.View.{domainReason, decisionReason, flippedReason, reasonOf, reasonsIn, keptCuts, coreWith}
+use Rattle.state.specs.View.{domainReason, decisionReason, flippedReason, reasonOf, reasonsIn, keptCuts, coreOver, coreWith}
 use Rattle.state.specs.Position.{absent, constraintIn, PositionOf}
 use Rattle.state.proofs.Positions.{at-present, at-absent, position-zero, position-beyond}
 use Rattle.analyze.specs.Analyzed.{Analyzable, Resolving, coreAt, analysisOf, Analyzed}
@@ -42,7 +42,7 @@ module _ (c : Core) (i : ℕ) (f : Constraint) (k : ℕ) where
 
 reason-resolves : (n m made : ℕ) (rows : List ℤ) (numbers : List ℕ) (l : Level) (ls : List Level) (i : ℕ) (f : Constraint) (reason j : ℕ) → m ≤ maxConstraints → made ≤ maxBudget → PositionOf m made reason j →
     resolveBy (coreWith n m made rows numbers l ls) i f (reasonOf reason) ≡ resolveKept (l .box) i f reason (constraintIn n rows j)
-unfolding reasonOf coreWith
+unfolding reasonOf coreOver
 reason-resolves n m made rows numbers l ls i f reason j few budget p =
     let c = coreWith n m made rows numbers l ls in
     let beyond : m + made < reason → keptNumber c reason ≡ none = λ h. position-beyond m made reason h .found n rows numbers l ls ∙ at-absent n rows in
@@ -71,8 +71,8 @@ module _ (box : Box) (i : ℕ) (f : Constraint) (k : ℕ) (j : Constraint) where
     unfolding takeIf unchanged
     outcome-holding r t = with-outcome ∙ rw (r, t)
 
-    pub with-combined : inRange c ≡ true → falsified c box ≡ false → resolveWith box i f k j ≡ record { cut = f; used = 0 }
-    with-combined r t = outcome-holding (rounded-range c r) (rounded-holds c box t)
+    pub with-combined : c .divisor ≡ pos 0 → inRange c ≡ true → falsified c box ≡ false → resolveWith box i f k j ≡ record { cut = f; used = 0 }
+    with-combined q r t = outcome-holding (rounded-range c r) (rounded-holds c box q t)
 
     module _ {g : Constraint} (d : RoundedOrOut c g) where
       pub with-large : inRange g ≡ false → resolveWith box i f k j ≡ record { cut = f; used = 0 }
@@ -114,7 +114,7 @@ module _ (n m made : ℕ) (rows lower upper : List ℤ) (below above numbers : L
   module _ (a : Analyzable n m made rows lower upper) (i : ℕ) (l : i < n) (f : Constraint) (reason j : ℕ)
       (e : reasonOf reason ≡ usedReason (coefficientAt f i) (reasonsIn below above i)) (p : PositionOf m made reason j) where
     at-reason : resolveAt here i f ≡ resolveKept (boxOf n lower upper) i f reason (constraintIn n rows j)
-    unfolding resolveAt reasonsAt coreWith
+    unfolding resolveAt reasonsAt coreOver
     at-reason =
         rw (getD-tab (reasonsIn below above) n i noReasons l, ← e)
         (reason-resolves n m made rows numbers (record { box = boxOf n lower upper; reasons = tab (reasonsIn below above) 0 n; decided = decided }) outer i f reason j (a .inputs) (a .cuts) p)
@@ -124,7 +124,7 @@ module _ (n m made : ℕ) (rows lower upper : List ℤ) (below above numbers : L
     resolve-none z = at-reason ∙ rw (z, at-absent n rows)
 
     pub resolve-some : j < absent → resolveAt here i f ≡ resolveWith (boxOf n lower upper) i f reason (rowAt n rows j)
-    unfolding resolveKept
+    unfolding resolveKept isInequality modulus rowAt constraintAt
     resolve-some h = at-reason ∙ rw (at-present n rows j h)
 
 -- ---- the loop, from variable n − 1 down: F and what was used from variable i on
@@ -140,7 +140,7 @@ pub record Analyzing (n m made : ℕ) (rows lower upper : List ℤ) (below above
 
 module _ (n m made : ℕ) (rows lower upper : List ℤ) (below above : List ℕ) (first : Constraint) where
   pub analysis-start : (f : List ℤ) → constraintAt n f 0 ≡ first → inRange first ≡ true → length f ≡ rowLength → Analyzing n m made rows lower upper below above first n f (replicate maxVariables 0)
-  unfolding analyze coreWith
+  unfolding analyze coreOver
   analysis-start f e r h =
       record {
         most = omega arith;

@@ -6,9 +6,9 @@ use mathlib.Core.Path.{_≡_}
 use lib.IntN.{ℤ}
 use lib.ListN.{getD, length, drop}
 use Rattle.model.specs.Ranges.{maxVariables}
-use Rattle.model.specs.Constraint.{Box, falsified}
+use Rattle.model.specs.Constraint.{Constraint, Box, falsified}
 use Rattle.linear.specs.Ranges.{BoxFits}
-use Rattle.layout.specs.Rows.{constraintAt, boxOf}
+use Rattle.layout.specs.Rows.{boxOf}
 use Rattle.state.specs.View.{noLevel}
 use Rattle.state.specs.declared.Level.{Level}
 use Rattle.backtrack.specs.Saved.{Copied}
@@ -36,8 +36,8 @@ pub record BoxesFit (n depth : ℕ) (lowers uppers : List ℤ) : Type 0 where
   pub uppersLong : length uppers ≡ mirrorLength
   pub at : (t : ℕ) → t < depth → BoxFits n (drop (maxVariables * t) lowers) (drop (maxVariables * t) uppers)
 
--- every level from r on falsifies the cut, and the one before r does not
-pub record BackjumpLevel (n : ℕ) (cut : List ℤ) (depth : ℕ) (lowers uppers : List ℤ) (r : ℕ) : Type 0 where
+-- every level from r on falsifies the constraint, and the one before r does not
+pub record BackjumpLevel (k : Constraint) (n depth : ℕ) (lowers uppers : List ℤ) (r : ℕ) : Type 0 where
   pub most : r ≤ depth
-  pub falsifies : (t : ℕ) → r ≤ t → t < depth → falsified (constraintAt n cut 0) (boxIn n lowers uppers t) ≡ true
-  pub stops : (t : ℕ) → t + 1 ≡ r → falsified (constraintAt n cut 0) (boxIn n lowers uppers t) ≡ false
+  pub falsifies : (t : ℕ) → r ≤ t → t < depth → falsified k (boxIn n lowers uppers t) ≡ true
+  pub stops : (t : ℕ) → t + 1 ≡ r → falsified k (boxIn n lowers uppers t) ≡ false

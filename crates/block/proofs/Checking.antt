@@ -1,4 +1,4 @@
--- A block's check as a loop adds it up, and the zeros after its content as a loop finds them.
+-- A block's check as a loop adds it up, and zeros as a loop finds them.
 use Prim.Native.Nat.{ℕ, suc, _+_, _*_, _%_, _^_, _<_, _≤_}
 use native.Mathlib.Omega.{arith}
 use native.Mathlib.Nat.{mod-add-mod}
@@ -11,7 +11,7 @@ use lib.ListN.{getD, take, length, length-take, drop-of-length-le}
 use lib.Seq.{drop-cons, getD-take, length-take-le}
 use borrow.Author.Tests.{eq-eqb, ne-eqb}
 use Rattle.model.specs.Lists.{tab, sum, allOf}
-use Rattle.model.specs.Bytes.{u32At, blockLength, checkOffset, wordAt, checksum, isZero, zeroFrom}
+use Rattle.model.specs.Bytes.{u32At, checkOffset, wordAt, checksum, isZero, zeroBetween}
 use Rattle.lists.proofs.Sum.{sum-more}
 
 -- ---- the check: the sum of the first w words plus k + 1, modulo 2^32
@@ -36,22 +36,22 @@ module _ (b : List ℕ) (k : ℕ) where
 pub check-test : (b : List ℕ) (k r w : ℕ) → r ≡ checksum k b → w ≡ u32At b checkOffset → eqb r w ≡ eqb (checksum k b) (u32At b checkOffset)
 check-test b k r w e h = rw (e, h)
 
--- ---- the bytes from i to the check are zero where those from j are, the loop being at j
-module _ (b : List ℕ) (i j : ℕ) (e : zeroFrom i b ≡ zeroFrom j b) where
-  zero-step : length b ≡ blockLength → j < checkOffset → zeroFrom j b ≡ (isZero (getD b j 0) && zeroFrom (j + 1) b)
-  unfolding zeroFrom allOf
-  zero-step l h =
-      let n = length-take-le 508 b (omega arith) in
-      ap (allOf isZero) (drop-cons (take 508 b) j 0 (omega arith)) ∙ rw (getD-take 508 b j 0 h, add-one)
+-- ---- the bytes from i to e are zero where those from j are, the loop being at j
+module _ (b : List ℕ) (i e j : ℕ) (h : zeroBetween i e b ≡ zeroBetween j e b) where
+  zero-step : e ≤ length b → j < e → zeroBetween j e b ≡ (isZero (getD b j 0) && zeroBetween (j + 1) e b)
+  unfolding zeroBetween allOf
+  zero-step l m =
+      let n = length-take-le e b l in
+      ap (allOf isZero) (drop-cons (take e b) j 0 (omega arith)) ∙ rw (getD-take e b j 0 m, add-one)
 
-  pub zero-next : length b ≡ blockLength → j < checkOffset → getD b j 0 ≡ 0 → zeroFrom i b ≡ zeroFrom (j + 1) b
+  pub zero-next : e ≤ length b → j < e → getD b j 0 ≡ 0 → zeroBetween i e b ≡ zeroBetween (j + 1) e b
   unfolding isZero
-  zero-next l h z = e ∙ zero-step l h ∙ rw (eq-eqb (getD b j 0) 0 z)
+  zero-next l m z = h ∙ zero-step l m ∙ rw (eq-eqb (getD b j 0) 0 z)
 
-  pub zero-fails : length b ≡ blockLength → j < checkOffset → (getD b j 0 ≡ 0 → ⊥) → false ≡ zeroFrom i b
+  pub zero-fails : e ≤ length b → j < e → (getD b j 0 ≡ 0 → ⊥) → false ≡ zeroBetween i e b
   unfolding isZero
-  zero-fails l h z = sym (e ∙ zero-step l h ∙ rw (ne-eqb (getD b j 0) 0 z))
+  zero-fails l m z = sym (h ∙ zero-step l m ∙ rw (ne-eqb (getD b j 0) 0 z))
 
-  pub zero-all : j ≤ checkOffset → checkOffset ≤ j → true ≡ zeroFrom i b
-  unfolding zeroFrom allOf
-  zero-all h l = sym (e ∙ ap (allOf isZero) (drop-of-length-le (take 508 b) {i = j} (omega (arith, length-take 508 b))))
+  pub zero-all : e ≤ j → true ≡ zeroBetween i e b
+  unfolding zeroBetween allOf
+  zero-all l = sym (h ∙ ap (allOf isZero) (drop-of-length-le (take e b) {i = j} (omega (arith, length-take e b))))

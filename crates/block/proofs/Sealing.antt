@@ -1,14 +1,14 @@
 -- A block cleared, and sealed by its check once its content is in place.
 use Prim.Native.Nat.{ℕ, _+_, _-_, _<_, _≤_}
 use native.Mathlib.Omega.{arith}
-use mathlib.Core.Path.{_≡_, refl, ap, _∙_}
-use mathlib.Core.List.{List, _++_, append-nil}
-use lib.ListN.{length, take, drop, set, replicate, length-replicate, replicate-append-replicate, drop-of-length-le}
-use lib.Seq.{take-append-add, length-take-le}
+use mathlib.Core.Path.{_≡_, refl, sym, ap, _∙_}
+use mathlib.Core.List.{List, _++_, append-assoc, append-nil}
+use lib.ListN.{length, take, drop, set, replicate, length-replicate, replicate-append-replicate, take-append-drop, drop-of-length-le}
+use lib.Seq.{take-at, drop-drop, length-take-le}
 use borrow.Author.Fill.{fill-more}
-use Rattle.model.specs.Bytes.{u32Bytes, blockLength, checkOffset, checksum, padded, sealed}
+use Rattle.model.specs.Bytes.{u32Bytes, blockLength, checkOffset, checksum, paddedTo, padded, sealed}
 use Rattle.format.proofs.ByteLaws.{place}
-use Rattle.format.proofs.BlockLaws.{checksum-take, length-padded}
+use Rattle.format.proofs.BlockLaws.{checksum-take, length-padded-to, length-padded}
 use Rattle.block.specs.Placed.{Placed, cleared}
 
 -- ---- a cleared block
@@ -39,7 +39,7 @@ cleared-part a b h =
 
 -- ---- a block with its check
 padded-whole : (c : List ℕ) → length c ≡ checkOffset → padded c ≡ c
-unfolding padded
+unfolding padded paddedTo
 padded-whole c l = rw l (append-nil c)
 
 pub sealed-by : {s t : List ℕ} (k r : ℕ) → length s ≡ blockLength → r ≡ checksum k s → Placed s checkOffset blockLength (u32Bytes r) t → t ≡ sealed k (take checkOffset s)
@@ -48,13 +48,20 @@ sealed-by {s} {t} k r l c p =
     let w = padded-whole (take 508 s) (length-take-le 508 s (omega arith)) in
     p .whole ∙ rw (drop-of-length-le s {i = 512} (omega arith), append-nil (u32Bytes r), w, checksum-take k s, c)
 
+-- content put at the start of a cleared block stands there with the zeros after it, up to any place
+pub padded-placed : {c s : List ℕ} {n : ℕ} (e : ℕ) → Placed cleared 0 n c s → n ≤ e → e ≤ blockLength → Placed cleared 0 e (paddedTo e c) s
+unfolding paddedTo
+padded-placed {c} {s} {n} e p l h =
+    let w : length c ≡ n = omega (arith, p .width) in
+    let z : n + (e - n) ≡ e = omega arith in
+    let gap : drop n cleared ≡ replicate (e - n) 0 ++ drop e cleared = sym (take-append-drop (e - n) (drop n cleared)) ∙ rw (cleared-part n (e - n) (omega arith), drop-drop (e - n) n cleared, z) in
+    record { width = omega (arith, length-padded-to e c (omega arith)); whole = p .whole ∙ rw (gap, w, append-assoc c (replicate (e - n) 0) (drop e cleared)) }
+
 padded-in : {c s : List ℕ} {n : ℕ} → Placed cleared 0 n c s → n ≤ checkOffset → take checkOffset s ≡ padded c
 unfolding padded
 padded-in {c} {s} {n} p l =
-    let w : length c ≡ n = omega (arith, p .width) in
-    let m : 508 ≡ length c + (508 - length c) = omega arith in
-    ap (λ (k : ℕ). take k s) m ∙
-    rw (p .whole, take-append-add c (drop n cleared) (508 - length c), ← w, cleared-part (length c) (508 - length c) (omega arith))
+    let q = padded-placed 508 p l (omega arith) in
+    ap (take 508) (q .whole) ∙ take-at (padded c) (drop 508 cleared) 508 (omega (arith, q .width))
 
 -- a cleared block with its content in place, sealed
 pub sealed-content : {z s t c : List ℕ} {n : ℕ} (k : ℕ) → t ≡ sealed k (take checkOffset s) → Placed z 0 n c s → n ≤ checkOffset → z ≡ cleared → t ≡ sealed k c

@@ -5,7 +5,7 @@ ghost use mathlib.Core.Path.{_≡_};
 ghost use Prim.Native.Nat.{_≤_};
 ghost use lib.Dec.{eqb};
 ghost use lib.ListN.{length};
-ghost use Rattle.model.specs.Bytes.{u32At, blockLength, checkOffset, checksum, zeroFrom};
+ghost use Rattle.model.specs.Bytes.{u32At, blockLength, checkOffset, checksum, zeroBetween, zeroFrom};
 
 // How many words stand before the check.
 const WORDS: usize = CHECK / 4;
@@ -38,8 +38,16 @@ pub fn is_zero_from(b: &[u8], i: usize) -> bool
     requires { ⌜ (length (now b) ≡ blockLength) × (i ≤ checkOffset) ⌝ }
     ensures { λ r. ⌜ r ≡ zeroFrom i (now (b .entry)) ⌝ }
 {
+    is_zero_between(b, i, CHECK)
+}
+
+// Whether the bytes from place i to place e are zero.
+pub fn is_zero_between(b: &[u8], i: usize, e: usize) -> bool
+    requires { ⌜ (i ≤ e) × (e ≤ length (now b)) ⌝ }
+    ensures { λ r. ⌜ r ≡ zeroBetween i e (now (b .entry)) ⌝ }
+{
     let mut j = i;
-    while j < CHECK {
+    while j < e {
         if b[j] != 0 {
             return false;
         }

@@ -34,11 +34,11 @@ const RUN: usize = 5;
 
 const TRACE: usize = 6;
 
-// What a problem showed: its solutions, and its conflicts, each of which has a cut.
+// What a problem showed: its solutions, and its conflicts.
 pub struct Report {
     pub wrong: usize,
     pub found: usize,
-    pub cuts: usize,
+    pub conflicts: usize,
 }
 
 // The outcome that enumeration asks for, with so many conflicts in all and a budget of them.
@@ -154,6 +154,6 @@ pub fn check(p: Problem, first: usize) -> Report
     Report {
         wrong: try_budgets(p, e, full.count, first),
         found: e.found,
-        cuts: full.count,
+        conflicts: full.count,
     }
 }

@@ -1,6 +1,8 @@
-// Made-up states: a valid state of six variables and four constraints with one thing changed, so that it is not valid any more.
+// Made-up states: a valid state of six variables and four constraints, two equations, with one thing changed, so that it is not valid any more.
 use crate::bounds;
 use crate::compare::mark_of;
+use crate::divided::emptied;
+use crate::divided::shifted;
 use crate::number::added;
 use crate::number::plus;
 use state::Level;
@@ -18,6 +20,7 @@ const MAX_BOUND: i64 = 1048576;
 // The state with another mark.
 pub fn marked(s: Search, status: Status) -> Search {
     let rows = s.rows;
+    let divisors = s.divisors;
     let numbers = s.numbers;
     let levels = s.levels;
     Search {
@@ -29,6 +32,7 @@ pub fn marked(s: Search, status: Status) -> Search {
         depth: s.depth,
         status,
         rows,
+        divisors,
         numbers,
         levels,
     }
@@ -159,6 +163,29 @@ pub fn changed(s: Search, kind: usize) -> Search {
     t
 }
 
+// Kinds 27 to 31: a divisor out of range; marked solution with a false divisor constraint, or 'none' with one that is met.
+pub fn divisor_changed(s: Search, kind: usize) -> Search {
+    if kind == 30 {
+        return shifted(s, -1);
+    }
+    if kind == 31 {
+        return marked(emptied(s, 2), Status::Infeasible);
+    }
+    let mut t = s;
+    match kind {
+        27 => {
+            t.divisors[3] = -1;
+        }
+        28 => {
+            t.divisors[3] = 1;
+        }
+        _ => {
+            t.divisors[3] = 1048577;
+        }
+    }
+    t
+}
+
 // Whether the last variable is open in the deepest level.
 fn is_open(s: Search) -> bool {
     let l = state::whole(s.levels[s.depth % 33]);
@@ -179,6 +206,10 @@ pub fn applies(s: Search, kind: usize, solvable: bool) -> bool {
         22 => solvable,
         23 => mark_of(s) == 2,
         26 => mark_of(s) == 2,
+        30 => mark_of(s) == 2,
+        31 => solvable,
+        32 => mark_of(s) == 2,
+        35..=36 => 0 < s.depth,
         _ => true,
     }
 }

@@ -87,6 +87,9 @@ pub fn states_same(a: Search, b: Search) -> bool {
     if !numbers_same(&a.rows, &b.rows, 4224) {
         return false;
     }
+    if !numbers_same(&a.divisors, &b.divisors, 64) {
+        return false;
+    }
     if !counts_same(&a.numbers, &b.numbers, 64) {
         return false;
     }

@@ -1,6 +1,7 @@
 // Families of problems of up to six variables and six constraints. Problem k of a family has the digits of k, the least first: the box of each variable,
-// then the constant and the coefficients of each constraint.
+// the divisor of each constraint that has one, then the constant and the coefficients of each constraint.
 use crate::number::added;
+use crate::number::plus;
 use problem::Problem;
 
 pub struct Family {
@@ -8,6 +9,8 @@ pub struct Family {
     pub m: usize,
     // 1 if each second constraint is the one before it with its signs changed, so that the two are an equation; else 0
     pub equations: usize,
+    // So many of the last constraints have one of the divisors below.
+    pub divided: usize,
     // Each variable has one of the first so many boxes below.
     pub boxes: usize,
     // Coefficients and constants lie from minus this number, at most 3, to it.
@@ -25,10 +28,13 @@ const UPPER: [i64; 7] = [1, 1, 2, 0, 2, 0, -1];
 
 const NUMBERS: [i64; 7] = [-3, -2, -1, 0, 1, 2, 3];
 
+const DIVISORS: [i64; 5] = [2, 3, 4, 6, 1048576];
+
 pub fn of(
     n: usize,
     m: usize,
     equations: usize,
+    divided: usize,
     boxes: usize,
     coefficient: usize,
     constant: usize,
@@ -39,6 +45,7 @@ pub fn of(
         n,
         m,
         equations,
+        divided,
         boxes,
         coefficient,
         constant,
@@ -91,7 +98,7 @@ fn reach(f: Family, c: usize) -> usize {
     f.coefficient
 }
 
-// A number of the rows, and the digits after it.
+// A number of the rows or a divisor, and the digits after it.
 struct Drawn {
     number: i64,
     rest: usize,
@@ -129,6 +136,52 @@ fn rows_of(f: Family, k: usize) -> [i64; 2112] {
     rows
 }
 
+// Whether constraint j of a family has a divisor.
+fn is_divided(f: Family, j: usize) -> bool {
+    if f.m <= j {
+        return false;
+    }
+    f.m <= plus(j, f.divided)
+}
+
+// The divisor of constraint j, 0 where it has none.
+fn draw_divisor(f: Family, j: usize, left: usize) -> Drawn {
+    if !is_divided(f, j) {
+        return Drawn {
+            number: 0,
+            rest: left,
+        };
+    }
+    let d = digit_of(left, 5);
+    Drawn {
+        number: DIVISORS[d.value % 5],
+        rest: d.rest,
+    }
+}
+
+// The divisors of the constraints, and the digits after them.
+struct Divided {
+    divisors: [i64; 64],
+    rest: usize,
+}
+
+fn divisors_of(f: Family, k: usize) -> Divided {
+    let mut divisors = [0i64; 64];
+    let mut left = k;
+    let mut j: usize = 0;
+    while j < 6 {
+        let d = draw_divisor(f, j, left);
+        let number = d.number;
+        divisors[j] = number;
+        left = d.rest;
+        j += 1;
+    }
+    Divided {
+        divisors,
+        rest: left,
+    }
+}
+
 // Problem k of a family.
 pub fn problem_of(f: Family, k: usize) -> Problem {
     let mut lower = [0i64; 32];
@@ -146,7 +199,9 @@ pub fn problem_of(f: Family, k: usize) -> Problem {
         left = d.rest;
         i += 1;
     }
-    let constraints = rows_of(f, left);
+    let divided = divisors_of(f, left);
+    let divisors = divided.divisors;
+    let constraints = rows_of(f, divided.rest);
     Problem {
         n: f.n,
         m: f.m,
@@ -154,5 +209,6 @@ pub fn problem_of(f: Family, k: usize) -> Problem {
         lower,
         upper,
         constraints,
+        divisors,
     }
 }

@@ -61,6 +61,8 @@ pub fn littered(s: Search) -> Search {
     let mut t = s;
     let rows = rows_littered(s);
     t.rows = rows;
+    let past = s.m % 64;
+    t.divisors[past] = JUNK;
     let cut = s.made % 64;
     t.numbers[cut] = MANY;
     let mut d: usize = 0;

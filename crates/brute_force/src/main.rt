@@ -3,6 +3,7 @@ mod agree;
 mod bounds;
 mod changes;
 mod compare;
+mod divided;
 mod family;
 mod litter;
 mod made_up;
@@ -22,7 +23,7 @@ fn try_problem(sum: Report, f: Family, i: usize) -> Report {
     let k = family::number_of(f, i);
     let r = agree::check(family::problem_of(f, k), i % 2048);
     let mut s = sum;
-    s.cuts = plus(s.cuts, r.cuts);
+    s.conflicts = plus(s.conflicts, r.conflicts);
     if 0 < r.found {
         s.found = plus(s.found, 1);
     }
@@ -38,7 +39,7 @@ fn try_family(f: Family) -> usize {
     let mut sum = Report {
         wrong: 0,
         found: 0,
-        cuts: 0,
+        conflicts: 0,
     };
     let mut i: usize = 0;
     while i < f.problems {
@@ -52,9 +53,17 @@ fn try_family(f: Family) -> usize {
     sum.wrong
 }
 
+// The problems whose states are changed in a kind: two equations, and a divisor constraint after them for the last kinds.
+fn changed_family(kind: usize) -> Family {
+    if kind < made_up::NAMED {
+        return family::of(6, 4, 1, 0, 1, 3, 3, 1, 0);
+    }
+    family::of(6, 5, 1, 1, 1, 3, 3, 1, 0)
+}
+
 // Tries the made-up states of a kind, and prints how many.
 fn try_kind(kind: usize) -> usize {
-    let f = family::of(6, 4, 1, 1, 3, 3, 1, 0);
+    let f = changed_family(kind);
     let mut tried = Tried {
         states: 0,
         wrong: 0,
@@ -69,26 +78,43 @@ fn try_kind(kind: usize) -> usize {
     tried.wrong
 }
 
-const FAMILIES: usize = 15;
+const FAMILIES: usize = 25;
 
 // The families whose every problem is tried, and those of which some are.
 fn family_of(k: usize) -> Family {
     match k {
-        0 => family::of(1, 0, 0, 7, 0, 0, 0, 7),
-        1 => family::of(1, 1, 0, 7, 2, 2, 0, 175),
-        2 => family::of(1, 2, 0, 3, 2, 1, 0, 675),
-        3 => family::of(2, 1, 0, 2, 2, 2, 0, 500),
-        4 => family::of(2, 2, 0, 1, 1, 1, 0, 729),
-        5 => family::of(3, 1, 0, 2, 1, 1, 0, 648),
-        6 => family::of(2, 2, 1, 3, 2, 2, 0, 1125),
-        7 => family::of(4, 2, 1, 1, 2, 2, 0, 3125),
-        8 => family::of(3, 2, 0, 2, 1, 1, 1, 300),
-        9 => family::of(3, 3, 0, 5, 2, 2, 1, 300),
-        10 => family::of(4, 4, 0, 3, 2, 2, 1, 300),
-        11 => family::of(4, 4, 1, 3, 3, 3, 1, 600),
-        12 => family::of(6, 2, 1, 1, 3, 3, 1, 600),
-        13 => family::of(6, 4, 1, 1, 3, 3, 1, 600),
-        _ => family::of(6, 6, 1, 1, 1, 1, 1, 600),
+        0 => family::of(1, 0, 0, 0, 7, 0, 0, 0, 7),
+        1 => family::of(1, 1, 0, 0, 7, 2, 2, 0, 175),
+        2 => family::of(1, 2, 0, 0, 3, 2, 1, 0, 675),
+        3 => family::of(2, 1, 0, 0, 2, 2, 2, 0, 500),
+        4 => family::of(2, 2, 0, 0, 1, 1, 1, 0, 729),
+        5 => family::of(3, 1, 0, 0, 2, 1, 1, 0, 648),
+        6 => family::of(2, 2, 1, 0, 3, 2, 2, 0, 1125),
+        7 => family::of(4, 2, 1, 0, 1, 2, 2, 0, 3125),
+        8 => family::of(3, 2, 0, 0, 2, 1, 1, 1, 300),
+        9 => family::of(3, 3, 0, 0, 5, 2, 2, 1, 300),
+        10 => family::of(4, 4, 0, 0, 3, 2, 2, 1, 300),
+        11 => family::of(4, 4, 1, 0, 3, 3, 3, 1, 600),
+        12 => family::of(6, 2, 1, 0, 1, 3, 3, 1, 600),
+        13 => family::of(6, 4, 1, 0, 1, 3, 3, 1, 600),
+        14 => family::of(6, 6, 1, 0, 1, 1, 1, 1, 600),
+        _ => divided_family_of(k),
+    }
+}
+
+// The same with divisors.
+fn divided_family_of(k: usize) -> Family {
+    match k {
+        15 => family::of(1, 1, 0, 1, 3, 2, 2, 0, 375),
+        16 => family::of(2, 1, 0, 1, 1, 2, 1, 0, 375),
+        17 => family::of(2, 2, 0, 1, 3, 1, 1, 1, 300),
+        18 => family::of(2, 2, 0, 2, 3, 3, 3, 1, 300),
+        19 => family::of(2, 3, 1, 1, 5, 3, 3, 1, 300),
+        20 => family::of(3, 4, 0, 2, 1, 2, 2, 1, 200),
+        21 => family::of(4, 4, 0, 1, 1, 2, 2, 1, 200),
+        22 => family::of(4, 3, 1, 1, 1, 3, 3, 1, 200),
+        23 => family::of(6, 5, 1, 1, 1, 3, 3, 1, 200),
+        _ => family::of(6, 6, 1, 2, 1, 1, 1, 1, 200),
     }
 }
 
@@ -102,7 +128,7 @@ fn try_part(k: usize) -> usize {
 
 fn main() {
     print::text(
-        b"variables constraints equations boxes coefficient constant random problems solvable cuts\n",
+        b"variables constraints equations divided boxes coefficient constant random problems solvable conflicts\n",
     );
     let mut wrong: usize = 0;
     let mut k: usize = 0;

@@ -1,6 +1,7 @@
 // Problems written and opened, and whether the opened state is the problem's.
 use crate::compare::counts_same;
 use crate::compare::level_same;
+use crate::compare::numbers_same;
 use crate::compare::sizes_of;
 use crate::number::added;
 use integer::magnitude;
@@ -10,10 +11,12 @@ use state::Level;
 use state::Search;
 ghost use Prim.Native.Nat.{_+_, _<_};
 
-// The state of a problem of at most six constraints, written with a budget and opened; one without variables if it is refused.
+// The state of a problem of at most six constraints, written with a budget and opened; one without variables if it is refused. A divisor past the
+// constraints is not looked at.
 pub fn open(p: Problem, budget: usize) -> Search {
     let mut q = p;
     q.budget = budget;
+    q.divisors[63] = -1;
     let mut file = [0u8; 3584];
     problem::write(q, &mut file);
     let end = 512 * (p.m % 7 + 1);
@@ -43,10 +46,14 @@ fn divides(d: u64, rows: &[i64; 2112], start: usize) -> bool
     true
 }
 
-// What rounding divides a constraint by. No coefficient is above 3: 4 divides them only if all are 0, and then the constraint stays.
-fn divisor(rows: &[i64; 2112], start: usize) -> i64
+// What rounding divides a constraint with divisor q by. No coefficient is above 3: 4 divides them only if all are 0, and then the constraint stays, as one
+// with a divisor does.
+fn divisor(rows: &[i64; 2112], start: usize, q: i64) -> i64
     requires { ⌜ start + 6 < 2112 ⌝ }
 {
+    if q != 0 {
+        return 1;
+    }
     if divides(4, rows, start) {
         return 1;
     }
@@ -68,11 +75,11 @@ fn is_quotient(r: i64, h: i64, z: i64, most: i64) -> bool {
     more < most
 }
 
-// Whether the numbers at a place are those of the given constraint divided by h, the constant rounded up.
-fn is_rounded(rows: &[i64; 4224], given: &[i64; 2112], start: usize) -> bool
+// Whether the numbers at a place are those of the given constraint, with divisor q, divided by h, the constant rounded up.
+fn is_rounded(rows: &[i64; 4224], given: &[i64; 2112], start: usize, q: i64) -> bool
     requires { ⌜ start + 6 < 2112 ⌝ }
 {
-    let h = divisor(given, start);
+    let h = divisor(given, start, q);
     let mut most = h;
     let mut i: usize = 0;
     while i < 7 {
@@ -86,11 +93,16 @@ fn is_rounded(rows: &[i64; 4224], given: &[i64; 2112], start: usize) -> bool
 }
 
 // Whether the first m constraints are rounded.
-fn are_rounded(rows: &[i64; 4224], given: &[i64; 2112], m: usize) -> bool {
+fn are_rounded<'a>(
+    rows: &'a [i64; 4224],
+    given: &'a [i64; 2112],
+    divisors: &'a [i64; 64],
+    m: usize,
+) -> bool {
     let mut j: usize = 0;
     while j < 6 {
         if j < m {
-            if !is_rounded(rows, given, 33 * j) {
+            if !is_rounded(rows, given, 33 * j, divisors[j]) {
                 return false;
             }
         }
@@ -117,7 +129,10 @@ pub fn is_right(s: Search, p: Problem, budget: usize) -> bool {
     if !counts_same(&sizes_of(s), &[p.n, p.m, budget, 0, 0, 0, 0], 7) {
         return false;
     }
-    if !are_rounded(&s.rows, &p.constraints, p.m) {
+    if !are_rounded(&s.rows, &p.constraints, &p.divisors, p.m) {
+        return false;
+    }
+    if !numbers_same(&s.divisors, &p.divisors, p.m % 65) {
         return false;
     }
     level_same(s.levels[0], domain_of(p), p.n % 33)

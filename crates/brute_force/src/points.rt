@@ -1,6 +1,7 @@
 // Plain enumeration of the points of a box of up to six variables, in lexicographic order.
 use crate::number::added;
 use crate::number::plus;
+use integer::magnitude;
 use problem::Problem;
 ghost use Prim.Native.Nat.{_+_, _<_};
 ghost use lib.ListN.{length};
@@ -28,12 +29,26 @@ fn value(rows: &[i64], start: usize, x: &[i64; 32]) -> i64
     sum
 }
 
+// Whether a constraint with divisor q, 0 for an inequality, is met where it has this value.
+fn is_met(value: i64, q: i64) -> bool {
+    let d = magnitude(q);
+    if d == 0 {
+        return value <= 0;
+    }
+    magnitude(value) % d == 0
+}
+
 // Whether a point meets the first m constraints.
-fn is_solution(rows: &[i64; 2112], m: usize, x: &[i64; 32]) -> bool {
+fn is_solution<'a>(
+    rows: &'a [i64; 2112],
+    divisors: &'a [i64; 64],
+    m: usize,
+    x: &'a [i64; 32],
+) -> bool {
     let mut j: usize = 0;
     while j < 6 {
         if j < m {
-            if 0 < value(rows, 33 * j, x) {
+            if !is_met(value(rows, 33 * j, x), divisors[j]) {
                 return false;
             }
         }
@@ -60,7 +75,7 @@ fn goes_on(x: &mut [i64; 32], lower: &[i64; 32], upper: &[i64; 32]) -> bool {
 fn counted(so_far: Enumerated, p: Problem, cut: &[i64; 33], x: [i64; 32]) -> Enumerated {
     let mut e = so_far;
     e.points = plus(e.points, 1);
-    if !is_solution(&p.constraints, p.m, &x) {
+    if !is_solution(&p.constraints, &p.divisors, p.m, &x) {
         return e;
     }
     if e.found == 0 {

@@ -15,7 +15,7 @@ use Rattle.model.specs.Points.{Point, points, Solution, First}
 use Rattle.model.specs.Step.{Verdict as ModelVerdict, Outcome, outOfBudget, solution, step, run}
 use Rattle.model.specs.Demand.{stateAfter, journal, withBudget, verdictWith, Decides, Agree, SameSolutions, Steps, Accepted}
 use Rattle.problem.specs.declared.Answer.{Answer}
-use Rattle.problem.specs.declared.Answer.the-variants.{Done, Truncated, BadChecksum, BadMagic, SizeRange, DomainRange, CoefficientRange, NonzeroPadding, ShortBuffer, InvalidSearch}
+use Rattle.problem.specs.declared.Answer.the-variants.{Done, Truncated, BadChecksum, BadMagic, SizeRange, DomainRange, CoefficientRange, NonzeroPadding, ShortBuffer, InvalidSearch, DivisorRange}
 use Rattle.problem.specs.Answer.{number}
 use Rattle.fields.specs.Fields.{zeros}
 use Rattle.lists.proofs.Bools.{lt-or-le}
@@ -58,6 +58,7 @@ opened-by CoefficientRange s m e = impossible (cc)
 opened-by NonzeroPadding s m e = impossible (cc)
 opened-by ShortBuffer s m e = impossible (cc)
 opened-by InvalidSearch s m e = impossible (cc)
+opened-by DivisorRange s m e = impossible (cc)
 
 fresh : (f : List ℕ) → Accepted f → (o : Opened) → Opens f o → Fresh o (openProblem (problemIn f))
 unfolding seenOpened

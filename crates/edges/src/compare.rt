@@ -123,5 +123,8 @@ pub(crate) fn problems_agree(written: Problem, back: Problem) -> bool {
     if 32 < n {
         return false;
     }
+    if !numbers_agree(&written.divisors, &back.divisors, 1, 1, m) {
+        return false;
+    }
     numbers_agree(&written.constraints, &back.constraints, 33, n + 1, m)
 }

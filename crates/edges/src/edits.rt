@@ -2,7 +2,8 @@
 //
 //     make N M PAST      the sample file and problem of n variables and m constraints; past their end the problem has this number
 //     budget B           the problem's budget
-//     number K I Z       number i of block k in the problem: block 0 has the lower and the upper bound of each variable in turn
+//     number K I Z       number i of block k in the problem: block 0 has the lower and the upper bound of each variable in turn, a constraint its divisor
+//                        as number 33
 //     put K AT Z         a number of four bytes in block k of the file, and the block's check
 //     alter K AT BYTE    a byte, and the block's check
 //     spoil K AT         one more than the byte there, and the check left
@@ -45,6 +46,10 @@ fn with_number(problem: Problem, block: usize, place: usize, z: i64) -> Problem 
     }
     let mut changed = problem;
     if 64 < block {
+        return changed;
+    }
+    if place == 33 {
+        changed.divisors[block - 1] = z;
         return changed;
     }
     if 32 < place {

@@ -170,11 +170,23 @@ fn rows(n: usize, m: usize, past: i64) -> [i64; 2112] {
     numbers
 }
 
+// The divisors: none, and `past` after the last of m constraints.
+fn divisors(m: usize, past: i64) -> [i64; 64] {
+    let mut numbers = [0i64; 64];
+    let mut j = m;
+    while j < 64 {
+        numbers[j] = past;
+        j += 1;
+    }
+    numbers
+}
+
 // The problem of the file that `file` makes, with one number everywhere past its end. A problem that was read has 0 there.
 pub(crate) fn sample_with(past: i64, n: usize, m: usize, budget: usize) -> Problem {
     let lower = bounds(1, n, past);
     let upper = bounds(0, n, past);
     let constraints = rows(n, m, past);
+    let divisors = divisors(m, past);
     Problem {
         n,
         m,
@@ -182,5 +194,6 @@ pub(crate) fn sample_with(past: i64, n: usize, m: usize, budget: usize) -> Probl
         lower,
         upper,
         constraints,
+        divisors,
     }
 }

@@ -6,90 +6,103 @@ use mathlib.Core.List.{List, [], _∷_, _++_, append-nil}
 use mathlib.Core.Option.{Option, none, some}
 use mathlib.Core.Path.{_≡_, refl, sym, ap, ap₂, subst, _∙_}
 use lib.IntN.{ℤ}
-use lib.ListN.{set, length, length-set}
+use lib.ListN.{set, length}
 use Rattle.model.specs.Search as model
 use Rattle.model.specs.Move.{Move, conflict, finish, Stop, follow, descend}
 use Rattle.model.specs.Step.{Outcome, blockIn, withStatus, solvedBy, budgetSpent}
 use Rattle.model.specs.Trace.{Trace, withBlocks, lastStep, advance}
-use Rattle.state.specs.View.{levelOf, levelAt, levelsFrom, coreWith, coreOf, statusOf, view}
+use Rattle.state.specs.View.{view}
 use Rattle.state.specs.declared.Level.{Level}
 use Rattle.state.specs.declared.Search.{Search}
-use Rattle.state.specs.declared.Status.{Status}
-use Rattle.state.specs.declared.Status.the-variants.{Undecided, Infeasible, Solved}
-use Rattle.state.proofs.Cores.{level-here, levels-above}
-use Rattle.engine.specs.Advancing.{verdictOf, traceOf, Advances}
+use Rattle.state.proofs.Cores.{levels-above}
+use Rattle.engine.specs.Advancing.{verdictOf, Buffered, traceOf, Advances}
 use Rattle.engine.specs.declared.Ending.{Ending}
 use Rattle.engine.specs.declared.Ending.the-variants.{GoOn, NoSolution, OutOfBudget, Solution}
 use Rattle.engine.specs.declared.Advanced.{Advanced}
 use Rattle.engine.proofs.OneStep.{advance-finishes, advance-spent}
-use Rattle.engine.proofs.Running.{Running, Propagates, stepStart, coreHere, start-kept, depth-here}
+use Rattle.engine.proofs.Running.{Running, Propagates, stepStart, coreHere}
 
-abbrev pub stateWith : ℕ → ℕ → ℕ → ℕ → ℕ → ℕ → Status → List ℤ → List ℕ → List Level → Search
-stateWith n m budget conflicts made depth status rows numbers levels =
-    record { n = n; m = m; budget = budget; conflicts = conflicts; made = made; depth = depth; status = status; rows = rows; numbers = numbers; levels = levels }
+-- a state's parts at the end of the loop: the level in hand lies beside the others
+abbrev pub stateAt : List ℤ → List ℤ → ℕ → ℕ → ℕ → ℕ → ℕ → ℕ → model.Status → List ℤ → List ℕ → List Level → Level → model.Search
+stateAt lines divisors n m budget conflicts made depth status rows numbers levels l =
+    record { core = coreHere lines divisors n m rows numbers levels made depth l; budget = budget; conflicts = conflicts; status = status }
 
--- the view of a state whose deepest level was stored
-pub view-stored : (n m budget conflicts made depth : ℕ) (status : Status) (rows : List ℤ) (numbers : List ℕ) (levels : List Level) (l : Level) → depth < length levels →
-    view (stateWith n m budget conflicts made depth status rows numbers (set levels depth l)) ≡
-    record { core = coreHere n m rows numbers levels made depth l; budget = budget; conflicts = conflicts; status = statusOf status }
-unfolding view coreOf
-view-stored n m budget conflicts made depth status rows numbers levels l h =
-    rw (level-here n levels depth l h, levels-above n levels depth depth l (omega arith))
+-- at most `limit` turns from s end so, with `done` blocks and the state t
+pub record Reaches (s : model.Search) (limit : ℕ) (keep : Bool) (ending : Ending) (done : ℕ) (t : model.Search) (old now : List ℕ) : Type 0 where
+  pub blocks : List (List ℕ)
+  pub many : done ≡ length blocks
+  pub trace : record { verdict = verdictOf ending t; count = t .conflicts; blocks = blocks; state = t } ≡ advance limit s
+  pub buffer : Buffered keep blocks old now
 
-module _ {s : model.Search} {old : List ℕ} {limit : ℕ} {keep : Bool} {n m budget : ℕ} {now : List ℕ} {rows : List ℤ} {numbers : List ℕ} {levels : List Level} {made conflicts depth : ℕ}
-    {level before : Level} {start done : ℕ} (r : Running s old limit keep n m budget now rows numbers levels made conflicts depth level before start done) where
+-- they are what the code's state shows
+pub reached : {s t : model.Search} {limit : ℕ} {keep : Bool} {ending : Ending} {done : ℕ} {old now : List ℕ} (u : Search) → view u ≡ t → Reaches s limit keep ending done t old now →
+    Advances s limit keep (record { ending = ending; blocks = done; state = u }) old now
+unfolding traceOf view
+reached {s} {t} {limit} {keep} {ending} u e r =
+    record {
+      blocks = r .blocks;
+      many = r .many;
+      trace = subst (λ (x : model.Search). record { verdict = verdictOf ending x; count = x .conflicts; blocks = r .blocks; state = x } ≡ advance limit s) (sym e) (r .trace);
+      buffer = r .buffer;
+    }
+
+-- the level in hand is stored beside itself
+pub at-level : {s : model.Search} {limit : ℕ} {keep : Bool} {ending : Ending} {done : ℕ} {old now : List ℕ} (lines divisors : List ℤ) (n m budget conflicts made depth : ℕ) (status : model.Status) (rows : List ℤ) (numbers : List ℕ) (levels : List Level) (k l : Level) →
+    Reaches s limit keep ending done (stateAt lines divisors n m budget conflicts made depth status rows numbers levels l) old now →
+    Reaches s limit keep ending done (stateAt lines divisors n m budget conflicts made depth status rows numbers (set levels depth k) l) old now
+at-level lines divisors n m budget conflicts made depth status rows numbers levels k l r = rw (levels-above n levels depth depth k (omega arith)) r
+
+module _ {s : model.Search} {old : List ℕ} {limit : ℕ} {keep : Bool} {lines divisors : List ℤ} {n m budget : ℕ} {now : List ℕ} {rows : List ℤ} {numbers : List ℕ} {levels : List Level} {made conflicts depth : ℕ}
+    {level before : Level} {start done : ℕ} (r : Running s old limit keep lines divisors n m budget now rows numbers levels made conflicts depth level before start done) where
   -- one turn more is allowed
   more : done < limit → limit - done ≡ suc (limit - done - 1)
   more h = omega arith
 
-  last-trace : (o : Outcome) → done < limit → advance (suc (limit - done - 1)) (stepStart n m budget conflicts rows numbers levels made before start) ≡ lastStep o →
+  last-trace : (o : Outcome) → done < limit → advance (suc (limit - done - 1)) (stepStart lines divisors n m budget conflicts rows numbers levels made before start) ≡ lastStep o →
       advance limit s ≡ withBlocks (r .blocks) (lastStep o)
   last-trace o h e = r .ahead ∙ ap (withBlocks (r .blocks)) (rw (more h) e)
 
-  pub finishes : (here : Level) → done < limit → depth < length levels →
-      Propagates (coreHere n m rows numbers levels made depth level) (coreHere n m rows numbers levels made depth here) finish →
-      Advances s limit keep (record { ending = Solution; blocks = done; state = stateWith n m budget conflicts made depth Solved rows numbers (set levels depth here) }) old now
-  unfolding traceOf verdictOf statusOf withBlocks lastStep solvedBy withStatus blockIn follow
-  finishes here h k p =
-      let t = stepStart n m budget conflicts rows numbers levels made before start in
-      let c = coreHere n m rows numbers levels made depth here in
+  pub finishes : (here : Level) → done < limit →
+      Propagates (coreHere lines divisors n m rows numbers levels made depth level) (coreHere lines divisors n m rows numbers levels made depth here) finish →
+      Reaches s limit keep Solution done (stateAt lines divisors n m budget conflicts made depth model.solved rows numbers levels here) old now
+  unfolding verdictOf withBlocks lastStep solvedBy withStatus blockIn follow
+  finishes here h p =
+      let t = stepStart lines divisors n m budget conflicts rows numbers levels made before start in
+      let c = coreHere lines divisors n m rows numbers levels made depth here in
       let d : descend (t .core) ≡ record { core = c; falsified = none } = r .turn ∙ p .next in
-      let v = view-stored n m budget conflicts made depth Solved rows numbers levels here k in
       record {
         blocks = r .blocks;
         many = sym (r .many);
-        trace = rw v (sym (last-trace (solvedBy t c) h (advance-finishes (limit - done - 1) t c refl d) ∙ rw append-nil));
+        trace = sym (last-trace (solvedBy t c) h (advance-finishes (limit - done - 1) t c refl d) ∙ rw append-nil);
         buffer = r .buffer;
       }
 
   -- out of budget: the turn that was begun is put back
-  pub spends : (here : Level) (j : ℕ) → done < limit → start < length levels → conflicts ≡ budget →
-      Propagates (coreHere n m rows numbers levels made depth level) (coreHere n m rows numbers levels made depth here) (conflict j) →
-      Advances s limit keep (record { ending = OutOfBudget; blocks = done; state = stateWith n m budget conflicts made start Undecided rows numbers (set (set levels depth here) start before) }) old now
-  unfolding traceOf verdictOf statusOf withBlocks lastStep budgetSpent blockIn follow
-  spends here j h k e p =
-      let t = stepStart n m budget conflicts rows numbers levels made before start in
-      let c = coreHere n m rows numbers levels made depth here in
+  pub spends : (here : Level) (j : ℕ) → done < limit → conflicts ≡ budget →
+      Propagates (coreHere lines divisors n m rows numbers levels made depth level) (coreHere lines divisors n m rows numbers levels made depth here) (conflict j) →
+      Reaches s limit keep OutOfBudget done (stateAt lines divisors n m budget conflicts made start model.undecided rows numbers (set levels depth here) before) old now
+  unfolding verdictOf withBlocks lastStep budgetSpent blockIn follow
+  spends here j h e p =
+      let t = stepStart lines divisors n m budget conflicts rows numbers levels made before start in
+      let c = coreHere lines divisors n m rows numbers levels made depth here in
       let d : descend (t .core) ≡ record { core = c; falsified = some j } = r .turn ∙ p .next in
-      let v = view-stored n m budget conflicts made start Undecided rows numbers (set levels depth here) before (omega (arith, length-set levels depth here)) in
       record {
         blocks = r .blocks;
         many = sym (r .many);
-        trace = rw (v, levels-above n levels start depth here (r .from)) (sym (last-trace (budgetSpent t) h (advance-spent (limit - done - 1) t c j refl d e) ∙ rw append-nil));
+        trace = rw (levels-above n levels start depth here (r .from)) (sym (last-trace (budgetSpent t) h (advance-spent (limit - done - 1) t c j refl d e) ∙ rw append-nil));
         buffer = r .buffer;
       }
 
   -- as many turns as were asked for: the turn that was begun is put back
-  pub exits : limit ≤ done → start < length levels →
-      Advances s limit keep (record { ending = GoOn; blocks = done; state = stateWith n m budget conflicts made start Undecided rows numbers (set levels start before) }) old now
-  unfolding traceOf verdictOf statusOf withBlocks advance
-  exits h k =
-      let v = view-stored n m budget conflicts made start Undecided rows numbers levels before k in
+  pub exits : limit ≤ done →
+      Reaches s limit keep GoOn done (stateAt lines divisors n m budget conflicts made start model.undecided rows numbers levels before) old now
+  unfolding verdictOf withBlocks advance
+  exits h =
       let z : limit - done ≡ 0 = omega arith in
       let a = r .ahead in
       record {
         blocks = r .blocks;
         many = sym (r .many);
-        trace = rw v (sym (rw z at a ∙ rw append-nil));
+        trace = sym (rw z at a ∙ rw append-nil);
         buffer = r .buffer;
       }

@@ -15,9 +15,10 @@ use Rattle.model.specs.Search as model
 use Rattle.model.specs.Conflict.{leastFalsified, backjumpLevel, backFrom, backUp}
 use Rattle.lists.proofs.Bools.{true-of, clash, lt-or-le}
 use Rattle.layout.specs.Rows.{numberIn, boxOf}
-use Rattle.validity.proofs.Boxes.{Nested}
+use Rattle.validity.proofs.Boxes.{Ordered, Nested}
 use Rattle.validity.proofs.Constraints.{falsified-nested}
-use Rattle.state.specs.View.{reasonOf, flippedReason, noLevel, levelOf, levelAt, levelsFrom, coreWith}
+use Rattle.state.specs.View.{reasonOf, flippedReason, noLevel, levelOf, levelAt, levelsFrom, coreOver}
+use Rattle.propagate.specs.Divided.{coreApart}
 use Rattle.state.specs.Change.{Whole, raised}
 use Rattle.state.specs.declared.Level.{Level}
 use Rattle.state.proofs.Levels.{level-raised, level-lower}
@@ -39,11 +40,11 @@ module _ (n : ℕ) (levels : List Level) (cut : Constraint) where
   tested e o q t f = sym (f ∙ ap (λ (l : Level). falsified cut (boxOf n (l .lower) (l .upper))) q)
 
   -- where the levels nest, a level that does not falsify the cut lies under none that does
-  pub passed-outward : (d : ℕ) → ((k : ℕ) → k < d → Nested (levelAt n levels (suc k) .box) (levelAt n levels k .box)) →
+  pub passed-outward : (d : ℕ) → ((k : ℕ) → k < d → Ordered (levelAt n levels (suc k) .box) × Nested (levelAt n levels (suc k) .box) (levelAt n levels k .box)) →
       (e : ℕ) → e ≤ d → falsified cut (levelAt n levels e .box) ≡ false → Passed n levels cut (e + 1)
   passed-outward d s zero h f k l = let z : k ≡ 0 = omega arith in rw z f
   passed-outward d s (suc e) h f k l =
-      ⊎-elim (λ b. passed-outward d s e (omega arith) (fails _ _ (falsified-nested cut _ _ (s e (omega arith))) f) k (omega arith))
+      ⊎-elim (λ b. passed-outward d s e (omega arith) (fails _ _ (falsified-nested cut _ _ (s e (omega arith) .0) (s e (omega arith) .1)) f) k (omega arith))
       (λ b. let z : k ≡ suc e = omega arith in rw z f) (lt-or-le k (suc e))
 
   least-none : (e : ℕ) → Passed n levels cut e → leastFalsified cut (levelsFrom n levels e) ≡ none
@@ -62,17 +63,17 @@ module _ (n : ℕ) (levels : List Level) (cut : Constraint) where
       go (suc k) (suc d) q = rw (go k d (omega arith))
 
 -- ---- the core after the level at the deepest depth was stored
-module _ (n m made : ℕ) (rows : List ℤ) (numbers : List ℕ) (levels : List Level) where
+module _ (lines divisors : List ℤ) (n m made : ℕ) (rows : List ℤ) (numbers : List ℕ) (levels : List Level) where
   pub backjump-found : (d e : ℕ) (cut : Constraint) → e ≤ d → Passed n levels cut e → falsified cut (levelAt n levels e .box) ≡ true →
-      backjumpLevel cut (coreWith n m made rows numbers (levelAt n levels d) (levelsFrom n levels d)) ≡ e
-  unfolding backjumpLevel coreWith model.levels withDefault
+      backjumpLevel cut (coreApart n m made rows lines divisors numbers (levelAt n levels d) (levelsFrom n levels d)) ≡ e
+  unfolding backjumpLevel coreOver model.levels withDefault
   backjump-found d e cut h p f = rw (least-at n levels cut d e h p f)
 
   -- going back to level e + 1: level e with the decision of level e + 1 flipped
   pub backed-up : (d e : ℕ) → suc e ≤ d →
-      backUp (suc e) (coreWith n m made rows numbers (levelAt n levels d) (levelsFrom n levels d)) ≡
-      coreWith n m made rows numbers (model.flipAt (levelAt n levels (suc e) .decided) (levelAt n levels e)) (levelsFrom n levels e)
-  unfolding backUp coreWith model.levels model.depth
+      backUp (suc e) (coreApart n m made rows lines divisors numbers (levelAt n levels d) (levelsFrom n levels d)) ≡
+      coreApart n m made rows lines divisors numbers (model.flipAt (levelAt n levels (suc e) .decided) (levelAt n levels e)) (levelsFrom n levels e)
+  unfolding backUp coreOver model.levels model.depth
   backed-up d e h =
       rw (length-levels n levels d, levels-dropped n levels d (suc e) h) (unfold levelsFrom backFrom model.withLevels in refl)
 

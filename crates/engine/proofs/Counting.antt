@@ -20,39 +20,43 @@ use Rattle.record.specs.Written.{Emitted}
 use Rattle.format.proofs.RecordCut.{length-record}
 use Rattle.validity.proofs.States.{CoreFits}
 use Rattle.validity.proofs.Steps.{conflict-settled}
-use Rattle.state.specs.View.{levelOf, levelAt, levelsFrom, coreWith, statusOf, view}
+use Rattle.state.specs.View.{levelOf, levelAt, levelsFrom}
+use Rattle.propagate.specs.Divided.{coreApart, Apart}
 use Rattle.state.specs.Change.{Whole}
 use Rattle.state.specs.declared.Level.{Level}
-use Rattle.state.specs.declared.Status.the-variants.{Infeasible}
 use Rattle.state.proofs.Cores.{level-here, levels-above}
-use Rattle.engine.specs.Advancing.{verdictOf, traceOf, Advances}
+use Rattle.engine.specs.Advancing.{verdictOf}
 use Rattle.engine.specs.declared.Ending.the-variants.{NoSolution}
-use Rattle.engine.specs.Learning.{Learns}
 use Rattle.engine.proofs.OneStep.{advance-none, advance-on}
 use Rattle.engine.proofs.Backjumping.{backed-up}
-use Rattle.engine.proofs.Conflicting.{conflictWith, conflict-is}
+use Rattle.engine.proofs.Conflicting.{conflictWith}
 use Rattle.engine.proofs.Buffers.{joined-length, buffer-more}
 use Rattle.engine.proofs.Running.{Counts, Running, Propagates, stepStart, coreHere}
-use Rattle.engine.proofs.Arms.{stateWith, view-stored}
+use Rattle.engine.proofs.Arms.{stateAt, Reaches}
 
 with-blocks : (a b : List (List ℕ)) (t : Trace) → withBlocks a (withBlocks b t) ≡ withBlocks (a ++ b) t
 unfolding withBlocks
 with-blocks a b t = rw append-assoc
 
-module _ (s : model.Search) (old : List ℕ) (limit : ℕ) (keep : Bool) (n m budget : ℕ) (now : List ℕ) (rows : List ℤ) (numbers : List ℕ) (levels : List Level) (made conflicts depth : ℕ)
+module _ (s : model.Search) (old : List ℕ) (limit : ℕ) (keep : Bool) (lines divisors : List ℤ) (n m budget : ℕ) (now : List ℕ) (rows : List ℤ) (numbers : List ℕ) (levels : List Level) (made conflicts depth : ℕ)
     (level before : Level) (start done : ℕ) (here : Level)
-    (r : Running s old limit keep n m budget now rows numbers levels made conflicts depth level before start done)
+    (r : Running s old limit keep lines divisors n m budget now rows numbers levels made conflicts depth level before start done)
     (h : done < limit) (deep : depth < length levels) (afford : conflicts < budget) (j : ℕ)
-    (p : Propagates (coreHere n m rows numbers levels made depth level) (coreHere n m rows numbers levels made depth here) (conflict j))
+    (p : Propagates (coreHere lines divisors n m rows numbers levels made depth level) (coreHere lines divisors n m rows numbers levels made depth here) (conflict j))
     (cut : Constraint) (used : List ℕ) (number : ℕ) (rows₁ : List ℤ) (numbers₁ : List ℕ) (made₁ : ℕ)
-    (l : Learns (coreHere n m rows numbers levels made depth here) j cut used number (coreHere n m rows₁ numbers₁ levels made₁ depth here))
   where
+    -- what the conflict is, with its backjump level
+    abbrev pub Is : ℕ → Type 0
+    Is back =
+        atConflict (coreHere lines divisors n m rows numbers levels made depth here) j ≡
+        conflictWith (coreHere lines divisors n m rows numbers levels made depth here) j cut used number back (coreHere lines divisors n m rows₁ numbers₁ levels made₁ depth here)
+
     -- the block of this conflict
     unfoldable pub blockFor : ℕ → List ℕ
     blockFor back =
-        recordBytes (recordOf (conflicts + 1) (conflictWith (coreHere n m rows numbers levels made depth here) j cut used number back (coreHere n m rows₁ numbers₁ levels made₁ depth here)))
+        recordBytes (recordOf (conflicts + 1) (conflictWith (coreHere lines divisors n m rows numbers levels made depth here) j cut used number back (coreHere lines divisors n m rows₁ numbers₁ levels made₁ depth here)))
 
-    start-core : descend (stepStart n m budget conflicts rows numbers levels made before start .core) ≡ record { core = coreHere n m rows numbers levels made depth here; falsified = some j }
+    start-core : descend (stepStart lines divisors n m budget conflicts rows numbers levels made before start .core) ≡ record { core = coreHere lines divisors n m rows numbers levels made depth here; falsified = some j }
     unfolding follow
     start-core = r .turn ∙ p .next
 
@@ -60,19 +64,17 @@ module _ (s : model.Search) (old : List ℕ) (limit : ℕ) (keep : Bool) (n m bu
     more : limit - done ≡ suc (limit - done - 1)
     more = omega arith
 
-    pub ends-none : backjumpLevel cut (coreHere n m rows numbers levels made depth here) ≡ 0 → (next : List ℕ) → Emitted keep done (blockFor 0) now next →
-        Advances s limit keep (record { ending = NoSolution; blocks = done + 1; state = stateWith n m budget (conflicts + 1) made₁ depth Infeasible rows₁ numbers₁ (set levels depth here) }) old next
-    unfolding traceOf verdictOf statusOf blockFor counted lastStep withBlocks blockIn verdictAt statusAt settled
-    ends-none b next e =
-        let t = stepStart n m budget conflicts rows numbers levels made before start in
-        let c = coreHere n m rows numbers levels made depth here in
-        let x = conflict-is c j cut used number 0 (coreHere n m rows₁ numbers₁ levels made₁ depth here) l b in
-        let v = view-stored n m budget (conflicts + 1) made₁ depth Infeasible rows₁ numbers₁ levels here deep in
+    pub ends-none : Is 0 → (next : List ℕ) → Emitted keep done (blockFor 0) now next →
+        Reaches s limit keep NoSolution (done + 1) (stateAt lines divisors n m budget (conflicts + 1) made₁ depth model.infeasible rows₁ numbers₁ levels here) old next
+    unfolding verdictOf blockFor counted lastStep withBlocks blockIn verdictAt statusAt settled
+    ends-none x next e =
+        let t = stepStart lines divisors n m budget conflicts rows numbers levels made before start in
+        let c = coreHere lines divisors n m rows numbers levels made depth here in
         record {
           blocks = r .blocks ++ (blockFor 0 ∷ []);
           many = omega (arith, r .many, length-append (r .blocks) (blockFor 0 ∷ []));
           trace =
-              rw (v, add-one)
+              rw add-one
               (sym (r .ahead ∙ ap (withBlocks (r .blocks)) (ap (λ (k : ℕ). advance k t) more ∙ advance-none (limit - done - 1) t c j refl start-core afford (ap (λ (y : Conflict). y .back) x)) ∙
               ap (λ (y : Conflict). withBlocks (r .blocks) (lastStep (counted t y))) x));
           buffer = buffer-more keep (r .blocks) (blockFor 0) old now next done (r .many) (r .long) (r .buffer) e;
@@ -80,40 +82,39 @@ module _ (s : model.Search) (old : List ℕ) (limit : ℕ) (keep : Bool) (n m bu
 
     -- back to level e: the levels were stored, so that going back reads them there
     settled-back : (e : ℕ) → suc e ≤ depth → (flip : Level) → levelOf n flip ≡ model.flipAt (levelAt n (set levels depth here) (suc e) .decided) (levelAt n (set levels depth here) e) →
-        settled (suc e) (coreHere n m rows₁ numbers₁ levels made₁ depth here) ≡ coreHere n m rows₁ numbers₁ (set levels depth here) made₁ e flip
+        settled (suc e) (coreHere lines divisors n m rows₁ numbers₁ levels made₁ depth here) ≡ coreHere lines divisors n m rows₁ numbers₁ (set levels depth here) made₁ e flip
     unfolding settled
     settled-back e d flip f =
-        ap₂ (λ (q : model.Level) (qs : List model.Level). backUp (suc e) (coreWith n m made₁ rows₁ numbers₁ q qs)) (sym (level-here n levels depth here deep)) (sym (levels-above n levels depth depth here (omega arith))) ∙
-        backed-up n m made₁ rows₁ numbers₁ (set levels depth here) depth e d ∙
-        ap (λ (q : model.Level). coreWith n m made₁ rows₁ numbers₁ q (levelsFrom n (set levels depth here) e)) (sym f)
+        ap₂ (λ (q : model.Level) (qs : List model.Level). backUp (suc e) (coreApart n m made₁ rows₁ lines divisors numbers₁ q qs)) (sym (level-here n levels depth here deep)) (sym (levels-above n levels depth depth here (omega arith))) ∙
+        backed-up lines divisors n m made₁ rows₁ numbers₁ (set levels depth here) depth e d ∙
+        ap (λ (q : model.Level). coreApart n m made₁ rows₁ lines divisors numbers₁ q (levelsFrom n (set levels depth here) e)) (sym f)
 
     -- the next turn starts where this conflict went back to
-    next-step : (e : ℕ) (flip : Level) → settled (suc e) (coreHere n m rows₁ numbers₁ levels made₁ depth here) ≡ coreHere n m rows₁ numbers₁ (set levels depth here) made₁ e flip →
-        atConflict (coreHere n m rows numbers levels made depth here) j ≡ conflictWith (coreHere n m rows numbers levels made depth here) j cut used number (suc e) (coreHere n m rows₁ numbers₁ levels made₁ depth here) →
-        advance limit s ≡ withBlocks (r .blocks ++ (blockFor (suc e) ∷ [])) (advance (limit - (done + 1)) (stepStart n m budget (conflicts + 1) rows₁ numbers₁ (set levels depth here) made₁ flip e))
+    next-step : (e : ℕ) (flip : Level) → settled (suc e) (coreHere lines divisors n m rows₁ numbers₁ levels made₁ depth here) ≡ coreHere lines divisors n m rows₁ numbers₁ (set levels depth here) made₁ e flip →
+        Is (suc e) →
+        advance limit s ≡ withBlocks (r .blocks ++ (blockFor (suc e) ∷ [])) (advance (limit - (done + 1)) (stepStart lines divisors n m budget (conflicts + 1) rows₁ numbers₁ (set levels depth here) made₁ flip e))
     unfolding blockFor counted statusAt
     next-step e flip a x =
-        let t = stepStart n m budget conflicts rows numbers levels made before start in
-        let c = coreHere n m rows numbers levels made depth here in
+        let t = stepStart lines divisors n m budget conflicts rows numbers levels made before start in
+        let c = coreHere lines divisors n m rows numbers levels made depth here in
         let left : limit - done - 1 ≡ limit - (done + 1) = omega arith in
-        let y = conflictWith c j cut used number (suc e) (coreHere n m rows₁ numbers₁ levels made₁ depth here) in
+        let y = conflictWith c j cut used number (suc e) (coreHere lines divisors n m rows₁ numbers₁ levels made₁ depth here) in
         r .ahead ∙
         ap (withBlocks (r .blocks)) (ap (λ (k : ℕ). advance k t) more ∙ advance-on (limit - done - 1) t c j refl start-core e afford (ap (λ (q : Conflict). q .back) x)) ∙
         ap (λ (q : Conflict). withBlocks (r .blocks) (withBlocks (recordBytes (recordOf (suc conflicts) q) ∷ []) (advance (limit - done - 1) (counted t q .state)))) x ∙
         with-blocks (r .blocks) (recordBytes (recordOf (suc conflicts) y) ∷ []) (advance (limit - done - 1) (counted t y .state)) ∙
         rw (add-one, left, a)
 
-    pub goes-on : (e : ℕ) → backjumpLevel cut (coreHere n m rows numbers levels made depth here) ≡ suc e → suc e ≤ depth → (next : List ℕ) → Emitted keep done (blockFor (suc e)) now next →
-        length rows₁ ≡ 4224 → length numbers₁ ≡ 64 → made₁ ≤ suc made → (flip : Level) → Whole flip →
+    pub goes-on : (e : ℕ) → Is (suc e) → suc e ≤ depth → (next : List ℕ) → Emitted keep done (blockFor (suc e)) now next →
+        Apart n m rows₁ lines divisors → length rows₁ ≡ 4224 → length numbers₁ ≡ 64 → made₁ ≤ suc made → (flip : Level) → Whole flip →
         levelOf n flip ≡ model.flipAt (levelAt n (set levels depth here) (suc e) .decided) (levelAt n (set levels depth here) e) →
-        Running s old limit keep n m budget next rows₁ numbers₁ (set levels depth here) made₁ (conflicts + 1) e flip flip e (done + 1)
-    goes-on e b d next w rl nl ml flip wf fe =
-        let t = stepStart n m budget conflicts rows numbers levels made before start in
-        let c = coreHere n m rows numbers levels made depth here in
-        let kept = coreHere n m rows₁ numbers₁ levels made₁ depth here in
-        let x = conflict-is c j cut used number (suc e) kept l b in
+        Running s old limit keep lines divisors n m budget next rows₁ numbers₁ (set levels depth here) made₁ (conflicts + 1) e flip flip e (done + 1)
+    goes-on e x d next w a rl nl ml flip wf fe =
+        let t = stepStart lines divisors n m budget conflicts rows numbers levels made before start in
+        let c = coreHere lines divisors n m rows numbers levels made depth here in
+        let kept = coreHere lines divisors n m rows₁ numbers₁ levels made₁ depth here in
         let f = conflict-settled c j (p .fits) (p .chosen) in
-        let after : settled (suc e) kept ≡ coreHere n m rows₁ numbers₁ (set levels depth here) made₁ e flip = settled-back e d flip fe in
+        let after : settled (suc e) kept ≡ coreHere lines divisors n m rows₁ numbers₁ (set levels depth here) made₁ e flip = settled-back e d flip fe in
         record {
           counts = record { some = r .counts .some; few = r .counts .few; inputs = r .counts .inputs; limited = r .counts .limited; afford = omega arith; cuts = omega (arith, r .counts .cuts) };
           whole = wf;
@@ -121,6 +122,7 @@ module _ (s : model.Search) (old : List ℕ) (limit : ℕ) (keep : Bool) (n m bu
           rowsLong = rl;
           numbersLong = nl;
           levelsLong = length-set levels depth here ∙ r .levelsLong;
+          apart = a;
           fits = subst CoreFits (ap (λ (y : Conflict). y .core) x ∙ after) (f .fits);
           from = omega arith;
           turn = refl;

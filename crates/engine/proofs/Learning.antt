@@ -107,7 +107,7 @@ module _ (n m made : ℕ) (rows : List ℤ) (numbers : List ℕ) (level : Level)
       }
 
 -- ---- the cut that was learned: its numbers are in range, those past its last variable too
-within-zero : (z : ℤ) → z ≡ pos 0 → Within maxCoefficient z
+pub within-zero : (z : ℤ) → z ≡ pos 0 → Within maxCoefficient z
 within-zero z q = rw q (record { within = lit≤ tt })
 
 module _ {n m made : ℕ} {rows : List ℤ} {numbers : List ℕ} {level : Level} {j : ℕ} {x : Learned} {rows₁ : List ℤ} {numbers₁ : List ℕ}

@@ -9,10 +9,15 @@ pub mod Buffers
 pub mod Running
 pub mod Arms
 pub mod Counting
+pub mod Blanking
 pub mod Starting
 pub mod Rounds
 pub mod Stored
+pub mod Concluding
 pub mod Counted
 pub mod Carrying
+pub mod Due
 pub mod Masking
 pub mod Looping
+pub mod Setting
+pub mod Dismissing

@@ -1,5 +1,6 @@
 -- The invariant of the loop over turns.
 use Prim.Native.Nat.{ℕ, suc, _≤_, _<_}
+use native.Mathlib.Omega.{arith}
 use mathlib.Core.Bool.{Bool, true, false}
 use mathlib.Core.List.{List}
 use mathlib.Core.Path.{_≡_, subst}
@@ -7,30 +8,32 @@ use lib.IntN.{ℤ, pos, _+ℤ_}
 use lib.ListN.{length, set}
 use Rattle.model.specs.Search as model
 use Rattle.model.specs.Ranges.{maxVariables}
-use Rattle.layout.specs.Rows.{numberIn}
-use Rattle.state.specs.View.{flippedReason}
+use Rattle.layout.specs.Rows.{numberIn, rowsLength}
+use Rattle.state.specs.View.{flippedReason, statusOf}
 use Rattle.state.specs.Change.{Whole, held, raised}
 use Rattle.state.specs.declared.Level.{Level}
 use Rattle.state.specs.declared.Status.{Status}
 use Rattle.state.specs.declared.Status.the-variants.{Undecided}
 use Rattle.propagate.specs.Ready.{Ready}
-use Rattle.engine.specs.Advancing.{Advances}
+use Rattle.propagate.specs.Divided.{Apart}
 use Rattle.engine.specs.declared.Ending.{Ending}
 use Rattle.engine.specs.declared.Ending.the-variants.{GoOn}
-use Rattle.engine.proofs.Arms.{stateWith}
+use Rattle.engine.proofs.Arms.{stateAt, Reaches}
 use Rattle.engine.proofs.Carrying.{Carried}
 use Rattle.engine.proofs.Running.{Running}
 
 -- While it goes, the state here is on the way that the model's turns take, and what is kept of the constraints and levels is right; once it ends, the
 -- level `before` at depth `start` completes the answer.
-pub record Looping (s : model.Search) (old : List ℕ) (limit : ℕ) (keep : Bool) (n m budget : ℕ) (inputs now : List ℕ) (rows : List ℤ) (numbers : List ℕ) (levels : List Level) (made conflicts depth : ℕ)
+pub record Looping (s : model.Search) (old : List ℕ) (limit : ℕ) (keep : Bool) (lines divisors : List ℤ) (n m budget : ℕ) (columns : List ℕ) (divided : ℕ) (inputs now : List ℕ) (rows : List ℤ) (numbers : List ℕ) (levels : List Level) (made conflicts depth : ℕ)
     (before : Level) (start done : ℕ) (ending : Ending) (status : Status) (lower upper : List ℤ) (below above : List ℕ) (decided : ℕ) (activities reaches olds limits : List ℤ) (gones counts : List ℕ)
-    (lowers uppers : List ℤ) (cuts : List ℕ) (told : ℕ) (going : Bool) : Type 0 where
-  pub running : going ≡ true → Running s old limit keep n m budget now rows numbers levels made conflicts depth (held lower upper below above decided) before start done
-  pub carried : going ≡ true → Carried n m rows levels made depth lower upper activities reaches told olds limits gones counts lowers uppers inputs cuts
+    (lowers uppers : List ℤ) (low : ℕ) (cuts : List ℕ) (told : ℕ) (going : Bool) : Type 0 where
+  pub running : going ≡ true → Running s old limit keep lines divisors n m budget now rows numbers levels made conflicts depth (held lower upper below above decided) before start done
+  pub carried : going ≡ true → Carried lines divisors columns divided low n m rows levels made depth lower upper activities reaches told olds limits gones counts lowers uppers inputs cuts
   pub more : going ≡ true → done < limit
   pub open-ended : going ≡ true → (ending ≡ GoOn) × (status ≡ Undecided)
-  pub ended : going ≡ false → Advances s limit keep (record { ending = ending; blocks = done; state = stateWith n m budget conflicts made start status rows numbers (set levels start before) }) old now
+  pub ended : going ≡ false → Reaches s limit keep ending done (stateAt lines divisors n m budget conflicts made start (statusOf status) rows numbers levels before) old now
+  pub apart : Apart n m rows lines divisors
+  pub rowsLong : length rows ≡ rowsLength
   pub deep : start ≤ maxVariables
   pub levelsLong : length levels ≡ suc maxVariables
   pub bytes : length now ≡ length old
@@ -39,6 +42,11 @@ pub record Looping (s : model.Search) (old : List ℕ) (limit : ℕ) (keep : Boo
 abbrev pub weight : Bool → ℕ → ℕ
 weight true k = suc k
 weight false k = 0
+
+-- whether the loop goes on or not, it falls
+pub lighter : (b g : Bool) (k l : ℕ) → g ≡ true → k < l → weight b k < weight g l
+lighter true g k l e h = rw e (omega arith)
+lighter false g k l e h = rw e (omega arith)
 
 -- whatever the decision variable is
 pub ready-with : {n m made : ℕ} {rows lower upper : List ℤ} {below above : List ℕ} {d : ℕ} (e : ℕ) → Ready n m made rows (held lower upper below above d) → Ready n m made rows (held lower upper below above e)
@@ -61,8 +69,8 @@ pub flipped-level : (o k : Level) (i j : ℕ) (lower : List ℤ) (below : List �
     raised k j (numberIn (k .lower) j +ℤ pos 1) flippedReason ≡ held lower (o .upper) below (o .above) (o .decided)
 flipped-level o k i j lower below e f l b = rw (← e, ← f, l, b)
 
-pub running-with : {s : model.Search} {old : List ℕ} {limit : ℕ} {keep : Bool} {n m budget : ℕ} {now : List ℕ} {rows : List ℤ} {numbers : List ℕ} {levels : List Level} {made conflicts depth : ℕ}
-    {l k : Level} {start done : ℕ} → l ≡ k → Running s old limit keep n m budget now rows numbers levels made conflicts depth l l start done →
-    Running s old limit keep n m budget now rows numbers levels made conflicts depth k k start done
-running-with {s} {old} {limit} {keep} {n} {m} {budget} {now} {rows} {numbers} {levels} {made} {conflicts} {depth} {l} {k} {start} {done} e r =
-    subst (λ (x : Level). Running s old limit keep n m budget now rows numbers levels made conflicts depth x x start done) e r
+pub running-with : {s : model.Search} {old : List ℕ} {limit : ℕ} {keep : Bool} {lines divisors : List ℤ} {n m budget : ℕ} {now : List ℕ} {rows : List ℤ} {numbers : List ℕ} {levels : List Level} {made conflicts depth : ℕ}
+    {l k : Level} {start done : ℕ} → l ≡ k → Running s old limit keep lines divisors n m budget now rows numbers levels made conflicts depth l l start done →
+    Running s old limit keep lines divisors n m budget now rows numbers levels made conflicts depth k k start done
+running-with {s} {old} {limit} {keep} {lines} {divisors} {n} {m} {budget} {now} {rows} {numbers} {levels} {made} {conflicts} {depth} {l} {k} {start} {done} e r =
+    subst (λ (x : Level). Running s old limit keep lines divisors n m budget now rows numbers levels made conflicts depth x x start done) e r

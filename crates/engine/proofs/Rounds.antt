@@ -1,34 +1,37 @@
 -- A round of the loop: what its first call asks and gives, and the measure after a decision.
-use Prim.Native.Nat.{ℕ, _+_, _-_, _*_, _≤_, _<_}
+use Prim.Native.Nat.{ℕ, zero, suc, _+_, _-_, _*_, _≤_, _<_}
 use native.Mathlib.Omega.{arith}
 use mathlib.Core.Bool.{Bool, true, false}
-use mathlib.Core.List.{List}
+use mathlib.Core.List.{List, [], _∷_}
 use mathlib.Core.Path.{_≡_, refl, sym, ap, subst, _∙_}
+use borrow.Author.Tests.{not-true}
 use lib.Dec.{T}
+use Rattle.lists.proofs.Bools.{true-of}
 use lib.IntN.{ℤ}
-use lib.ListN.{length, drop, length-append, length-drop}
+use lib.ListN.{getD, length, drop, length-append, length-drop}
 use Rattle.model.specs.Lists.{allOf}
 use Rattle.model.specs.Ranges.{maxBudget}
 use Rattle.model.specs.Bytes.{blockLength}
-use Rattle.model.specs.Constraint.{Constraint}
+use Rattle.model.specs.Constraint.{Constraint, Box, falsified}
+use Rattle.model.specs.File.{noConstraint}
 use Rattle.model.specs.Problem.{boundsInRange}
 use Rattle.model.specs.Search as model
 use Rattle.model.specs.Move.{Move, conflict, decide, slack}
 use Rattle.model.specs.Trace.{joined}
-use Rattle.lists.proofs.Tab.{length-tab}
-use Rattle.layout.specs.Rows.{rowAt, boxOf}
+use Rattle.layout.specs.Rows.{inputAt, boxOf}
 use Rattle.validity.proofs.Boxes.{Ordered, OpenAt, first-open, lowHalf, low-slack, set-lower-ordered, set-upper-ordered, set-lower-slack, set-upper-slack}
-use Rattle.validity.proofs.Moves.{Chosen}
+use Rattle.validity.proofs.Moves.{Clear, Chosen}
 use Rattle.validity.proofs.States.{deepest-ordered}
-use Rattle.state.specs.View.{levelOf, levelsFrom, keptCuts, coreWith, numberFor}
+use Rattle.state.specs.View.{levelOf, levelsFrom, keptCuts, coreOver, numberFor}
 use Rattle.state.specs.Change.{Whole, decidedAt}
 use Rattle.state.specs.declared.Level.{Level}
 use Rattle.state.proofs.Levels.{level-decided}
-use Rattle.state.proofs.Cores.{kept-rows}
 use Rattle.propagate.specs.Moves.{stopOf}
 use Rattle.propagate.specs.Propagation.{Propagation, propagation, propagationOf}
-use Rattle.propagate.specs.Ready.{keptRows, Ready}
+use Rattle.propagate.specs.Ready.{Ready}
+use Rattle.propagate.specs.Divided.{keptOver}
 use Rattle.propagate.specs.declared.propagate.Found.{Found}
+use Rattle.propagate.proofs.Warning.{length-over, over-input}
 use Rattle.propagate.proofs.Fuel.{propagation-keeps}
 use Rattle.propagate.proofs.States.{state-ready, state-descent, state-fits, state-chosen}
 use Rattle.engine.specs.Advancing.{Buffered}
@@ -52,59 +55,62 @@ buffered-length true blocks old now done limit m l w room b =
     ap length (b .written refl) ∙ omega (arith, length-append (joined blocks) (drop (blockLength * length blocks) old), length-drop (blockLength * length blocks) old)
 buffered-length false blocks old now done limit m l w room b = ap length (b .untouched refl)
 
-module _ {s : model.Search} {old : List ℕ} {limit : ℕ} {keep : Bool} {n m budget : ℕ} {now : List ℕ} {rows : List ℤ} {numbers : List ℕ} {levels : List Level} {made conflicts depth : ℕ}
-    {level before : Level} {start done : ℕ} (r : Running s old limit keep n m budget now rows numbers levels made conflicts depth level before start done) where
+clear-at : (ks : List Constraint) (box : Box) (j : ℕ) → Clear ks box → j < length ks → falsified (getD ks j noConstraint) box ≡ false
+clear-at [] box j c h = absurd (omega arith)
+clear-at (k ∷ ks) box zero c h = not-true (falsified k box) (true-of _ (c .0))
+clear-at (k ∷ ks) box (suc j) c h = clear-at ks box j (c .1) (omega arith)
+
+module _ {s : model.Search} {old : List ℕ} {limit : ℕ} {keep : Bool} {lines divisors : List ℤ} {n m budget : ℕ} {now : List ℕ} {rows : List ℤ} {numbers : List ℕ} {levels : List Level} {made conflicts depth : ℕ}
+    {level before : Level} {start done : ℕ} (r : Running s old limit keep lines divisors n m budget now rows numbers levels made conflicts depth level before start done) where
   pub depth-small : depth ≤ 32
-  depth-small = omega (arith, depth-here n m rows numbers levels made depth level (r .fits), r .counts .few)
+  depth-small = omega (arith, depth-here lines divisors n m rows numbers levels made depth level (r .fits), r .counts .few)
 
   pub made-small : made ≤ maxBudget
   made-small = omega (arith, r .counts .cuts, r .counts .afford, r .counts .limited)
 
   pub ready : Ready n m made rows level
-  ready = state-ready n m made rows numbers level (levelsFrom n levels depth) (r .fits) (r .counts .few) (r .counts .inputs) made-small (r .whole)
+  ready = state-ready n m made rows lines divisors numbers level (levelsFrom n levels depth) (r .apart) (r .fits) (r .counts .few) (r .counts .inputs) made-small (r .whole)
 
   pub same-length : length now ≡ length old
   same-length = buffered-length keep (r .blocks) old now done limit (r .many) (r .long) (r .within) (r .room) (r .buffer)
 
   pub box-ordered : Ordered (levelOf n level .box)
-  unfolding coreWith
-  box-ordered = deepest-ordered (coreHere n m rows numbers levels made depth level) (r .fits)
+  unfolding coreOver
+  box-ordered = deepest-ordered (coreHere lines divisors n m rows numbers levels made depth level) (r .fits)
 
-  module _ (here : Level) (found : Found) (e : propagationOf n here found ≡ propagation (keptRows n m made rows) (numberFor m made) (levelOf n level)) where
-    pub propagates : (q : Move) → stopOf found ≡ q → Propagates (coreHere n m rows numbers levels made depth level) (coreHere n m rows numbers levels made depth here) q
+  module _ (here : Level) (found : Found) (e : propagationOf n here found ≡ propagation (keptOver n m made rows lines divisors) (numberFor m made) (levelOf n level)) where
+    pub propagates : (q : Move) → stopOf found ≡ q → Propagates (coreHere lines divisors n m rows numbers levels made depth level) (coreHere lines divisors n m rows numbers levels made depth here) q
     propagates q f =
         let ls = levelsFrom n levels depth in
-        let d = coreHere n m rows numbers levels made depth here in
+        let d = coreHere lines divisors n m rows numbers levels made depth here in
         let chosen : Chosen (model.kept d) (d .deepest .box) (stopOf found) =
-        unfold coreWith levelOf in
-        subst (λ (ks : List Constraint). Chosen ks (boxOf n (here .lower) (here .upper)) (stopOf found)) (sym (kept-rows n m made rows numbers (levelOf n here) ls))
-        (state-chosen n m made rows numbers level ls (r .fits) here found e) in
-        subst (Propagates (coreHere n m rows numbers levels made depth level) d) f
-        (record { fits = state-fits n m made rows numbers level ls (r .fits) here found e; next = state-descent n m made rows numbers level ls (r .fits) here found e; chosen = chosen })
+        unfold coreOver model.kept levelOf in state-chosen n m made rows lines divisors numbers level ls (r .apart) (r .fits) here found e in
+        subst (Propagates (coreHere lines divisors n m rows numbers levels made depth level) d) f
+        (record { fits = state-fits n m made rows lines divisors numbers level ls (r .apart) (r .fits) here found e; next = state-descent n m made rows lines divisors numbers level ls (r .apart) (r .fits) here found e; chosen = chosen })
 
     -- the level where propagation stopped is ready too
     pub ready-here : (q : Move) → stopOf found ≡ q → Whole here → Ready n m made rows here
-    ready-here q f w = state-ready n m made rows numbers here (levelsFrom n levels depth) (propagates q f .fits) (r .counts .few) (r .counts .inputs) made-small w
+    ready-here q f w = state-ready n m made rows lines divisors numbers here (levelsFrom n levels depth) (r .apart) (propagates q f .fits) (r .counts .few) (r .counts .inputs) made-small w
 
     -- a decision: its variable, and the measure falls
     pub decided-here : (i : ℕ) → stopOf found ≡ decide i → i < n
     decided-here i f =
         let q = propagates (decide i) f in
-        unfold coreWith in decided-variable (coreHere n m rows numbers levels made depth here) i (q .fits) (q .chosen)
+        unfold coreOver in decided-variable (coreHere lines divisors n m rows numbers levels made depth here) i (q .fits) (q .chosen)
 
     slack-here : slack (levelOf n here .box) ≤ slack (levelOf n level .box)
     unfolding propagationOf
     slack-here =
-        subst (λ (q : Propagation). slack (q .level .box) ≤ slack (levelOf n level .box)) (sym e) (slack-propagated (keptRows n m made rows) (numberFor m made) (levelOf n level) box-ordered)
+        subst (λ (q : Propagation). slack (q .level .box) ≤ slack (levelOf n level .box)) (sym e) (slack-propagated (keptOver n m made rows lines divisors) (numberFor m made) (levelOf n level) box-ordered)
 
     pub decide-less : (i : ℕ) → stopOf found ≡ decide i → Whole here →
         (limit - done) * stepWeight + slack (boxOf n (decidedAt here i .lower) (decidedAt here i .upper)) <
         (limit - done) * stepWeight + slack (boxOf n (level .lower) (level .upper))
     decide-less i f w =
         let q = propagates (decide i) f in
-        let c = coreHere n m rows numbers levels made depth here in
-        let o : Ordered (levelOf n here .box) = unfold coreWith in deepest-ordered c (q .fits) in
-        let a : OpenAt (levelOf n here .box) i = unfold coreWith in first-open i (levelOf n here .box) (q .chosen .first) in
+        let c = coreHere lines divisors n m rows numbers levels made depth here in
+        let o : Ordered (levelOf n here .box) = unfold coreOver in deepest-ordered c (q .fits) in
+        let a : OpenAt (levelOf n here .box) i = unfold coreOver in first-open i (levelOf n here .box) (q .chosen .first) in
         let k : levelOf n (decidedAt here i) .box ≡ lowHalf i (levelOf n here .box) =
         unfold model.decideAt lowHalf in ap (λ (x : model.Level). x .box) (level-decided n here w (r .counts .few) i (decided-here i f)) in
         let less : slack (levelOf n (decidedAt here i) .box) < slack (levelOf n level .box) =
@@ -117,7 +123,7 @@ module _ {s : model.Search} {old : List ℕ} {limit : ℕ} {keep : Bool} {n m bu
     learnable j f w =
         let q = propagates (conflict j) f in
         let g = ready in
-        let size = ap length (kept-rows n m made rows numbers (levelOf n here) (levelsFrom n levels depth)) in
+        let at : j < length (keptOver n m made rows lines divisors) = unfold coreOver model.kept in q .chosen .at in
         record {
           variables = r .counts .few;
           inputs = r .counts .inputs;
@@ -127,5 +133,12 @@ module _ {s : model.Search} {old : List ℕ} {limit : ℕ} {keep : Bool} {n m bu
           whole = w .0;
           constraints = g .constraints;
           bounds = w .1;
-          position = omega (arith, q .chosen .at, size, length-tab (rowAt n rows) 0 (m + keptCuts made));
+          position = omega (arith, length-over n m made rows lines divisors);
         }
+
+    -- a decision is taken only where no input is falsified
+    pub clear-here : (i : ℕ) → stopOf found ≡ decide i → (j : ℕ) → j < m → falsified (inputAt n lines divisors j) (boxOf n (here .lower) (here .upper)) ≡ false
+    clear-here i f j h =
+        let q = propagates (decide i) f in
+        let c : Clear (keptOver n m made rows lines divisors) (boxOf n (here .lower) (here .upper)) = unfold coreOver model.kept levelOf in q .chosen .clear in
+        rw (over-input n m made rows lines divisors j h) at (clear-at (keptOver n m made rows lines divisors) (boxOf n (here .lower) (here .upper)) j c (omega (arith, length-over n m made rows lines divisors)))

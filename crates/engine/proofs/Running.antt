@@ -20,8 +20,9 @@ use Rattle.model.specs.Trace.{Trace, withBlocks, lastStep, advance, joined}
 use Rattle.validity.proofs.Boxes.{first-open}
 use Rattle.validity.proofs.Moves.{Decides, Falsifies, Finishes, Chosen}
 use Rattle.validity.proofs.States.{CoreFits, depth-fits, decide-fits}
-use Rattle.state.specs.View.{decisionReason, levelOf, levelAt, levelsFrom, coreWith}
+use Rattle.state.specs.View.{decisionReason, levelOf, levelAt, levelsFrom, coreOver}
 use Rattle.state.specs.Change.{Whole, decidedAt}
+use Rattle.propagate.specs.Divided.{coreApart, Apart}
 use Rattle.state.specs.declared.Level.{Level}
 use Rattle.state.proofs.Levels.{level-decided}
 use Rattle.state.proofs.Cores.{level-here, levels-above, length-levels}
@@ -38,21 +39,21 @@ pub record Counts (n m budget conflicts made : ℕ) : Type 0 where
   pub cuts : made ≤ conflicts
 
 -- the state at the start of the turn
-abbrev pub stepStart : ℕ → ℕ → ℕ → ℕ → List ℤ → List ℕ → List Level → ℕ → Level → ℕ → model.Search
-stepStart n m budget conflicts rows numbers levels made before start =
+abbrev pub stepStart : List ℤ → List ℤ → ℕ → ℕ → ℕ → ℕ → List ℤ → List ℕ → List Level → ℕ → Level → ℕ → model.Search
+stepStart lines divisors n m budget conflicts rows numbers levels made before start =
     record {
-      core = coreWith n m made rows numbers (levelOf n before) (levelsFrom n levels start);
+      core = coreApart n m made rows lines divisors numbers (levelOf n before) (levelsFrom n levels start);
       budget = budget;
       conflicts = conflicts;
       status = model.undecided;
     }
 
 -- the core with the level in hand
-abbrev pub coreHere : ℕ → ℕ → List ℤ → List ℕ → List Level → ℕ → ℕ → Level → model.Core
-coreHere n m rows numbers levels made depth level = coreWith n m made rows numbers (levelOf n level) (levelsFrom n levels depth)
+abbrev pub coreHere : List ℤ → List ℤ → ℕ → ℕ → List ℤ → List ℕ → List Level → ℕ → ℕ → Level → model.Core
+coreHere lines divisors n m rows numbers levels made depth level = coreApart n m made rows lines divisors numbers (levelOf n level) (levelsFrom n levels depth)
 
 -- ---- the invariant
-pub record Running (s : model.Search) (old : List ℕ) (limit : ℕ) (keep : Bool) (n m budget : ℕ) (now : List ℕ) (rows : List ℤ) (numbers : List ℕ) (levels : List Level) (made conflicts depth : ℕ)
+pub record Running (s : model.Search) (old : List ℕ) (limit : ℕ) (keep : Bool) (lines divisors : List ℤ) (n m budget : ℕ) (now : List ℕ) (rows : List ℤ) (numbers : List ℕ) (levels : List Level) (made conflicts depth : ℕ)
     (level before : Level) (start done : ℕ) : Type 0 where
   pub counts : Counts n m budget conflicts made
   pub whole : Whole level
@@ -60,15 +61,16 @@ pub record Running (s : model.Search) (old : List ℕ) (limit : ℕ) (keep : Boo
   pub rowsLong : length rows ≡ 4224
   pub numbersLong : length numbers ≡ 64
   pub levelsLong : length levels ≡ 33
-  pub fits : CoreFits (coreHere n m rows numbers levels made depth level)
+  pub apart : Apart n m rows lines divisors
+  pub fits : CoreFits (coreHere lines divisors n m rows numbers levels made depth level)
   pub from : start ≤ depth
-  pub turn : descend (stepStart n m budget conflicts rows numbers levels made before start .core) ≡ descend (coreHere n m rows numbers levels made depth level)
+  pub turn : descend (stepStart lines divisors n m budget conflicts rows numbers levels made before start .core) ≡ descend (coreHere lines divisors n m rows numbers levels made depth level)
   pub within : done ≤ limit
   pub blocks : List (List ℕ)
   pub many : length blocks ≡ done
   pub long : length (joined blocks) ≡ blockLength * done
   pub room : keep ≡ true → blockLength * limit ≤ length old
-  pub ahead : advance limit s ≡ withBlocks blocks (advance (limit - done) (stepStart n m budget conflicts rows numbers levels made before start))
+  pub ahead : advance limit s ≡ withBlocks blocks (advance (limit - done) (stepStart lines divisors n m budget conflicts rows numbers levels made before start))
   pub buffer : Buffered keep blocks old now
 
 -- ---- where propagation left the level, and the move that comes next
@@ -78,11 +80,11 @@ pub record Propagates (c d : model.Core) (m : Move) : Type 0 where
   pub chosen : Chosen (model.kept d) (d .deepest .box) m
 
 -- ---- a decision
-core-decided : (n m made : ℕ) (rows : List ℤ) (numbers : List ℕ) (levels : List Level) (d i : ℕ) (l : Level) → Whole l → n ≤ 32 → i < n → d < length levels →
-    model.withLevels (coreHere n m rows numbers levels made d l) (model.decideAt i (coreHere n m rows numbers levels made d l .deepest)) (model.levels (coreHere n m rows numbers levels made d l)) ≡
-    coreHere n m rows numbers (set levels d l) made (suc d) (decidedAt l i)
-unfolding model.withLevels coreWith model.levels levelsFrom
-core-decided n m made rows numbers levels d i l w f h k =
+core-decided : (lines divisors : List ℤ) (n m made : ℕ) (rows : List ℤ) (numbers : List ℕ) (levels : List Level) (d i : ℕ) (l : Level) → Whole l → n ≤ 32 → i < n → d < length levels →
+    model.withLevels (coreHere lines divisors n m rows numbers levels made d l) (model.decideAt i (coreHere lines divisors n m rows numbers levels made d l .deepest)) (model.levels (coreHere lines divisors n m rows numbers levels made d l)) ≡
+    coreHere lines divisors n m rows numbers (set levels d l) made (suc d) (decidedAt l i)
+unfolding model.withLevels coreOver model.levels levelsFrom
+core-decided lines divisors n m made rows numbers levels d i l w f h k =
     rw (level-decided n l w f i h, level-here n levels d l k, levels-above n levels d d l (omega arith))
 
 -- the first open variable is one of the n
@@ -94,27 +96,27 @@ whole-decided : (l : Level) (i : ℕ) → Whole l → Whole (decidedAt l i)
 whole-decided l i w =
     record { lower = w .lower; upper = length-set (l .upper) i (getD (l .lower) i (pos 0)) ∙ w .upper; below = w .below; above = length-set (l .above) i decisionReason ∙ w .above }
 
-pub depth-here : (n m : ℕ) (rows : List ℤ) (numbers : List ℕ) (levels : List Level) (made depth : ℕ) (l : Level) → CoreFits (coreHere n m rows numbers levels made depth l) → depth ≤ n
-depth-here n m rows numbers levels made depth l f =
-    let h : length (levelsFrom n levels depth) ≤ n = unfold model.depth coreWith in depth-fits (coreHere n m rows numbers levels made depth l) f in
+pub depth-here : (lines divisors : List ℤ) (n m : ℕ) (rows : List ℤ) (numbers : List ℕ) (levels : List Level) (made depth : ℕ) (l : Level) → CoreFits (coreHere lines divisors n m rows numbers levels made depth l) → depth ≤ n
+depth-here lines divisors n m rows numbers levels made depth l f =
+    let h : length (levelsFrom n levels depth) ≤ n = unfold model.depth coreOver in depth-fits (coreHere lines divisors n m rows numbers levels made depth l) f in
     omega (arith, length-levels n levels depth)
 
 -- a store at or below the turn's start leaves the turn's start as it is
-pub start-kept : (n m budget conflicts : ℕ) (rows : List ℤ) (numbers : List ℕ) (levels : List Level) (made : ℕ) (before : Level) (start d : ℕ) (l : Level) → start ≤ d →
-    stepStart n m budget conflicts rows numbers (set levels d l) made before start ≡ stepStart n m budget conflicts rows numbers levels made before start
-start-kept n m budget conflicts rows numbers levels made before start d l h = rw (levels-above n levels start d l h)
+pub start-kept : (lines divisors : List ℤ) (n m budget conflicts : ℕ) (rows : List ℤ) (numbers : List ℕ) (levels : List Level) (made : ℕ) (before : Level) (start d : ℕ) (l : Level) → start ≤ d →
+    stepStart lines divisors n m budget conflicts rows numbers (set levels d l) made before start ≡ stepStart lines divisors n m budget conflicts rows numbers levels made before start
+start-kept lines divisors n m budget conflicts rows numbers levels made before start d l h = rw (levels-above n levels start d l h)
 
-module _ {s : model.Search} {old : List ℕ} {limit : ℕ} {keep : Bool} {n m budget : ℕ} {now : List ℕ} {rows : List ℤ} {numbers : List ℕ} {levels : List Level} {made conflicts depth : ℕ}
-    {level before : Level} {start done : ℕ} (r : Running s old limit keep n m budget now rows numbers levels made conflicts depth level before start done) where
+module _ {s : model.Search} {old : List ℕ} {limit : ℕ} {keep : Bool} {lines divisors : List ℤ} {n m budget : ℕ} {now : List ℕ} {rows : List ℤ} {numbers : List ℕ} {levels : List Level} {made conflicts depth : ℕ}
+    {level before : Level} {start done : ℕ} (r : Running s old limit keep lines divisors n m budget now rows numbers levels made conflicts depth level before start done) where
   pub running-decides : (i : ℕ) (here : Level) → Whole here →
-      Propagates (coreHere n m rows numbers levels made depth level) (coreHere n m rows numbers levels made depth here) (decide i) →
-      Running s old limit keep n m budget now rows numbers (set levels depth here) made conflicts (depth + 1) (decidedAt here i) before start done
+      Propagates (coreHere lines divisors n m rows numbers levels made depth level) (coreHere lines divisors n m rows numbers levels made depth here) (decide i) →
+      Running s old limit keep lines divisors n m budget now rows numbers (set levels depth here) made conflicts (depth + 1) (decidedAt here i) before start done
   running-decides i here w p =
-      let c = coreHere n m rows numbers levels made depth here in
-      let v : i < n = unfold coreWith in decided-variable c i (p .fits) (p .chosen) in
-      let deep : depth < length levels = omega (arith, depth-here n m rows numbers levels made depth here (p .fits), r .counts .few, r .levelsLong) in
-      let e = core-decided n m made rows numbers levels depth i here w (r .counts .few) v deep in
-      let t = start-kept n m budget conflicts rows numbers levels made before start depth here (r .from) in
+      let c = coreHere lines divisors n m rows numbers levels made depth here in
+      let v : i < n = unfold coreOver in decided-variable c i (p .fits) (p .chosen) in
+      let deep : depth < length levels = omega (arith, depth-here lines divisors n m rows numbers levels made depth here (p .fits), r .counts .few, r .levelsLong) in
+      let e = core-decided lines divisors n m made rows numbers levels depth i here w (r .counts .few) v deep in
+      let t = start-kept lines divisors n m budget conflicts rows numbers levels made before start depth here (r .from) in
       rw add-one
       (record {
         counts = r .counts;
@@ -123,6 +125,7 @@ module _ {s : model.Search} {old : List ℕ} {limit : ℕ} {keep : Bool} {n m bu
         rowsLong = r .rowsLong;
         numbersLong = r .numbersLong;
         levelsLong = length-set levels depth here ∙ r .levelsLong;
+        apart = r .apart;
         fits = subst CoreFits e (decide-fits c i (p .fits) (p .chosen));
         from = omega (arith, r .from);
         turn = ap (λ (x : model.Search). descend (x .core)) t ∙ r .turn ∙ p .next ∙ (unfold follow in ap descend e);

@@ -4,29 +4,28 @@ use native.Mathlib.Omega.{arith}
 use mathlib.Core.Bool.{Bool}
 use mathlib.Core.List.{List, [], map}
 use mathlib.Core.Path.{_≡_, refl, sym, ap, subst, _∙_}
-use lib.ListN.{getD, length, length-map}
+use lib.IntN.{ℤ, pos}
+use lib.ListN.{getD, set, length, length-map, replicate}
+use Rattle.model.specs.Lists.{tab}
+use Rattle.model.specs.Ranges.{maxConstraints}
 use Rattle.model.specs.Search as model
 use Rattle.model.specs.Trace.{Trace, withBlocks, advance, joined}
 use Rattle.lists.proofs.Tab.{length-tab}
-use Rattle.layout.specs.Rows.{rowAt}
+use Rattle.layout.specs.Rows.{rowAt, inputAt, rowsLength}
 use Rattle.validity.proofs.States.{CoreFits, core-fits, sizes-fit, depth-fits}
-use Rattle.state.specs.View.{noLevel, levelOf, levelAt, levelsFrom, coreWith, coreOf, statusOf, view}
+use Rattle.state.specs.View.{noLevel, levelOf, levelAt, levelsFrom, keptCuts, coreOver, inputsOf, coreOf, statusOf, view}
 use Rattle.state.specs.Change.{Whole}
 use Rattle.state.specs.declared.Level.{Level}
 use Rattle.state.specs.declared.Search.{Search}
+use Rattle.state.specs.declared.Status.{Status}
 use Rattle.state.specs.declared.Status.the-variants.{Undecided}
-use Rattle.state.proofs.Cores.{length-levels}
+use Rattle.state.proofs.Cores.{level-here, levels-above, length-levels}
+use Rattle.propagate.specs.Divided.{coreApart, Apart}
 use Rattle.engine.specs.Advancing.{Starts, Buffered}
+use Rattle.engine.specs.Setting.{RowsPut}
 use Rattle.engine.proofs.Running.{Counts, Running, stepStart, coreHere}
-use Rattle.engine.proofs.Arms.{stateWith}
-
--- the state at the start, by its parts
-abbrev pub startOf : Search → Search
-startOf s = stateWith (s .n) (s .m) (s .budget) (s .conflicts) (s .made) (s .depth) Undecided (s .rows) (s .numbers) (s .levels)
-
-pub view-unmarked : (s : Search) → s .status ≡ Undecided → view (startOf s) ≡ view s
-unfolding view coreOf
-view-unmarked s e = rw e
+use Rattle.engine.proofs.Arms.{stateAt}
+use Rattle.engine.proofs.Blanking.{cuts-put, inputs-restored, apart-starts}
 
 -- what owning an array of structs tells of its list
 pub elements-kept : {X Y : Type 0} (g : X → Y) (l : List X) (n : ℕ) → length (map g l) ≡ n → length l ≡ n
@@ -40,51 +39,82 @@ none-written : (keep : Bool) (buffer : List ℕ) → Buffered keep [] buffer buf
 unfolding joined
 none-written keep buffer = record { written = λ k. refl; untouched = λ k. refl }
 
-start-step : (s : Search) (l : Level) → levelAt (s .n) (s .levels) (s .depth) ≡ levelOf (s .n) l →
-    view (startOf s) ≡ stepStart (s .n) (s .m) (s .budget) (s .conflicts) (s .rows) (s .numbers) (s .levels) (s .made) l (s .depth)
-unfolding view coreOf statusOf
-start-step s l h = rw h
+-- the state at the start, by its parts
+abbrev pub startOf : Search → List ℤ → Search
+startOf s lines =
+    record { n = s .n; m = s .m; budget = s .budget; conflicts = s .conflicts; made = s .made; depth = s .depth; status = Undecided; rows = lines; divisors = s .divisors; numbers = s .numbers; levels = s .levels }
+
+pub view-unmarked : (s : Search) (lines : List ℤ) → s .status ≡ Undecided → lines ≡ s .rows → view (startOf s lines) ≡ view s
+unfolding view coreOf inputsOf
+view-unmarked s lines e l = rw (e, l)
+
+-- the state at the start, with the rows of the divisor constraints blanked
+start-step : (s : Search) (l : Level) (rows : List ℤ) → s .status ≡ Undecided → levelAt (s .n) (s .levels) (s .depth) ≡ levelOf (s .n) l →
+    tab (rowAt (s .n) rows) (s .m) (keptCuts (s .made)) ≡ tab (rowAt (s .n) (s .rows)) (s .m) (keptCuts (s .made)) →
+    view s ≡ stepStart (s .rows) (s .divisors) (s .n) (s .m) (s .budget) (s .conflicts) rows (s .numbers) (s .levels) (s .made) l (s .depth)
+unfolding view coreOf inputsOf coreOver statusOf
+start-step s l rows u h e = rw (u, h, e)
 
 module _ {s : Search} {limit : ℕ} {keep : Bool} {buffer : List ℕ} (i : Starts s limit keep buffer) where
   start-fits : CoreFits (coreOf s)
   unfolding view
   start-fits = core-fits (view s) (i .valid .shape) (i .valid .tests)
 
-  start-counts : Counts (s .n) (s .m) (s .budget) (s .conflicts) (s .made)
-  unfolding view coreOf coreWith
+  pub start-counts : Counts (s .n) (s .m) (s .budget) (s .conflicts) (s .made)
+  unfolding view coreOf inputsOf coreOver
   start-counts =
       let z = sizes-fit (view s) (i .valid .tests) in
-      record { some = z .some; few = z .few; inputs = omega (arith, z .inputs, length-tab (rowAt (s .n) (s .rows)) 0 (s .m)); limited = z .budget; afford = z .conflicts; cuts = z .made }
+      record { some = z .some; few = z .few; inputs = omega (arith, z .inputs, length-tab (inputAt (s .n) (s .rows) (s .divisors)) 0 (s .m)); limited = z .budget; afford = z .conflicts; cuts = z .made }
 
   pub start-depth : s .depth < 33
   start-depth =
-      let d : length (levelsFrom (s .n) (s .levels) (s .depth)) ≤ s .n = unfold model.depth coreOf coreWith in depth-fits (coreOf s) start-fits in
+      let d : length (levelsFrom (s .n) (s .levels) (s .depth)) ≤ s .n = unfold model.depth coreOf coreOver in depth-fits (coreOf s) start-fits in
       omega (arith, start-counts .few, length-levels (s .n) (s .levels) (s .depth))
 
-  start-here : (l : Level) → levelAt (s .n) (s .levels) (s .depth) ≡ levelOf (s .n) l → CoreFits (coreHere (s .n) (s .m) (s .rows) (s .numbers) (s .levels) (s .made) (s .depth) l)
-  unfolding coreOf
-  start-here l h = subst (λ (k : model.Level). CoreFits (coreWith (s .n) (s .m) (s .made) (s .rows) (s .numbers) k (levelsFrom (s .n) (s .levels) (s .depth)))) h start-fits
+  -- the rows with blanks, of the inputs that stand apart
+  module _ (rows : List ℤ) (p : RowsPut (s .n) (s .m) (s .divisors) (replicate rowsLength (pos 0)) (s .rows) rows) (rl : length (s .rows) ≡ rowsLength) (dl : length (s .divisors) ≡ maxConstraints) where
+    pub start-apart : Apart (s .n) (s .m) rows (s .rows) (s .divisors)
+    start-apart =
+        apart-starts (s .n) (s .m) (s .rows) (s .divisors) rows p (start-counts .inputs) rl dl (s .made) (s .numbers) (levelAt (s .n) (s .levels) (s .depth)) (levelsFrom (s .n) (s .levels) (s .depth))
+        (unfold coreOf inputsOf in start-fits)
 
-  pub running-starts : (l : Level) → l ≡ getD (s .levels) (s .depth) noLevel → Whole l → length (s .rows) ≡ 4224 → length (s .numbers) ≡ 64 → length (s .levels) ≡ 33 →
-      Running (view (startOf s)) buffer limit keep (s .n) (s .m) (s .budget) buffer (s .rows) (s .numbers) (s .levels) (s .made) (s .conflicts) (s .depth) l l (s .depth) 0
-  running-starts l e w rl nl ll =
-      let h : levelAt (s .n) (s .levels) (s .depth) ≡ levelOf (s .n) l = unfold levelAt in ap (levelOf (s .n)) (sym e) in
-      let z : limit - 0 ≡ limit = omega arith in
-      record {
-        counts = start-counts;
-        whole = w;
-        wholeBefore = w;
-        rowsLong = rl;
-        numbersLong = nl;
-        levelsLong = ll;
-        fits = start-here l h;
-        from = omega arith;
-        turn = refl;
-        within = omega arith;
-        blocks = [];
-        many = refl;
-        long = unfold joined in refl;
-        room = i .room;
-        ahead = rw z (ap (advance limit) (start-step s l h) ∙ sym (with-none _));
-        buffer = none-written keep buffer;
-      }
+    start-here : (l : Level) → levelAt (s .n) (s .levels) (s .depth) ≡ levelOf (s .n) l → CoreFits (coreHere (s .rows) (s .divisors) (s .n) (s .m) rows (s .numbers) (s .levels) (s .made) (s .depth) l)
+    unfolding coreOver
+    start-here l h =
+        rw (cuts-put (s .n) (s .m) (s .made) (s .divisors) _ (s .rows) rows p (start-counts .inputs))
+        (subst (λ (k : model.Level). CoreFits (coreApart (s .n) (s .m) (s .made) (s .rows) (s .rows) (s .divisors) (s .numbers) k (levelsFrom (s .n) (s .levels) (s .depth)))) h (unfold coreOf inputsOf in start-fits))
+
+    pub running-starts : (lines : List ℤ) → lines ≡ s .rows → (l : Level) → l ≡ getD (s .levels) (s .depth) noLevel → Whole l → length (s .numbers) ≡ 64 → length (s .levels) ≡ 33 →
+        Running (view (startOf s lines)) buffer limit keep lines (s .divisors) (s .n) (s .m) (s .budget) buffer rows (s .numbers) (s .levels) (s .made) (s .conflicts) (s .depth) l l (s .depth) 0
+    running-starts lines same l e w nl ll =
+        let h : levelAt (s .n) (s .levels) (s .depth) ≡ levelOf (s .n) l = unfold levelAt in ap (levelOf (s .n)) (sym e) in
+        let z : limit - 0 ≡ limit = omega arith in
+        rw (view-unmarked s lines (i .unmarked) same, same)
+        (record {
+          counts = start-counts;
+          whole = w;
+          wholeBefore = w;
+          rowsLong = p .long;
+          numbersLong = nl;
+          levelsLong = ll;
+          apart = start-apart;
+          fits = start-here l h;
+          from = omega arith;
+          turn = refl;
+          within = omega arith;
+          blocks = [];
+          many = refl;
+          long = unfold joined in refl;
+          room = i .room;
+          ahead = rw z (ap (advance limit) (start-step s l rows (i .unmarked) h (cuts-put (s .n) (s .m) (s .made) (s .divisors) _ (s .rows) rows p (start-counts .inputs))) ∙ sym (with-none _));
+          buffer = none-written keep buffer;
+        })
+
+-- ---- the state at the end, with those rows put back
+pub view-restored : (n m budget conflicts made depth : ℕ) (status : Status) (rows lines divisors after : List ℤ) (numbers : List ℕ) (levels : List Level) (l : Level) →
+    Apart n m rows lines divisors → RowsPut n m divisors lines rows after → m ≤ maxConstraints → depth < length levels →
+    view (record { n = n; m = m; budget = budget; conflicts = conflicts; made = made; depth = depth; status = status; rows = after; divisors = divisors; numbers = numbers; levels = set levels depth l }) ≡
+    stateAt lines divisors n m budget conflicts made depth (statusOf status) rows numbers levels l
+unfolding view coreOf inputsOf coreOver
+view-restored n m budget conflicts made depth status rows lines divisors after numbers levels l a p few h =
+    rw (inputs-restored n m rows lines divisors after a p few, cuts-put n m made divisors lines rows after p few, level-here n levels depth l h, levels-above n levels depth depth l (omega arith))

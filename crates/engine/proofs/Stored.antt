@@ -10,7 +10,8 @@ use Rattle.model.specs.Lists.{allOf}
 use Rattle.model.specs.Problem.{boundsInRange}
 use Rattle.model.specs.Search as model
 use Rattle.validity.proofs.States.{Every, LevelFits, Under, Stacked, CoreFits}
-use Rattle.state.specs.View.{levelOf, levelAt, levelsFrom, coreWith}
+use Rattle.state.specs.View.{levelOf, levelAt, levelsFrom, coreOver}
+use Rattle.propagate.specs.Divided.{coreApart}
 use Rattle.state.specs.declared.Level.{Level}
 use Rattle.state.proofs.Cores.{level-here, levels-above}
 use Rattle.engine.proofs.Running.{coreHere}
@@ -31,15 +32,15 @@ module _ (n : ℕ) (levels : List Level) where
   level-under k (suc j) zero q s = let z : ⊥ = omega arith in absurd z
   level-under k (suc j) (suc d) q s = level-under k j d (omega arith) (s .1)
 
-module _ (n m : ℕ) (rows : List ℤ) (numbers : List ℕ) (levels : List Level) (made depth : ℕ) (here : Level) (deep : depth < length levels)
-    (f : CoreFits (coreHere n m rows numbers levels made depth here)) where
-  stored : CoreFits (coreWith n m made rows numbers (levelAt n (set levels depth here) depth) (levelsFrom n (set levels depth here) depth))
+module _ (lines divisors : List ℤ) (n m : ℕ) (rows : List ℤ) (numbers : List ℕ) (levels : List Level) (made depth : ℕ) (here : Level) (deep : depth < length levels)
+    (f : CoreFits (coreHere lines divisors n m rows numbers levels made depth here)) where
+  stored : CoreFits (coreApart n m made rows lines divisors numbers (levelAt n (set levels depth here) depth) (levelsFrom n (set levels depth here) depth))
   stored = rw (level-here n levels depth here deep, levels-above n levels depth depth here (omega arith)) f
 
   pub stored-range : (k : ℕ) → k ≤ depth → T (allOf boundsInRange (levelAt n (set levels depth here) k .box))
-  unfolding coreWith model.levels
+  unfolding coreOver model.levels
   stored-range k h = level-every n (set levels depth here) (LevelFits n _) k (depth - k) depth (omega arith) (stored .levels) .range
 
   pub stored-under : (k : ℕ) → k < depth → Under n (levelAt n (set levels depth here) (suc k)) (levelAt n (set levels depth here) k)
-  unfolding coreWith
+  unfolding coreOver
   stored-under k h = level-under n (set levels depth here) k (depth - suc k) depth (omega arith) (stored .stacked)

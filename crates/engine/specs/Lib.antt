@@ -2,4 +2,5 @@
 pub mod Advancing
 pub mod Counting
 pub mod Learning
+pub mod Setting
 pub mod Tracking

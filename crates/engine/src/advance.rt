@@ -1,12 +1,18 @@
 // Turns repeated in place: the loop that `step`, `run` and `trace` share.
 use crate::Advanced;
 use crate::Ending;
+use crate::apart::due_at;
+use crate::apart::lesser;
+use crate::apart::put_rows;
 use crate::conflict::conflict;
 use crate::track::track;
 use backtrack::backjump;
 use backtrack::decide;
 use backtrack::mirror::keep_bounds;
 use backtrack::mirror::mirror;
+use propagate::divided::columns;
+use propagate::divided::divided_mask;
+use propagate::divided::first_indivisible;
 use propagate::propagate::Found;
 use propagate::propagate::propagate;
 use state::Level;
@@ -24,6 +30,8 @@ pub fn advance(s: Search, buffer: &mut [u8], limit: usize, keep: bool) -> Advanc
     let n = s.n;
     let m = s.m;
     let budget = s.budget;
+    let divisors = s.divisors;
+    let lines = s.rows;
     let mut rows = s.rows;
     let mut numbers = s.numbers;
     let mut levels = s.levels;
@@ -54,10 +62,15 @@ pub fn advance(s: Search, buffer: &mut [u8], limit: usize, keep: bool) -> Advanc
     let mut lowers = [0i64; 1056];
     let mut uppers = [0i64; 1056];
     mirror(levels, depth, &mut lowers, &mut uppers);
+    // The divisor constraints, blank among the rows, those that mention each variable, and the least depth that this call left by a decision.
+    put_rows(&olds, &divisors, n, m, &mut rows);
+    let divided = divided_mask(&divisors, m);
+    let mentions = columns(&lines, &divisors, n, m, divided);
+    let mut low = depth;
     // The variables that each input and each kept cut mentions.
     let mut inputs = [0usize; 64];
     let mut cuts = [0usize; 64];
-    let mut told = track(
+    let first = track(
         &rows,
         &lower,
         &upper,
@@ -69,10 +82,14 @@ pub fn advance(s: Search, buffer: &mut [u8], limit: usize, keep: bool) -> Advanc
         &mut inputs,
         &mut cuts,
     );
+    let mut told = first_indivisible(&lines, &divisors, divided, &lower, &upper, n, m, first);
     let mut going = 0 < limit;
     while going {
         let found = propagate(
             &rows,
+            &lines,
+            &divisors,
+            &mentions,
             n,
             m,
             made,
@@ -97,7 +114,7 @@ pub fn advance(s: Search, buffer: &mut [u8], limit: usize, keep: bool) -> Advanc
         match found {
             Found::Decide(i) => {
                 keep_bounds(&lower, &upper, depth, &mut lowers, &mut uppers);
-                told = decide(
+                let first = decide(
                     &rows,
                     n,
                     m,
@@ -114,6 +131,8 @@ pub fn advance(s: Search, buffer: &mut [u8], limit: usize, keep: bool) -> Advanc
                     &mut gones,
                     &mut counts,
                 );
+                let due = mentions[i];
+                told = first_indivisible(&lines, &divisors, due, &lower, &upper, n, m, first);
                 decided = i;
                 depth += 1;
             }
@@ -138,6 +157,8 @@ pub fn advance(s: Search, buffer: &mut [u8], limit: usize, keep: bool) -> Advanc
                     &above,
                     &lowers,
                     &uppers,
+                    &lines,
+                    &divisors,
                     n,
                     m,
                     made,
@@ -171,7 +192,7 @@ pub fn advance(s: Search, buffer: &mut [u8], limit: usize, keep: bool) -> Advanc
                 below = o.below;
                 above = o.above;
                 decided = o.decided;
-                told = backjump(
+                let first = backjump(
                     &rows,
                     n,
                     m,
@@ -188,6 +209,9 @@ pub fn advance(s: Search, buffer: &mut [u8], limit: usize, keep: bool) -> Advanc
                     &mut activities,
                     &mut reaches,
                 );
+                let due = due_at(depth, low, divided, mentions[i]);
+                low = lesser(low, depth);
+                told = first_indivisible(&lines, &divisors, due, &lower, &upper, n, m, first);
                 before = Level {
                     lower,
                     upper,
@@ -201,6 +225,7 @@ pub fn advance(s: Search, buffer: &mut [u8], limit: usize, keep: bool) -> Advanc
         }
     }
     levels[start] = before;
+    put_rows(&lines, &divisors, n, m, &mut rows);
     Advanced {
         ending,
         blocks: done,
@@ -213,6 +238,7 @@ pub fn advance(s: Search, buffer: &mut [u8], limit: usize, keep: bool) -> Advanc
             depth: start,
             status,
             rows,
+            divisors,
             numbers,
             levels,
         },

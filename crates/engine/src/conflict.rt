@@ -1,10 +1,13 @@
 // A counted conflict: what is learned from it, the level to go back to, and its journal record.
 use crate::learn::learn;
 use backtrack::mirror::backjump_level;
+use layout::ROW;
+use layout::copy_row;
 use record::emit;
+use state::kept::divisor_of;
 use state::kept::number_of;
 ghost use Rattle.state.specs.Change.{held};
-ghost use Rattle.engine.specs.Counting.{Countable, Counted};
+ghost use Rattle.engine.specs.Counting.{Countable, Counted, Dismissable, Dismissed};
 
 // The backjump level, and how many cuts are made now.
 pub struct Met {
@@ -12,8 +15,46 @@ pub struct Met {
     pub made: usize,
 }
 
+// A conflict in the input in row j of the lines, which carries divisor q: nothing is learned, and the record has zeros for the cut. Returns the backjump
+// level of the constraint itself.
+fn dismiss<'a>(
+    lines: &'a [i64; 4224],
+    lowers: &'a [i64; 1056],
+    uppers: &'a [i64; 1056],
+    q: i64,
+    n: usize,
+    j: usize,
+    depth: usize,
+    count: usize,
+    falsified: usize,
+    done: usize,
+    keep: bool,
+    buffer: &mut [u8],
+) -> usize
+    requires { ⌜ Dismissable n j depth count done keep q (now lines) (now lowers) (now uppers) (now buffer) ⌝ }
+    ensures { λ r. ⌜ Dismissed n j depth count falsified done keep q (now (lines .entry)) (now (lowers .entry)) (now (uppers .entry)) (now (buffer .entry)) r (now (buffer .exit)) ⌝ }
+{
+    let line = copy_row(lines, ROW * j, n);
+    let back = backjump_level(&line, q, n, depth, lowers, uppers);
+    let cut = [0i64; 33];
+    let used = [0usize; 32];
+    emit(
+        buffer,
+        keep,
+        done,
+        count,
+        falsified,
+        0,
+        depth,
+        back,
+        &cut,
+        &used,
+    );
+    back
+}
+
 // The conflict in the kept constraint in row j, the `count`-th of the search. The cut is learned and kept, the backjump level sought among the levels
-// above, and the record put as block `done` of the buffer, if records are kept.
+// above, and the record put as block `done` of the buffer, if records are kept. From a divisor constraint nothing is learned.
 pub fn conflict<'a>(
     lower: &'a [i64; 32],
     upper: &'a [i64; 32],
@@ -21,6 +62,8 @@ pub fn conflict<'a>(
     above: &'a [usize; 32],
     lowers: &'a [i64; 1056],
     uppers: &'a [i64; 1056],
+    lines: &'a [i64; 4224],
+    divisors: &'a [i64; 64],
     n: usize,
     m: usize,
     made: usize,
@@ -34,10 +77,28 @@ pub fn conflict<'a>(
     cuts: &mut [usize; 64],
     buffer: &mut [u8],
 ) -> Met
-    requires { ⌜ Countable n m made j depth count done keep (now rows) (now numbers) (held (now lower) (now upper) (now below) (now above) 0) (now lowers) (now uppers) (now cuts) (now buffer) ⌝ }
-    ensures { λ r. ⌜ Counted n m made j depth count done keep (now (rows .entry)) (now (numbers .entry)) (held (now (lower .entry)) (now (upper .entry)) (now (below .entry)) (now (above .entry))) (now (lowers .entry)) (now (uppers .entry)) (now (cuts .entry)) (now (buffer .entry)) (r .back) (r .made) (now (rows .exit)) (now (numbers .exit)) (now (cuts .exit)) (now (buffer .exit)) ⌝ }
+    requires { ⌜ Countable n m made j depth count done keep (now rows) (now numbers) (held (now lower) (now upper) (now below) (now above) 0) (now lowers) (now uppers) (now lines) (now divisors) (now cuts) (now buffer) ⌝ }
+    ensures { λ r. ⌜ Counted n m made j depth count done keep (now (rows .entry)) (now (numbers .entry)) (held (now (lower .entry)) (now (upper .entry)) (now (below .entry)) (now (above .entry))) (now (lowers .entry)) (now (uppers .entry)) (now (lines .entry)) (now (divisors .entry)) (now (cuts .entry)) (now (buffer .entry)) (r .back) (r .made) (now (rows .exit)) (now (numbers .exit)) (now (cuts .exit)) (now (buffer .exit)) ⌝ }
 {
     let falsified = number_of(m, made, j);
+    let q = divisor_of(divisors, m, j);
+    if q != 0 {
+        let back = dismiss(
+            lines,
+            lowers,
+            uppers,
+            q,
+            n,
+            j,
+            depth,
+            count,
+            falsified,
+            done,
+            keep,
+            buffer,
+        );
+        return Met { back, made };
+    }
     let l = learn(
         lower,
         upper,
@@ -53,7 +114,7 @@ pub fn conflict<'a>(
     );
     let cut = l.cut;
     let used = l.used;
-    let back = backjump_level(&cut, n, depth, lowers, uppers);
+    let back = backjump_level(&cut, 0, n, depth, lowers, uppers);
     emit(
         buffer,
         keep,

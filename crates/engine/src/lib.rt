@@ -2,6 +2,7 @@
 use state::Search;
 
 pub mod advance;
+pub mod apart;
 pub mod conflict;
 pub mod learn;
 pub mod track;

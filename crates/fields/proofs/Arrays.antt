@@ -13,11 +13,11 @@ use mir.Val.{SFits, toZ, ofZ}
 use mir.Facts.{toZ-ofZ}
 use Rattle.model.specs.Bytes.{i32At, block}
 use Rattle.model.specs.Constraint.{coefficientAt}
-use Rattle.model.specs.File.{variablesIn, boundsOffset, coefficientOffset, coefficientIn, constraintIn, constraintOf}
+use Rattle.model.specs.File.{variablesIn, boundsOffset, coefficientOffset, divisorOffset, coefficientIn, constraintIn, constraintOf}
 use Rattle.model.specs.Lists.{tab}
 use Rattle.lists.proofs.Tab.{length-tab, getD-tab, getD-tab-past, tab-more}
 use Rattle.layout.specs.Rows.{rowLength}
-use Rattle.fields.specs.Fields.{zeros, inRow, filled, boundIn, cellIn}
+use Rattle.fields.specs.Fields.{zeros, inRow, filled, boundIn, cellIn, divisorIn}
 use Rattle.fields.proofs.FileTests.{part, part-is}
 
 -- ---- an array that is filled from its start
@@ -56,6 +56,11 @@ module _ (f : List ℕ) (n c : ℕ) (en : n ≡ variablesIn f) where
   unfolding cellIn constraintOf
   cell-is a r ea h e =
       e ∙ rw (part-is f (c / rowLength + 1), ea, ← en, add-one (c / rowLength)) (sym (row-number n (block f (suc (c / rowLength))) (c % rowLength) h))
+
+-- ---- the divisors
+pub divisor-is : (f : List ℕ) (j : ℕ) (r : ℤ) → r ≡ i32At (part f (j + 1)) divisorOffset → r ≡ divisorIn f j
+unfolding divisorIn constraintOf constraintIn
+divisor-is f j r e = e ∙ rw (part-is f (j + 1), add-one j)
 
 -- ---- the bounds
 pub bound-is : (f : List ℕ) (side i a : ℕ) (r : ℤ) → a ≡ boundsOffset i → r ≡ i32At f (a + side) → r ≡ boundIn f side i

@@ -8,8 +8,8 @@ use mathlib.Core.List.{List}
 use lib.Dec.{eqb}
 use lib.ListN.{take, drop, length}
 use borrow.Author.Tests.{le-leb, lt-leb, eq-eqb, eqb-true, not-true, not-false}
-use Rattle.model.specs.Bytes.{Bytes, u32At, u32Bytes, u16Bytes, blockLength, checkOffset, block, checksum, zeroFrom}
-use Rattle.model.specs.File.{magic, variablesIn, constraintsIn, budgetIn, boundsOffset, coefficientOffset, problemIn, wholeBlocks, checkMatches, checksMatch, magicMatches, blockCountMatches, constraintPadded, paddingZero}
+use Rattle.model.specs.Bytes.{Bytes, u32At, u32Bytes, u16Bytes, blockLength, checkOffset, block, checksum, zeroBetween, zeroFrom}
+use Rattle.model.specs.File.{magic, variablesIn, constraintsIn, budgetIn, boundsOffset, coefficientOffset, divisorOffset, problemIn, wholeBlocks, checkMatches, checksMatch, magicMatches, blockCountMatches, blockPadded, constraintPadded, paddingZero}
 use Rattle.model.specs.Lists.{tab, all}
 use Rattle.model.specs.Problem.{sizesInRange}
 use Rattle.lists.proofs.All.{all-more, all-end, all-fails}
@@ -88,6 +88,20 @@ module _ (f : List ℕ) (n m b : ℕ) (en : n ≡ variablesIn f) (em : m ≡ con
   count-test h = rw (sizes-test, not-false r h, ← em, add-one m)
 
 -- ---- 7
+-- a constraint's block, before its divisor and after it
+module _ (b : List ℕ) (n a : ℕ) (ea : a ≡ 4 * (n + 1)) (r : Bool) (e : r ≡ zeroBetween a divisorOffset b) where
+  before-test : zeroBetween (coefficientOffset n) divisorOffset b ≡ r
+  unfolding coefficientOffset
+  before-test = let z : 4 + 4 * n ≡ 4 * (n + 1) = omega arith in rw (z, ← ea) (sym e)
+
+  pub stray-before : not r ≡ true → false ≡ blockPadded n b
+  unfolding blockPadded
+  stray-before h = rw (before-test, not-true r h)
+
+  pub stray-after : (t : Bool) → not r ≡ false → t ≡ zeroFrom (divisorOffset + 4) b → t ≡ blockPadded n b
+  unfolding blockPadded
+  stray-after t h z = rw (before-test, not-false r h) z
+
 module _ (f : List ℕ) (n : ℕ) (en : n ≡ variablesIn f) where
   module _ (a : ℕ) (ea : a ≡ boundsOffset n) (r : Bool) (e : r ≡ zeroFrom a (take blockLength f)) where
     head-test : zeroFrom (boundsOffset (variablesIn f)) (block f 0) ≡ r
@@ -102,12 +116,10 @@ module _ (f : List ℕ) (n : ℕ) (en : n ≡ variablesIn f) where
     unfolding paddingZero
     padding-end m j em h l k z = rw (head-test, not-false r h, ← em) (sym (all-end (constraintPadded f) m j l k z))
 
-  module _ (j a : ℕ) (ea : a ≡ 4 * (n + 1)) (r : Bool) (e : r ≡ zeroFrom a (part f (j + 1))) where
+  module _ (j : ℕ) (r : Bool) (e : r ≡ blockPadded n (part f (j + 1))) where
     padded-test : constraintPadded f j ≡ r
-    unfolding constraintPadded coefficientOffset
-    padded-test =
-        let z : 4 + 4 * n ≡ 4 * (n + 1) = omega arith in
-        rw (← en, z, ← ea, ← add-one j, ← part-is f (j + 1)) (sym e)
+    unfolding constraintPadded
+    padded-test = rw (← en, ← add-one j, ← part-is f (j + 1)) (sym e)
 
     pub padding-more : all (tab (constraintPadded f) 0 j) ≡ true → not r ≡ false → all (tab (constraintPadded f) 0 (j + 1)) ≡ true
     padding-more z h = all-more (constraintPadded f) j z (padded-test ∙ not-false r h)

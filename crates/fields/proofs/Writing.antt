@@ -2,7 +2,7 @@
 use Prim.Native.Nat.{ℕ, _+_, _*_, _^_, _<_, _≤_}
 use native.Mathlib.Omega.{arith}
 use mathlib.Core.Bool.{true}
-use mathlib.Core.Path.{_≡_, sym, ap, _∙_}
+use mathlib.Core.Path.{_≡_, refl, sym, ap, _∙_}
 use mathlib.Core.List.{List, _++_}
 use lib.IntN.{ℤ, pos}
 use lib.ListN.{getD, take}
@@ -10,18 +10,18 @@ use mir.Syntax.{w64}
 use mir.Val.{SFits, toZ, ofZ}
 use mir.Facts.{toZ-ofZ}
 use Rattle.model.specs.Bytes.{u16Bytes, u32Bytes, i32Bytes, checkOffset, sealed}
-use Rattle.model.specs.Constraint.{inRange}
-use Rattle.model.specs.File.{magic, coefficientBytes, constraintBytes}
+use Rattle.model.specs.Constraint.{coefficientAt, inRange, isDivisor}
+use Rattle.model.specs.File.{magic, divisorOffset, coefficientBytes, numbersBytes, constraintBytes}
 use Rattle.model.specs.Lists.{tab, parts, all}
 use Rattle.model.specs.Ranges.{within, maxVariables, maxCoefficient}
 use Rattle.integer.specs.Size.{Within}
 use Rattle.lists.proofs.All.{all-at}
 use Rattle.lists.proofs.Bools.{and-true}
-use Rattle.format.proofs.Within.{within-natAbs}
+use Rattle.format.proofs.Within.{within-natAbs, divisor-natAbs}
 use Rattle.layout.proofs.Rows.{coefficient-at}
-use Rattle.layout.specs.Rows.{numberIn, cell, constraintAt}
+use Rattle.layout.specs.Rows.{numberIn, cell, constraintAt, dividedAt}
 use Rattle.block.proofs.Placing.{then, more-placed}
-use Rattle.block.proofs.Sealing.{sealed-content}
+use Rattle.block.proofs.Sealing.{padded-placed, sealed-content}
 use Rattle.block.specs.Placed.{Placed, cleared}
 use Rattle.layout.proofs.Tests.{smallAt, range-tests}
 use Rattle.fields.proofs.FileTests.{magicNumber, magic-bytes}
@@ -29,6 +29,9 @@ use Rattle.fields.proofs.FileTests.{magicNumber, magic-bytes}
 -- a number that passed its test has room in 32 bits, as the machine reads it back
 pub within-back : (b : ℕ) (z : ℤ) → b ≤ 2 ^ 30 → SFits w64 z → within b z ≡ true → Within (2 ^ 31) (toZ w64 (ofZ w64 z))
 within-back b z l f e = rw (toZ-ofZ f) (record { within = omega (arith, within-natAbs b z e) })
+
+pub divisor-back : (q : ℤ) → SFits w64 q → isDivisor q ≡ true → Within (2 ^ 31) (toZ w64 (ofZ w64 q))
+divisor-back q f e = rw (toZ-ofZ f) (record { within = omega (arith, divisor-natAbs q e) })
 
 -- a field's place, said otherwise
 pub moved : {s b t : List ℕ} {i j : ℕ} (i′ j′ : ℕ) → i ≡ i′ → j ≡ j′ → Placed s i j b t → Placed s i′ j′ b t
@@ -69,13 +72,20 @@ module _ (n : ℕ) (rows : List ℤ) (start : ℕ) where
   pub numbers-end : {s t u : List ℕ} (i a : ℕ) → n ≤ i → i ≤ n → a ≡ 4 * 0 → SFits w64 (getD rows start (pos 0)) →
       Placed s a (a + 4) (i32Bytes (toZ w64 (ofZ w64 (getD rows start (pos 0))))) t →
       Placed t 4 (4 + 4 * i) (parts (coefficientBytes (constraintAt n rows start)) 0 i) u →
-      Placed s 0 (4 + 4 * n) (constraintBytes n (constraintAt n rows start)) u
-  unfolding constraintBytes constraintAt numberIn
+      Placed s 0 (4 + 4 * n) (numbersBytes n (constraintAt n rows start)) u
+  unfolding numbersBytes constraintAt numberIn
   numbers-end {s} {t} {u} i a l h e f x y =
       let z : i ≡ n = omega arith in
       let first : Placed s 0 4 (i32Bytes (getD rows start (pos 0))) t = rw (toZ-ofZ f) at (moved 0 4 (omega arith) (omega arith) x) in
       then first (rw z at y)
 
-  pub constraint-sealed : {y s t : List ℕ} (k : ℕ) → n ≤ maxVariables → y ≡ cleared → Placed y 0 (4 + 4 * n) (constraintBytes n (constraintAt n rows start)) s →
-      t ≡ sealed k (take checkOffset s) → t ≡ sealed k (constraintBytes n (constraintAt n rows start))
-  constraint-sealed k l e x f = sealed-content k f x (omega arith) e
+  module _ (q : ℤ) (f : SFits w64 q) where
+    -- a divisor does not change the numbers before it
+    pub divisor-placed : {s t u : List ℕ} → n ≤ maxVariables → s ≡ cleared → Placed s 0 (4 + 4 * n) (numbersBytes n (constraintAt n rows start)) t →
+        Placed t divisorOffset (divisorOffset + 4) (i32Bytes (toZ w64 (ofZ w64 q))) u → Placed cleared 0 (divisorOffset + 4) (constraintBytes n (dividedAt n rows start q)) u
+    unfolding constraintBytes numbersBytes coefficientBytes coefficientAt constraintAt dividedAt
+    divisor-placed {s} {t} {u} l e x y = then (padded-placed divisorOffset (rw e at x) (omega arith) (omega arith)) (rw (toZ-ofZ f) at y)
+
+    pub constraint-sealed : {s t u v : List ℕ} (k : ℕ) → n ≤ maxVariables → s ≡ cleared → Placed s 0 (4 + 4 * n) (numbersBytes n (constraintAt n rows start)) t →
+        Placed t divisorOffset (divisorOffset + 4) (i32Bytes (toZ w64 (ofZ w64 q))) u → v ≡ sealed k (take checkOffset u) → v ≡ sealed k (constraintBytes n (dividedAt n rows start q))
+    constraint-sealed k l e x y g = sealed-content k g (divisor-placed l e x y) (omega arith) refl

@@ -29,6 +29,10 @@ room = 32
 abbrev pub cells : ℕ
 cells = 2112
 
+-- the constraints that they have room for
+abbrev pub divisorRoom : ℕ
+divisorRoom = 64
+
 unfoldable pub zeros : ℕ → List ℤ
 zeros n = replicate n (pos 0)
 
@@ -44,6 +48,10 @@ boundIn f side i = i32At f (boundsOffset i + side)
 unfoldable pub inRow : Constraint → ℕ → ℤ
 inRow k zero = k .constant
 inRow k (suc i) = coefficientAt k i
+
+-- the divisor of constraint j
+unfoldable pub divisorIn : List ℕ → ℕ → ℤ
+divisorIn f j = constraintOf f j .divisor
 
 -- number c of the rows
 unfoldable pub cellIn : List ℕ → ℕ → ℤ

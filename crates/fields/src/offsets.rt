@@ -29,6 +29,11 @@ pub fn bounds_offset(i: usize) -> usize
     12 + 8 * i
 }
 
+// The divisor of a constraint in its block, whatever n is, and what follows it.
+pub const DIVISOR_OFFSET: usize = 132;
+
+pub const DIVISOR_END: usize = DIVISOR_OFFSET + 4;
+
 // Number i of a constraint in its block: the constant, then the coefficients.
 pub fn number_offset(i: usize) -> usize
     requires { ⌜ i ≤ rowLength ⌝ }

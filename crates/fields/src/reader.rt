@@ -9,9 +9,9 @@ ghost use Prim.Native.Nat.{_*_, _<_, _≤_};
 ghost use lib.ListN.{length};
 ghost use Rattle.model.specs.Ranges.{maxVariables};
 ghost use Rattle.model.specs.Bytes.{blockLength};
-ghost use Rattle.model.specs.File.{variablesIn, constraintsIn, budgetIn, wholeBlocks, checksMatch, magicMatches, paddingZero};
+ghost use Rattle.model.specs.File.{variablesIn, constraintsIn, budgetIn, wholeBlocks, checksMatch, magicMatches, blockPadded, paddingZero};
 ghost use Rattle.layout.specs.Rows.{rowLength};
-ghost use Rattle.fields.specs.Fields.{sizesMatch, Blocks, room, cells, filled, boundIn, cellIn};
+ghost use Rattle.fields.specs.Fields.{sizesMatch, Blocks, room, cells, divisorRoom, filled, boundIn, cellIn, divisorIn};
 
 // 'n', 'm' and 'B' of a file that has a head.
 pub fn variables_in(file: &[u8]) -> usize
@@ -84,6 +84,17 @@ pub fn sizes_match(file: &[u8]) -> bool
     file.len() == block::LENGTH * (m + 1)
 }
 
+// Whether the bytes of a constraint's block that should be zero are: before its divisor and after it.
+fn is_padded(b: &[u8], n: usize) -> bool
+    requires { ⌜ (length (now b) ≡ blockLength) × (n ≤ maxVariables) ⌝ }
+    ensures { λ r. ⌜ r ≡ blockPadded n (now (b .entry)) ⌝ }
+{
+    if !check::is_zero_between(b, offsets::number_offset(n + 1), offsets::DIVISOR_OFFSET) {
+        return false;
+    }
+    check::is_zero_from(b, offsets::DIVISOR_END)
+}
+
 // 7, 'stray': whether every byte that should be zero is.
 pub fn padding_zero(file: &[u8]) -> bool
     requires { ⌜ Blocks (now file) ⌝ }
@@ -98,7 +109,7 @@ pub fn padding_zero(file: &[u8]) -> bool
     while j < m {
         let start = block::LENGTH * (j + 1);
         let end = start + block::LENGTH;
-        if !check::is_zero_from(&file[start..end], offsets::number_offset(n + 1)) {
+        if !is_padded(&file[start..end], n) {
             return false;
         }
         j += 1;
@@ -147,4 +158,20 @@ pub fn rows_in(file: &[u8], n: usize, m: usize) -> [i64; 2112]
         c += 1;
     }
     rows
+}
+
+// The divisors of m constraints; 0 past the last one.
+pub fn divisors_in(file: &[u8], m: usize) -> [i64; 64]
+    requires { ⌜ Blocks (now file) × (m ≡ constraintsIn (now file)) ⌝ }
+    ensures { λ r. ⌜ r ≡ filled (divisorIn (now (file .entry))) m divisorRoom ⌝ }
+{
+    let mut divisors = [0i64; 64];
+    let mut j: usize = 0;
+    while j < m {
+        let start = block::LENGTH * (j + 1);
+        let end = start + block::LENGTH;
+        divisors[j] = number::i32_at(&file[start..end], offsets::DIVISOR_OFFSET);
+        j += 1;
+    }
+    divisors
 }

@@ -8,9 +8,9 @@ ghost use Prim.Native.Nat.{_+_, _*_, _≤_};
 ghost use lib.ListN.{length};
 ghost use Rattle.model.specs.Ranges.{maxVariables};
 ghost use Rattle.model.specs.Bytes.{u16Bytes, u32Bytes, blockLength, sealed};
-ghost use Rattle.model.specs.Constraint.{inRange};
-ghost use Rattle.model.specs.File.{magic, constraintBytes};
-ghost use Rattle.layout.specs.Rows.{constraintAt};
+ghost use Rattle.model.specs.Constraint.{inRange, isDivisor};
+ghost use Rattle.model.specs.File.{magic, numbersBytes, constraintBytes};
+ghost use Rattle.layout.specs.Rows.{constraintAt, dividedAt};
 ghost use Rattle.block.specs.Placed.{Placed};
 
 // Puts the letters and the sizes of a head.
@@ -27,7 +27,7 @@ pub fn put_sizes(n: usize, m: usize, budget: usize, head: &mut [u8])
 // Puts the constant and the n coefficients of the constraint whose row starts at `start`.
 fn put_numbers(n: usize, rows: &[i64], start: usize, block: &mut [u8])
     requires { ⌜ (n ≤ maxVariables) × (start + 1 + n ≤ length (now rows)) × (inRange (constraintAt n (now rows) start) ≡ true) × (length (now block) ≡ blockLength) ⌝ }
-    ensures { λ r. ⌜ Placed (now (block .entry)) 0 (4 + 4 * n) (constraintBytes n (constraintAt n (now (rows .entry)) start)) (now (block .exit)) ⌝ }
+    ensures { λ r. ⌜ Placed (now (block .entry)) 0 (4 + 4 * n) (numbersBytes n (constraintAt n (now (rows .entry)) start)) (now (block .exit)) ⌝ }
 {
     build::put_i32(block, offsets::number_offset(0), rows[start]);
     let mut i: usize = 0;
@@ -37,12 +37,14 @@ fn put_numbers(n: usize, rows: &[i64], start: usize, block: &mut [u8])
     }
 }
 
-// Writes a constraint's block, block k of the file, whatever stood there.
-pub fn write_constraint(n: usize, rows: &[i64], start: usize, k: usize, block: &mut [u8])
+// Writes the block of a constraint with divisor q, block k of the file, whatever stood there.
+pub fn write_constraint(n: usize, rows: &[i64], start: usize, q: i64, k: usize, block: &mut [u8])
     requires { ⌜ (n ≤ maxVariables) × (start + 1 + n ≤ length (now rows)) × (inRange (constraintAt n (now rows) start) ≡ true) × (length (now block) ≡ blockLength) ⌝ }
-    ensures { λ r. ⌜ now (block .exit) ≡ sealed k (constraintBytes n (constraintAt n (now (rows .entry)) start)) ⌝ }
+    requires { ⌜ isDivisor q ≡ true ⌝ }
+    ensures { λ r. ⌜ now (block .exit) ≡ sealed k (constraintBytes n (dividedAt n (now (rows .entry)) start q)) ⌝ }
 {
     build::clear(block);
     put_numbers(n, rows, start, block);
+    build::put_i32(block, offsets::DIVISOR_OFFSET, q);
     build::seal(block, k);
 }

@@ -9,7 +9,7 @@ use borrow.Author.Tests.{leb-true, eq-eqb}
 use Rattle.model.specs.Ranges.{maxVariables, maxConstraints, maxBudget}
 use Rattle.model.specs.Lists.{all, allOf}
 use Rattle.model.specs.Bytes.{block}
-use Rattle.model.specs.Problem.{Problem, variables, sizesInRange, domainInRange, constraintsInRange, firstError}
+use Rattle.model.specs.Problem.{Problem, variables, sizesInRange, domainInRange, constraintsInRange, divisorsInRange, firstError}
 use Rattle.model.specs.File.{variablesIn, constraintsIn, boundsIn, constraintIn, coefficientIn, constraintOf, problemIn, wholeBlocks, checksMatch, magicMatches, blockCountMatches, paddingZero, readError}
 use Rattle.model.specs.Validity.{constraintShaped}
 use Rattle.lists.proofs.Bools.{T-of, and-true}
@@ -48,6 +48,7 @@ pub record Tests (f : List ℕ) : Type 0 where
   pub counted : blockCountMatches f ≡ true
   pub bounded : domainInRange (problemIn f) ≡ true
   pub coefficient-range : constraintsInRange (problemIn f) ≡ true
+  pub divisor-range : divisorsInRange (problemIn f) ≡ true
   pub clean : paddingZero f ≡ true
 
 pub tests : (f : List ℕ) → readError f ≡ 0 → Tests f
@@ -59,13 +60,14 @@ tests f e =
     let e₄ = passed 3 (sizesInRange (problemIn f) && blockCountMatches f) _ (e₃ .1) in
     let e₅ = passed 4 (domainInRange (problemIn f)) _ (e₄ .1) in
     let e₆ = passed 5 (constraintsInRange (problemIn f)) _ (e₅ .1) in
-    let e₇ = passed 6 (paddingZero f) _ (e₆ .1) in
+    let e₇ = passed 9 (divisorsInRange (problemIn f)) _ (e₆ .1) in
+    let e₈ = passed 6 (paddingZero f) _ (e₇ .1) in
     let s = and-true (sizesInRange (problemIn f)) (blockCountMatches f) (e₄ .0) in
-    record { whole = e₁ .0; checked = e₂ .0; lettered = e₃ .0; sized = s .0; counted = s .1; bounded = e₅ .0; coefficient-range = e₆ .0; clean = e₇ .0 }
+    record { whole = e₁ .0; checked = e₂ .0; lettered = e₃ .0; sized = s .0; counted = s .1; bounded = e₅ .0; coefficient-range = e₆ .0; divisor-range = e₇ .0; clean = e₈ .0 }
 
 pub no-error : (f : List ℕ) → Tests f → readError f ≡ 0
 unfolding readError firstError
-no-error f a = rw (a .whole, a .checked, a .lettered, a .sized, a .counted, a .bounded, a .coefficient-range, a .clean)
+no-error f a = rw (a .whole, a .checked, a .lettered, a .sized, a .counted, a .bounded, a .coefficient-range, a .divisor-range, a .clean)
 
 -- ---- the problem in a file has the sizes that its head says
 pub variables-in : (f : List ℕ) → variables (problemIn f) ≡ variablesIn f
@@ -76,7 +78,7 @@ pub constraints-in : (f : List ℕ) → length (problemIn f .constraints) ≡ co
 unfolding problemIn
 constraints-in f = length-tab (constraintOf f) 0 (constraintsIn f)
 
--- ---- the four facts
+-- ---- the facts
 module _ (f : List ℕ) (e : readError f ≡ 0) where
   pub accepted-sizes : T (sizesInRange (problemIn f))
   accepted-sizes = T-of (tests f e .sized)
@@ -86,6 +88,9 @@ module _ (f : List ℕ) (e : readError f ≡ 0) where
 
   pub accepted-constraints : T (constraintsInRange (problemIn f))
   accepted-constraints = T-of (tests f e .coefficient-range)
+
+  pub accepted-divisors : T (divisorsInRange (problemIn f))
+  accepted-divisors = T-of (tests f e .divisor-range)
 
 -- this one holds of any bytes
 pub problem-shaped : (f : List ℕ) → T (allOf (constraintShaped (variables (problemIn f))) (problemIn f .constraints))

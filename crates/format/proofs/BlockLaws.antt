@@ -4,12 +4,12 @@ use native.Mathlib.Omega.{arith}
 use native.Mathlib.Nat.{mod-lt}
 use mathlib.Core.Bool.{true}
 use mathlib.Core.Path.{_≡_, refl, sym, ap, ap₂, _∙_}
-use mathlib.Core.List.{List, [], _∷_}
+use mathlib.Core.List.{List, [], _∷_, _++_}
 use borrow.Author.Tests.{eqb-true}
 use lib.ListN.{take, drop, length, replicate, length-append, length-replicate, length-drop, take-append-drop}
 use lib.Seq.{take-add, take-all, take-at, drop-at, take-take, drop-append-seam, length-take-le}
 use Rattle.model.specs.Lists.{tab, sum, allOf}
-use Rattle.model.specs.Bytes.{Bytes, u32At, u32Bytes, blockLength, checkOffset, block, wordAt, checksum, isZero, zeroFrom, padded, sealed}
+use Rattle.model.specs.Bytes.{Bytes, u32At, u32Bytes, blockLength, checkOffset, block, wordAt, checksum, isZero, zeroBetween, zeroFrom, paddedTo, padded, sealed}
 use Rattle.lists.proofs.Bools.{and-true}
 use Rattle.lists.proofs.Tab.{tab-ext-0}
 use Rattle.lists.proofs.AllOf.{allOf-replicate}
@@ -34,10 +34,27 @@ unfolding checksum wordAt
 checksum-take k b =
     ap (λ (l : List ℕ). (sum l + suc k) % 2 ^ 32) (tab-ext-0 (wordAt (take 508 b)) (wordAt b) 127 (λ w l. u32-take 508 b (4 * w) (omega arith)))
 
+-- ---- content padded to place e: its length, its bytes, and that it is zero after the content, whatever follows
+pub length-padded-to : (e : ℕ) (c : List ℕ) → length c ≤ e → length (paddedTo e c) ≡ e
+unfolding paddedTo
+length-padded-to e c l = length-append c (replicate (e - length c) 0) ∙ omega (arith, length-replicate {A = ℕ} (e - length c) 0)
+
+pub bytes-padded-to : (e : ℕ) (c : List ℕ) → Bytes c → Bytes (paddedTo e c)
+unfolding paddedTo
+bytes-padded-to e c y = bytes-append c (replicate (e - length c) 0) y (bytes-zeros (e - length c))
+
+zeros-after : (e : ℕ) (c : List ℕ) → allOf isZero (drop (length c) (paddedTo e c)) ≡ true
+unfolding paddedTo isZero
+zeros-after e c = rw (drop-append-seam c (replicate (e - length c) 0)) (allOf-replicate isZero (e - length c) 0 refl)
+
+pub padded-zero : (e : ℕ) (c rest : List ℕ) → length c ≤ e → zeroBetween (length c) e (paddedTo e c ++ rest) ≡ true
+unfolding zeroBetween
+padded-zero e c rest l = rw (take-at (paddedTo e c) rest e (length-padded-to e c l)) (zeros-after e c)
+
 -- ---- a sealed block: its length, its bytes, its content's place
 pub length-padded : (c : List ℕ) → length c ≤ checkOffset → length (padded c) ≡ checkOffset
 unfolding padded
-length-padded c l = length-append c (replicate (508 - length c) 0) ∙ omega (arith, length-replicate {A = ℕ} (508 - length c) 0)
+length-padded c l = length-padded-to checkOffset c l
 
 pub length-sealed : (k : ℕ) (c : List ℕ) → length c ≤ checkOffset → length (sealed k c) ≡ blockLength
 unfolding sealed
@@ -48,7 +65,7 @@ pub bytes-sealed : (k : ℕ) (c : List ℕ) → Bytes c → Bytes (sealed k c)
 unfolding sealed padded
 bytes-sealed k c y =
     bytes-append (padded c) (u32Bytes (checksum k (padded c)))
-    (bytes-append c (replicate (508 - length c) 0) y (bytes-zeros (508 - length c)))
+    (bytes-padded-to checkOffset c y)
     (bytes-u32 (checksum k (padded c)))
 
 pub take-sealed : (k : ℕ) (c : List ℕ) → length c ≤ checkOffset → take checkOffset (sealed k c) ≡ padded c
@@ -66,9 +83,8 @@ sealed-check k c l =
 
 -- and it is zero after its content
 pub sealed-zero : (k : ℕ) (c : List ℕ) → length c ≤ checkOffset → zeroFrom (length c) (sealed k c) ≡ true
-unfolding zeroFrom padded isZero
-sealed-zero k c l =
-    rw (take-sealed k c l, drop-append-seam c (replicate (508 - length c) 0)) (allOf-replicate isZero (508 - length c) 0 refl)
+unfolding zeroFrom sealed padded
+sealed-zero k c l = padded-zero checkOffset c (u32Bytes (checksum k (padded c))) l
 
 -- ---- a block that is zero after its content, with the right check, is its content sealed
 zeros-are : (s : List ℕ) → allOf isZero s ≡ true → s ≡ replicate (length s) 0
@@ -78,16 +94,15 @@ zeros-are (b ∷ bs) a =
     let h = and-true (isZero b) (allOf isZero bs) a in
     ap₂ (λ (x : ℕ) (l : List ℕ). x ∷ l) (eqb-true b 0 (h .0)) (zeros-are bs (h .1))
 
-module _ (b : List ℕ) (i : ℕ) (l : length b ≡ blockLength) (h : i ≤ checkOffset) (z : zeroFrom i b ≡ true) where
-  pub padded-of : padded (take i b) ≡ take checkOffset b
-  unfolding padded zeroFrom
-  padded-of =
-      let li : length (take i b) ≡ i = length-take-le i b (omega arith) in
-      let ld : length (drop i (take 508 b)) ≡ 508 - i = length-drop i (take 508 b) ∙ rw (length-take-le 508 b (omega arith)) in
-      let zeros : replicate (508 - i) 0 ≡ drop i (take 508 b) = sym (zeros-are (drop i (take 508 b)) z ∙ ap (λ (n : ℕ). replicate n 0) ld) in
-      rw (li, zeros, ← take-take i 508 b h) (take-append-drop i (take 508 b))
+pub padded-of : (b : List ℕ) (i e : ℕ) → e ≤ length b → i ≤ e → zeroBetween i e b ≡ true → paddedTo e (take i b) ≡ take e b
+unfolding paddedTo zeroBetween
+padded-of b i e l h z =
+    let li : length (take i b) ≡ i = length-take-le i b (omega arith) in
+    let ld : length (drop i (take e b)) ≡ e - i = length-drop i (take e b) ∙ rw (length-take-le e b l) in
+    let zeros : replicate (e - i) 0 ≡ drop i (take e b) = sym (zeros-are (drop i (take e b)) z ∙ ap (λ (n : ℕ). replicate n 0) ld) in
+    rw (li, zeros, ← take-take i e b h) (take-append-drop i (take e b))
 
-  pub sealed-of : (k : ℕ) → Bytes b → checksum k b ≡ u32At b checkOffset → sealed k (take i b) ≡ b
-  unfolding sealed
-  sealed-of k y c =
-      rw (padded-of, checksum-take k b, c, u32-written b y 508 (omega arith)) (sym (take-add 508 4 b) ∙ take-all 512 b (omega arith))
+pub sealed-of : (b : List ℕ) (i : ℕ) → length b ≡ blockLength → i ≤ checkOffset → zeroFrom i b ≡ true → (k : ℕ) → Bytes b → checksum k b ≡ u32At b checkOffset → sealed k (take i b) ≡ b
+unfolding sealed padded zeroFrom
+sealed-of b i l h z k y c =
+    rw (padded-of b i checkOffset (omega arith) h z, checksum-take k b, c, u32-written b y 508 (omega arith)) (sym (take-add 508 4 b) ∙ take-all 512 b (omega arith))

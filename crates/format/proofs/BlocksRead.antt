@@ -1,60 +1,92 @@
 -- The fields of a written block, read: a constraint's numbers, and the head's sizes and bounds.
-use Prim.Native.Nat.{ℕ, _+_, _*_, _^_, _-_, _<_}
+use Prim.Native.Nat.{ℕ, _+_, _*_, _^_, _-_, _<_, _≤_}
 use native.Mathlib.Omega.{arith}
 use mathlib.Core.Bool.{true}
-use mathlib.Core.Path.{_≡_, refl, sym, ap₂}
+use mathlib.Core.Path.{_≡_, refl, sym}
 use mathlib.Core.List.{List, [], _++_, append-assoc}
-use lib.IntN.{ℤ, pos}
+use lib.IntN.{pos}
 use lib.ListN.{take, drop, length, replicate}
 use Rattle.model.specs.Lists.{tab, parts, all, allOf}
-use Rattle.model.specs.Ranges.{maxBound, maxCoefficient, within}
-use Rattle.model.specs.Constraint.{Constraint, noBounds, coefficientAt, lowerAt, upperAt, inRange}
+use Rattle.model.specs.Ranges.{maxVariables, maxBound, maxCoefficient, within}
+use Rattle.model.specs.Constraint.{Constraint, noBounds, coefficientAt, lowerAt, upperAt, inRange, divisorInRange}
 use Rattle.model.specs.Problem.{Problem, variables, boundsInRange, domainInRange}
-use Rattle.model.specs.Bytes.{u16At, u32At, i32At, u16Bytes, u32Bytes, i32Bytes, checksum, padded, sealed}
-use Rattle.model.specs.File.{magic, coefficientOffset, coefficientIn, constraintIn, boundsBytes, headBytes, coefficientBytes, constraintBytes}
-use Rattle.lists.proofs.Bools.{and-true}
+use Rattle.model.specs.Bytes.{u16At, u32At, i32At, u16Bytes, u32Bytes, i32Bytes, checksum, zeroBetween, zeroFrom, paddedTo, padded, sealed}
+use Rattle.model.specs.File.{magic, coefficientOffset, divisorOffset, coefficientIn, constraintIn, blockPadded, boundsBytes, headBytes, coefficientBytes, numbersBytes, constraintBytes}
+use Rattle.integer.specs.Size.{mag-abs}
+use Rattle.lists.proofs.Bools.{and-true, and-both}
 use Rattle.lists.proofs.Tab.{tab-is}
 use Rattle.lists.proofs.Parts.{part-of}
 use Rattle.lists.proofs.AllOf.{allOf-getD}
-use Rattle.format.proofs.Within.{within-mag}
+use Rattle.format.proofs.Within.{within-mag, divisor-natAbs}
 use Rattle.format.proofs.ByteLaws.{length-i32, place, halves, u16-read, u32-read, i32-read}
-use Rattle.format.proofs.FileShape.{length-coefficient, length-bounds}
+use Rattle.format.proofs.BlockLaws.{padded-zero, sealed-zero}
+use Rattle.format.proofs.FileShape.{length-coefficient, length-numbers, length-before, length-constraint, length-bounds}
 
 -- what a sealed block has after its content
 end : ℕ → List ℕ → List ℕ
 end q c = replicate (508 - length c) 0 ++ u32Bytes (checksum q (padded c))
 
+-- a constraint's numbers, with the zeros up to its divisor
+before : ℕ → Constraint → List ℕ
+before n k = paddedTo divisorOffset (numbersBytes n k)
+
+-- what its block has after its coefficients
+after : ℕ → ℕ → Constraint → List ℕ
+after n q k = replicate (divisorOffset - length (numbersBytes n k)) 0 ++ (i32Bytes (k .divisor) ++ end q (constraintBytes n k))
+
 -- ---- a constraint
 module _ (n q : ℕ) (k : Constraint) where
-  constraint-stands : sealed q (constraintBytes n k) ≡ i32Bytes (k .constant) ++ (parts (coefficientBytes k) 0 n ++ end q (constraintBytes n k))
-  unfolding sealed padded constraintBytes end
+  constraint-stands : sealed q (constraintBytes n k) ≡ i32Bytes (k .constant) ++ (parts (coefficientBytes k) 0 n ++ after n q k)
+  unfolding sealed padded paddedTo constraintBytes numbersBytes end after
   constraint-stands = simp append-assoc
 
   constant-read : within maxCoefficient (k .constant) ≡ true → i32At (sealed q (constraintBytes n k)) 0 ≡ k .constant
   constant-read w =
       let c = i32Bytes (k .constant) in
       i32-read (sealed q (constraintBytes n k)) 0 (k .constant) (within-mag maxCoefficient (2 ^ 31) (k .constant) (omega arith) w)
-      (rw constraint-stands (place [] c (parts (coefficientBytes k) 0 n ++ end q (constraintBytes n k)) 0 4 refl (length-i32 (k .constant))))
+      (rw constraint-stands (place [] c (parts (coefficientBytes k) 0 n ++ after n q k) 0 4 refl (length-i32 (k .constant))))
 
   coefficient-stands : (i : ℕ) → i < n → take 4 (drop (4 + 4 * i) (sealed q (constraintBytes n k))) ≡ coefficientBytes k i
   coefficient-stands i l =
       rw constraint-stands
-      (rw (length-i32 (k .constant)) at (part-of 4 (coefficientBytes k) n (i32Bytes (k .constant)) (end q (constraintBytes n k)) i (λ j m. length-coefficient k j) l))
+      (rw (length-i32 (k .constant)) at (part-of 4 (coefficientBytes k) n (i32Bytes (k .constant)) (after n q k) i (λ j m. length-coefficient k j) l))
 
   coefficient-read : (i : ℕ) → i < n → within maxCoefficient (coefficientAt k i) ≡ true → coefficientIn (sealed q (constraintBytes n k)) i ≡ coefficientAt k i
   unfolding coefficientIn coefficientOffset coefficientBytes
   coefficient-read i l w =
       i32-read (sealed q (constraintBytes n k)) (4 + 4 * i) (coefficientAt k i) (within-mag maxCoefficient (2 ^ 31) (coefficientAt k i) (omega arith) w) (coefficient-stands i l)
 
-pub constraint-read : (n q : ℕ) (k : Constraint) → length (k .coefficients) ≡ n → inRange k ≡ true → constraintIn n (sealed q (constraintBytes n k)) ≡ k
+  divisor-stands : sealed q (constraintBytes n k) ≡ before n k ++ (i32Bytes (k .divisor) ++ end q (constraintBytes n k))
+  unfolding sealed padded paddedTo constraintBytes end before
+  divisor-stands = simp append-assoc
+
+  module _ (few : n ≤ maxVariables) where
+    divisor-read : divisorInRange k ≡ true → i32At (sealed q (constraintBytes n k)) divisorOffset ≡ k .divisor
+    unfolding before divisorInRange
+    divisor-read d =
+        i32-read (sealed q (constraintBytes n k)) divisorOffset (k .divisor) (omega (arith, mag-abs (k .divisor), divisor-natAbs (k .divisor) d))
+        (rw divisor-stands (place (before n k) (i32Bytes (k .divisor)) (end q (constraintBytes n k)) divisorOffset 4 (length-before n k few) (length-i32 (k .divisor))))
+
+    -- its bytes between the fields
+    pub constraint-padded : blockPadded n (sealed q (constraintBytes n k)) ≡ true
+    unfolding blockPadded coefficientOffset before
+    constraint-padded =
+        let first : zeroBetween (4 + 4 * n) divisorOffset (sealed q (constraintBytes n k)) ≡ true =
+        rw (divisor-stands, ← length-numbers n k) (padded-zero divisorOffset (numbersBytes n k) (i32Bytes (k .divisor) ++ end q (constraintBytes n k)) (omega (arith, length-numbers n k))) in
+        let last : zeroFrom (divisorOffset + 4) (sealed q (constraintBytes n k)) ≡ true =
+        rw (← length-constraint n k few) (sealed-zero q (constraintBytes n k) (omega (arith, length-constraint n k few))) in
+        and-both first last
+
+pub constraint-read : (n q : ℕ) (k : Constraint) → n ≤ maxVariables → length (k .coefficients) ≡ n → inRange k ≡ true → divisorInRange k ≡ true →
+    constraintIn n (sealed q (constraintBytes n k)) ≡ k
 unfolding constraintIn inRange coefficientAt
-constraint-read n q k e r =
+constraint-read n q k few e r d =
     let b = and-true (within maxCoefficient (k .constant)) (allOf (within maxCoefficient) (k .coefficients)) r in
     let s = sealed q (constraintBytes n k) in
     let cs : tab (coefficientIn (sealed q (constraintBytes n k))) 0 n ≡ k .coefficients =
     tab-is (k .coefficients) n (coefficientIn s) (pos 0) e
     (λ i l. sym (coefficient-read n q k i l (allOf-getD (within maxCoefficient) (k .coefficients) i (pos 0) (b .1) (omega arith)))) in
-    ap₂ (λ (c : ℤ) (xs : List ℤ). record { constant = c; coefficients = xs }) (constant-read n q k (b .0)) cs
+    λ i. record { constant = constant-read n q k (b .0) i; coefficients = cs i; divisor = divisor-read n q k few d i }
 
 -- ---- the head
 abbrev pub headBlock : Problem → List ℕ
@@ -70,24 +102,24 @@ length-front p = refl
 module _ (p : Problem) where
   -- the letters and the sizes
   pub magic-stands : take 4 (headBlock p) ≡ magic
-  unfolding sealed padded headBytes magic
+  unfolding sealed padded paddedTo headBytes magic
   magic-stands = refl
 
   pub variables-read : variables p < 65536 → u16At (headBlock p) 4 ≡ variables p
-  unfolding sealed padded headBytes magic u16Bytes
+  unfolding sealed padded paddedTo headBytes magic u16Bytes
   variables-read l = u16-read (headBlock p) 4 (variables p) l refl
 
   pub constraints-read : length (p .constraints) < 65536 → u16At (headBlock p) 6 ≡ length (p .constraints)
-  unfolding sealed padded headBytes magic u16Bytes
+  unfolding sealed padded paddedTo headBytes magic u16Bytes
   constraints-read l = u16-read (headBlock p) 6 (length (p .constraints)) l refl
 
   pub budget-read : p .budget < 2 ^ 32 → u32At (headBlock p) 8 ≡ p .budget
-  unfolding sealed padded headBytes magic u16Bytes u32Bytes
+  unfolding sealed padded paddedTo headBytes magic u16Bytes u32Bytes
   budget-read l = u32-read (headBlock p) 8 (p .budget) l refl
 
   -- the bounds of variable i
   bounds-stand : headBlock p ≡ front p ++ (parts (boundsBytes p) 0 (variables p) ++ end 0 (headBytes p))
-  unfolding sealed padded headBytes front end
+  unfolding sealed padded paddedTo headBytes front end
   bounds-stand = simp append-assoc
 
   pair-stands : (i : ℕ) → i < variables p → take 8 (drop (12 + 8 * i) (headBlock p)) ≡ boundsBytes p i

@@ -14,27 +14,32 @@ use Rattle.model.specs.Lists.{tab, parts, all}
 use Rattle.model.specs.Ranges.{maxVariables}
 use Rattle.model.specs.Constraint.{Bounds, noBounds, lowerAt, upperAt, coefficientAt}
 use Rattle.model.specs.Problem.{firstError}
-use Rattle.model.specs.Bytes.{Bytes, u16At, u32At, i32Bytes, checkOffset, block, checksum, zeroFrom}
-use Rattle.model.specs.File.{magic, variablesIn, constraintsIn, budgetIn, boundsOffset, boundsIn, coefficientOffset, coefficientIn, constraintIn, constraintOf, problemIn, checkMatches, checksMatch, magicMatches, blockCountMatches, constraintPadded, paddingZero, readError, boundsBytes, headBytes, coefficientBytes, constraintBytes, noConstraint, blockOf, fileOf, fileLength, writeError, writtenBy, writeFile}
+use Rattle.model.specs.Bytes.{Bytes, u16At, u32At, i32Bytes, checkOffset, block, checksum, zeroBetween, zeroFrom}
+use Rattle.model.specs.File.{magic, variablesIn, constraintsIn, budgetIn, boundsOffset, boundsIn, coefficientOffset, divisorOffset, coefficientIn, constraintIn, constraintOf, problemIn, checkMatches, checksMatch, magicMatches, blockCountMatches, blockPadded, constraintPadded, paddingZero, readError, boundsBytes, headBytes, coefficientBytes, numbersBytes, constraintBytes, noConstraint, blockOf, fileOf, fileLength, writeError, writtenBy, writeFile}
 use Rattle.lists.proofs.Bools.{and-true}
 use Rattle.lists.proofs.Tab.{getD-tab}
 use Rattle.lists.proofs.Parts.{parts-of}
 use Rattle.lists.proofs.All.{all-at}
 use Rattle.lists.proofs.AllPairs.{pairs-equal}
 use Rattle.format.proofs.ByteLaws.{join, u16-written, u32-written, i32-written}
-use Rattle.format.proofs.BlockLaws.{bytes-block, length-block, sealed-of}
+use Rattle.format.proofs.BlockLaws.{bytes-block, length-block, padded-of, sealed-of}
 use Rattle.format.proofs.AcceptedShape.{sizes, Tests, tests, variables-in, constraints-in}
 
 -- ---- a constraint's bytes, from the block that it stands in
-module _ (b : List ℕ) (y : Bytes b) (n : ℕ) (l : 4 + 4 * n ≤ length b) where
+module _ (b : List ℕ) (y : Bytes b) (n : ℕ) (few : n ≤ maxVariables) (l : divisorOffset + 4 ≤ length b) where
   coefficient-is : (i : ℕ) → i < n → coefficientBytes (constraintIn n b) i ≡ take 4 (drop (4 + 4 * i) b)
   unfolding coefficientBytes coefficientAt constraintIn coefficientIn coefficientOffset
   coefficient-is i h = ap i32Bytes (getD-tab (coefficientIn b) n i (pos 0) h) ∙ i32-written b y (4 + 4 * i) (omega arith)
 
-  constraint-is : constraintBytes n (constraintIn n b) ≡ take (4 + 4 * n) b
-  unfolding constraintBytes constraintIn
-  constraint-is =
+  numbers-are : numbersBytes n (constraintIn n b) ≡ take (4 + 4 * n) b
+  unfolding numbersBytes constraintIn
+  numbers-are =
       rw (i32-written b y 0 (omega arith), parts-of 4 4 b (coefficientBytes (constraintIn n b)) n coefficient-is) (join b 0 4 (4 * n))
+
+  constraint-is : zeroBetween (4 + 4 * n) divisorOffset b ≡ true → constraintBytes n (constraintIn n b) ≡ take (divisorOffset + 4) b
+  unfolding constraintBytes constraintIn
+  constraint-is z =
+      rw (numbers-are, padded-of b (4 + 4 * n) divisorOffset (omega arith) (omega arith) z, i32-written b y divisorOffset l) (join b 0 divisorOffset 4)
 
 first-block : (f : List ℕ) (n : ℕ) → n ≤ 512 → take n f ≡ take n (block f 0)
 unfolding block
@@ -90,7 +95,7 @@ module _ (f : List ℕ) (y : Bytes f) (a : Tests f) where
   constraint-in j l = getD-tab (constraintOf f) (constraintsIn f) j noConstraint l
 
   block-is : (k : ℕ) → k < suc (constraintsIn f) → blockOf (problemIn f) k ≡ block f k
-  unfolding blockOf constraintPadded coefficientOffset
+  unfolding blockOf constraintPadded blockPadded coefficientOffset
   block-is zero l =
       let n = 12 + 8 * variablesIn f in
       rw (head-is, first-block f (12 + 8 * variablesIn f) (omega (arith, few)))
@@ -100,8 +105,9 @@ module _ (f : List ℕ) (y : Bytes f) (a : Tests f) where
       let n = variablesIn f in
       let lb = length-block f (suc j) (omega (arith, long)) in
       let yb = bytes-block f (suc j) y in
-      rw (constraint-in j (omega arith), variables-in f, constraint-is b yb n (omega (arith, few)))
-      (sealed-of b (4 + 4 * n) lb (omega (arith, few)) (all-at (constraintPadded f) (constraintsIn f) j (padding .1) (omega arith)) (suc j) yb (checks (suc j) l))
+      let z = and-true (zeroBetween (4 + 4 * n) divisorOffset b) (zeroFrom (divisorOffset + 4) b) (all-at (constraintPadded f) (constraintsIn f) j (padding .1) (omega arith)) in
+      rw (constraint-in j (omega arith), variables-in f, constraint-is b yb n few (omega arith) (z .0))
+      (sealed-of b (divisorOffset + 4) lb (omega arith) (z .1) (suc j) yb (checks (suc j) l))
 
 -- ---- the theorem
 pub file-is-written : (f : List ℕ) → Bytes f → readError f ≡ 0 → fileOf (problemIn f) ≡ f
@@ -120,7 +126,7 @@ module _ (f : List ℕ) (y : Bytes f) (e : readError f ≡ 0) where
 
   pub writable-again : (room : ℕ) → length f ≤ room → writeError (problemIn f) room ≡ 0
   unfolding writeError firstError
-  writable-again room l = let a = tests f e in rw (a .sized, a .bounded, a .coefficient-range, size-is, le-leb (length f) room l)
+  writable-again room l = let a = tests f e in rw (a .sized, a .bounded, a .coefficient-range, a .divisor-range, size-is, le-leb (length f) room l)
 
   pub read-then-written : (buffer : List ℕ) → length f ≤ length buffer → writeFile (problemIn f) buffer ≡ record { number = 0; buffer = f ++ drop (length f) buffer }
   unfolding writeFile writtenBy

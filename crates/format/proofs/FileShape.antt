@@ -9,11 +9,11 @@ use Rattle.model.specs.Lists.{parts}
 use Rattle.model.specs.Ranges.{maxVariables}
 use Rattle.model.specs.Constraint.{Constraint, coefficientAt, lowerAt, upperAt}
 use Rattle.model.specs.Problem.{Problem, variables}
-use Rattle.model.specs.Bytes.{Bytes, u16Bytes, u32Bytes, i32Bytes, blockLength, checkOffset, block}
-use Rattle.model.specs.File.{magic, boundsBytes, headBytes, coefficientBytes, constraintBytes, noConstraint, blockOf, fileOf, fileLength}
+use Rattle.model.specs.Bytes.{Bytes, u16Bytes, u32Bytes, i32Bytes, blockLength, checkOffset, block, paddedTo}
+use Rattle.model.specs.File.{magic, divisorOffset, boundsBytes, headBytes, coefficientBytes, numbersBytes, constraintBytes, noConstraint, blockOf, fileOf, fileLength}
 use Rattle.lists.proofs.Parts.{length-parts, part-of}
 use Rattle.format.proofs.ByteLaws.{bytes-append, bytes-parts, bytes-u16, bytes-u32, bytes-i32, length-i32}
-use Rattle.format.proofs.BlockLaws.{length-sealed, bytes-sealed}
+use Rattle.format.proofs.BlockLaws.{length-padded-to, bytes-padded-to, length-sealed, bytes-sealed}
 
 -- ---- a constraint's block
 pub length-coefficient : (k : Constraint) (i : ℕ) → length (coefficientBytes k i) ≡ 4
@@ -24,15 +24,28 @@ pub bytes-coefficient : (k : Constraint) (i : ℕ) → Bytes (coefficientBytes k
 unfolding coefficientBytes
 bytes-coefficient k i = bytes-i32 (coefficientAt k i)
 
-pub length-constraint : (n : ℕ) (k : Constraint) → length (constraintBytes n k) ≡ 4 + 4 * n
-unfolding constraintBytes
-length-constraint n k =
+pub length-numbers : (n : ℕ) (k : Constraint) → length (numbersBytes n k) ≡ 4 + 4 * n
+unfolding numbersBytes
+length-numbers n k =
     length-append (i32Bytes (k .constant)) (parts (coefficientBytes k) 0 n) ∙
     omega (arith, length-i32 (k .constant), length-parts 4 (coefficientBytes k) n (λ i l. length-coefficient k i))
 
+-- up to its divisor
+pub length-before : (n : ℕ) (k : Constraint) → n ≤ maxVariables → length (paddedTo divisorOffset (numbersBytes n k)) ≡ divisorOffset
+length-before n k few = length-padded-to divisorOffset (numbersBytes n k) (omega (arith, length-numbers n k))
+
+pub length-constraint : (n : ℕ) (k : Constraint) → n ≤ maxVariables → length (constraintBytes n k) ≡ divisorOffset + 4
+unfolding constraintBytes
+length-constraint n k few =
+    length-append (paddedTo divisorOffset (numbersBytes n k)) (i32Bytes (k .divisor)) ∙ omega (arith, length-before n k few, length-i32 (k .divisor))
+
+bytes-numbers : (n : ℕ) (k : Constraint) → Bytes (numbersBytes n k)
+unfolding numbersBytes
+bytes-numbers n k = search (bytes-append, bytes-i32, bytes-parts, bytes-coefficient)
+
 pub bytes-constraint : (n : ℕ) (k : Constraint) → Bytes (constraintBytes n k)
 unfolding constraintBytes
-bytes-constraint n k = search (bytes-append, bytes-i32, bytes-parts, bytes-coefficient)
+bytes-constraint n k = search (bytes-append, bytes-padded-to, bytes-i32, bytes-numbers)
 
 -- ---- the head
 pub length-bounds : (p : Problem) (i : ℕ) → length (boundsBytes p i) ≡ 8
@@ -73,7 +86,7 @@ module _ (p : Problem) (few : variables p ≤ maxVariables) where
   head-fits = omega (arith, length-head p)
 
   pub constraint-fits : (k : Constraint) → length (constraintBytes (variables p) k) ≤ checkOffset
-  constraint-fits k = omega (arith, length-constraint (variables p) k)
+  constraint-fits k = omega (arith, length-constraint (variables p) k few)
 
   pub length-block-of : (k : ℕ) → length (blockOf p k) ≡ blockLength
   unfolding blockOf

@@ -2,15 +2,15 @@
 use Prim.Native.Nat.{ℕ, _+_, _*_, _^_, _-_, _<_, _≤_}
 use native.Mathlib.Omega.{arith}
 use mathlib.Core.Bool.{true}
-use mathlib.Core.Path.{_≡_, refl, sym, ap₂, _∙_}
+use mathlib.Core.Path.{_≡_, refl, sym, _∙_}
 use mathlib.Core.List.{List, _++_, append-assoc}
-use lib.IntN.{ℤ, pos}
+use lib.IntN.{pos}
 use lib.Dec.{T}
 use lib.ListN.{getD, take, drop, length, replicate, length-append}
 use Rattle.model.specs.Lists.{tab, parts, allOf}
 use Rattle.model.specs.Ranges.{maxVariables, maxCoefficient, within}
 use Rattle.model.specs.Constraint.{coefficientAt, inRange}
-use Rattle.model.specs.Bytes.{Bytes, i32At, u16Bytes, u32Bytes, i32Bytes, blockLength, checkOffset, checksum, padded, sealed}
+use Rattle.model.specs.Bytes.{Bytes, i32At, u16Bytes, u32Bytes, i32Bytes, blockLength, checkOffset, checksum, paddedTo, padded, sealed}
 use Rattle.model.specs.File.{coefficientBytes}
 use Rattle.model.specs.Journal.{Record, recordMagic, usedBytes, recordHead, recordContent, recordBytes, cutOffset, cutCoefficient, cutIn}
 use Rattle.lists.proofs.Bools.{true-of, and-true}
@@ -45,7 +45,7 @@ coefficients : Record → List ℕ
 coefficients r = parts (coefficientBytes (r .cut)) 0 maxVariables
 
 cut-stands : (r : Record) → recordBytes r ≡ front r ++ (i32Bytes (r .cut .constant) ++ (coefficients r ++ back r))
-unfolding recordBytes sealed padded recordContent front back coefficients
+unfolding recordBytes sealed padded paddedTo recordContent front back coefficients
 cut-stands r = simp append-assoc
 
 -- ---- its length
@@ -105,10 +105,11 @@ module _ (r : Record) (ranges : inRange (r .cut) ≡ true) where
       (within-mag maxCoefficient (2 ^ 31) (getD (r .cut .coefficients) i (pos 0)) (omega arith) (allOf-getD (within maxCoefficient) (r .cut .coefficients) i (pos 0) (both .1) m))
       (coefficient-stands i l)
 
-pub cut-in-record : (n : ℕ) (r : Record) → n ≤ maxVariables → length (r .cut .coefficients) ≡ n → T (inRange (r .cut)) → cutIn n (recordBytes r) ≡ r .cut
+-- a cut is an inequality: its block has no place for a divisor
+pub cut-in-record : (n : ℕ) (r : Record) → n ≤ maxVariables → length (r .cut .coefficients) ≡ n → T (inRange (r .cut)) → r .cut .divisor ≡ pos 0 → cutIn n (recordBytes r) ≡ r .cut
 unfolding cutIn
-cut-in-record n r l e t =
+cut-in-record n r l e t q =
     let ranges = true-of (inRange (r .cut)) t in
     let cs : tab (cutCoefficient (recordBytes r)) 0 n ≡ r .cut .coefficients =
     tab-is (r .cut .coefficients) n (cutCoefficient (recordBytes r)) (pos 0) e (λ i m. sym (coefficient-read r ranges i (omega arith) (omega arith))) in
-    ap₂ (λ (c : ℤ) (xs : List ℤ). record { constant = c; coefficients = xs }) (constant-read r ranges) cs
+    λ i. record { constant = constant-read r ranges i; coefficients = cs i; divisor = sym q i }

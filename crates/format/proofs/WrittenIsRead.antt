@@ -12,10 +12,10 @@ use lib.Seq.{take-take}
 use borrow.Author.Tests.{leb-true, le-leb, eqb-true, eq-eqb}
 use Rattle.model.specs.Lists.{tab, allOf}
 use Rattle.model.specs.Ranges.{maxVariables}
-use Rattle.model.specs.Constraint.{noBounds, lowerAt, upperAt, inRange}
-use Rattle.model.specs.Problem.{Problem, variables, sizesInRange, domainInRange, constraintsInRange, ok}
+use Rattle.model.specs.Constraint.{noBounds, lowerAt, upperAt, inRange, divisorInRange}
+use Rattle.model.specs.Problem.{Problem, variables, sizesInRange, domainInRange, constraintsInRange, divisorsInRange, ok}
 use Rattle.model.specs.Bytes.{u16At, u32At, i32At, checkOffset, block, checksum, zeroFrom}
-use Rattle.model.specs.File.{magic, variablesIn, constraintsIn, budgetIn, boundsOffset, boundsIn, coefficientOffset, constraintOf, problemIn, wholeBlocks, checkMatches, checksMatch, magicMatches, blockCountMatches, constraintPadded, paddingZero, readError, readFile, headBytes, constraintBytes, noConstraint, blockOf, fileOf, fileLength, writeError}
+use Rattle.model.specs.File.{magic, variablesIn, constraintsIn, budgetIn, boundsOffset, boundsIn, constraintOf, problemIn, wholeBlocks, checkMatches, checksMatch, magicMatches, blockCountMatches, constraintPadded, paddingZero, readError, readFile, headBytes, constraintBytes, noConstraint, blockOf, fileOf, fileLength, writeError}
 use Rattle.model.specs.Validity.{constraintShaped}
 use Rattle.lists.proofs.Bools.{true-of}
 use Rattle.lists.proofs.Tab.{tab-is}
@@ -25,15 +25,16 @@ use Rattle.lists.proofs.AllPairs.{pairs-refl}
 use Rattle.format.proofs.Errors.{passed, result-ok}
 use Rattle.format.proofs.ByteLaws.{u16-take, u32-take, i32-take}
 use Rattle.format.proofs.BlockLaws.{sealed-check, sealed-zero}
-use Rattle.format.proofs.FileShape.{length-constraint, length-head, head-fits, constraint-fits, length-file, block-of-file}
+use Rattle.format.proofs.FileShape.{length-head, head-fits, constraint-fits, length-file, block-of-file}
 use Rattle.format.proofs.AcceptedShape.{Sizes, sizes, Tests, no-error}
-use Rattle.format.proofs.BlocksRead.{constraint-read, headBlock, magic-stands, variables-read, constraints-read, budget-read, lower-read, upper-read}
+use Rattle.format.proofs.BlocksRead.{constraint-padded, constraint-read, headBlock, magic-stands, variables-read, constraints-read, budget-read, lower-read, upper-read}
 
 -- ---- what the writer takes
 pub record Writable (p : Problem) (room : ℕ) : Type 0 where
   pub sized : sizesInRange p ≡ true
   pub bounded : domainInRange p ≡ true
   pub coefficient-range : constraintsInRange p ≡ true
+  pub divisor-range : divisorsInRange p ≡ true
   pub fits : fileLength p ≤ room
 
 pub writable : (p : Problem) (room : ℕ) → writeError p room ≡ 0 → Writable p room
@@ -42,8 +43,9 @@ writable p room e =
     let e₁ = passed 3 (sizesInRange p) _ e in
     let e₂ = passed 4 (domainInRange p) _ (e₁ .1) in
     let e₃ = passed 5 (constraintsInRange p) _ (e₂ .1) in
-    let e₄ = passed 7 (leb (fileLength p) room) _ (e₃ .1) in
-    record { sized = e₁ .0; bounded = e₂ .0; coefficient-range = e₃ .0; fits = leb-true _ _ (e₄ .0) }
+    let e₄ = passed 9 (divisorsInRange p) _ (e₃ .1) in
+    let e₅ = passed 7 (leb (fileLength p) room) _ (e₄ .1) in
+    record { sized = e₁ .0; bounded = e₂ .0; coefficient-range = e₃ .0; divisor-range = e₄ .0; fits = leb-true _ _ (e₅ .0) }
 
 -- ---- the file of a problem whose sizes are in range
 module _ (p : Problem) (s : Sizes p) where
@@ -100,10 +102,9 @@ module _ (p : Problem) (s : Sizes p) where
   counted-is = rw constraints-are (eq-eqb _ _ size-is)
 
   padded-is : (j : ℕ) → j < length (p .constraints) → constraintPadded (fileOf p) j ≡ true
-  unfolding constraintPadded coefficientOffset blockOf
+  unfolding constraintPadded blockOf
   padded-is j l =
-      let k = getD (p .constraints) j noConstraint in
-      rw (variables-are, block-of-file p few (suc j) (omega arith), ← length-constraint (variables p) k) (sealed-zero (suc j) (constraintBytes (variables p) k) (constraint-fits p few k))
+      rw (variables-are, block-of-file p few (suc j) (omega arith)) (constraint-padded (variables p) (suc j) (getD (p .constraints) j noConstraint) few)
 
   clean-is : paddingZero (fileOf p) ≡ true
   unfolding paddingZero boundsOffset blockOf
@@ -126,13 +127,14 @@ module _ (p : Problem) (room : ℕ) (w : Writable p room) (shape : allOf (constr
       (here (12 + 8 * i + 4) (omega arith) ∙ upper-read p (w .bounded) i l)
 
   constraint-is : (j : ℕ) → j < length (p .constraints) → constraintOf (fileOf p) j ≡ getD (p .constraints) j noConstraint
-  unfolding constraintOf blockOf constraintShaped constraintsInRange
+  unfolding constraintOf blockOf constraintShaped constraintsInRange divisorsInRange
   constraint-is j l =
       let k = getD (p .constraints) j noConstraint in
       rw (variables-are p s, block-of-file p (s .few-variables) (suc j) (omega arith))
-      (constraint-read (variables p) (suc j) k
+      (constraint-read (variables p) (suc j) k (s .few-variables)
       (eqb-true _ _ (allOf-getD (constraintShaped (variables p)) (p .constraints) j noConstraint shape l))
-      (allOf-getD inRange (p .constraints) j noConstraint (w .coefficient-range) l))
+      (allOf-getD inRange (p .constraints) j noConstraint (w .coefficient-range) l)
+      (allOf-getD divisorInRange (p .constraints) j noConstraint (w .divisor-range) l))
 
   domain-is : tab (boundsIn (fileOf p)) 0 (variablesIn (fileOf p)) ≡ p .domain
   unfolding variables
@@ -155,6 +157,7 @@ module _ (p : Problem) (room : ℕ) (w : Writable p room) (shape : allOf (constr
     counted = counted-is p s;
     bounded = rw problem-is (w .bounded);
     coefficient-range = rw problem-is (w .coefficient-range);
+    divisor-range = rw problem-is (w .divisor-range);
     clean = clean-is p s;
   }
 

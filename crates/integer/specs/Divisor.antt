@@ -2,7 +2,7 @@
 use mathlib.Core.Logic.{_⊎_, inl, inr, ⊎-elim}
 use mathlib.Core.Path.{_≡_, refl, sym, ap}
 use Prim.Native.Nat.{ℕ, zero, suc, _*_, _/_, _%_, _≤_, _<_, _∣_}
-use native.Mathlib.Nat.{mod-lt, zero-lt-suc, mul-div-cancel', dvd-refl, dvd-zero, dvd-mod-iff, le-of-dvd, pos-of-dvd-of-pos}
+use native.Mathlib.Nat.{mod-lt, zero-lt-suc, mul-div-cancel', dvd-refl, dvd-zero, dvd-mod-iff, dvd-antisymm, le-of-dvd, pos-of-dvd-of-pos}
 use native.Mathlib.Omega.{arith}
 use lib.IntN.{ℤ, pos, negsuc, negℤ, natAbs, _*ℤ_}
 use Rattle.model.specs.Division.{exactDiv, gcdWith, gcd}
@@ -55,6 +55,10 @@ unfolding gcd gcdWith
 gcd-step a zero h = let z : ⊥ = omega arith in absurd z
 gcd-step a (suc b) h =
     let l = mod-lt a (zero-lt-suc b) in fuel (suc b) (suc (a % suc b)) (suc b) (a % suc b) (omega arith) (omega arith)
+
+-- 0 leaves the other number
+pub gcd-none : (b : ℕ) → gcd 0 b ≡ b
+gcd-none b = dvd-antisymm (gcd-right 0 b) (gcd-greatest 0 b b (dvd-zero b) (dvd-refl b))
 
 -- ---- bounds: what bounds both bounds it; it is not zero where the first is not (nor where the second is not: `pos-of-dvd-of-pos (gcd-right a b) h`)
 pub gcd-most : (a b m : ℕ) → a ≤ m → b ≤ m → gcd a b ≤ m

@@ -9,4 +9,5 @@ pub mod Tests
 pub mod Truncating
 pub mod Rounding
 pub mod Divisor
+pub mod Congruence
 pub mod Automatic

@@ -39,6 +39,6 @@ fill-coefficient {z} {g} {i} {r} v l h e =
           (rw same (getD-set-same r (i + 1) v (pos 0) (omega (arith, h .row)) ∙ e));
     }
 
-pub filled : {z : ℤ} {g : ℕ → ℤ} (n : ℕ) (r : List ℤ) → Filled z g n r → constraintAt n r 0 ≡ record { constant = z; coefficients = tab g 0 n }
+pub filled : {z : ℤ} {g : ℕ → ℤ} (n : ℕ) (r : List ℤ) → Filled z g n r → constraintAt n r 0 ≡ record { constant = z; coefficients = tab g 0 n; divisor = pos 0 }
 unfolding constraintAt
 filled {z} {g} n r h = constraint-eq (h .constant) (tab-ext-0 (cell r 0) g n (h .coefficient))

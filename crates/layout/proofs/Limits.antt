@@ -1,8 +1,8 @@
 -- What the tests of the ranges say, in the model's words. The premises of a law are the facts that stand where the code returns.
 use Prim.Native.Nat.{ℕ, _+_, _<_, _≤_}
 use native.Mathlib.Omega.{arith}
-use mathlib.Core.Bool.{true, false, and-true}
-use mathlib.Core.Path.{_≡_, _∙_}
+use mathlib.Core.Bool.{Bool, true, false, and-true}
+use mathlib.Core.Path.{_≡_, sym, _∙_}
 use lib.IntN.{ℤ, pos, negℤ, _-ℤ_, +ℤ-idl}
 use lib.Dec.{leb}
 use lib.ListN.{length}
@@ -13,11 +13,13 @@ use mir.Facts.{toZ-ofZ, toZ-pos}
 use borrow.Author.Tests.{le-leb, lt-leb, leb-true}
 use Rattle.model.specs.Lists.{all}
 use Rattle.model.specs.Problem.{Problem, variables, sizesInRange}
-use Rattle.model.specs.Ranges.{within, maxVariables, maxConstraints, maxBudget}
+use Rattle.model.specs.Ranges.{within, maxVariables, maxConstraints, maxBudget, maxDivisor}
+use Rattle.model.specs.Constraint.{equalℤ, isDivisor}
 use Rattle.lists.proofs.Bools.{and-true as and-parts}
 use Rattle.integer.specs.Size.{fits, size, neg-within}
 use Rattle.integer.specs.Tests.{ltZ-true, ltZ-false, lt-leZ, le-leZ}
 use Rattle.layout.specs.Sizes.{sizesFit}
+use Rattle.layout.proofs.Elements.{back}
 
 -- ---- the sizes
 pub sizes-fit : (n m budget : ℕ) (p : Problem) → variables p ≡ n → length (p .constraints) ≡ m → p .budget ≡ budget → sizesFit n m budget ≡ sizesInRange p
@@ -75,3 +77,25 @@ module _ (limit : ℕ) (h : Fits w32 limit) where
     from-least e =
         let l : ltZ z (negℤ (pos limit)) ≡ false = rw (toZ-ofZ f, least) at e in
         rw (toZ-ofZ f, most, le-leZ (ltZ-false {a = z} {b = negℤ (pos limit)} l))
+
+-- ---- a divisor: none, or 2 to 2^20
+module _ (q : ℤ) (f : SFits w64 q) (r : Bool) (t : r ≡ equalℤ (back q) (pos 0)) where
+  none-test : r ≡ equalℤ q (pos 0)
+  none-test = rw (toZ-ofZ f) at t
+
+  pub no-divisor : r ≡ true → true ≡ isDivisor q
+  unfolding isDivisor
+  no-divisor h = rw (sym none-test ∙ h)
+
+  module _ (h : r ≡ false) where
+    pub small-divisor : ltZ (back q) (pos 2) ≡ true → false ≡ isDivisor q
+    unfolding isDivisor
+    small-divisor e =
+        let l : ltZ q (pos 2) ≡ true = rw (toZ-ofZ f) at e in
+        rw (sym none-test ∙ h, lt-leZ (ltZ-true {a = q} {b = pos 2} l))
+
+    pub large-divisor : ltZ (back q) (pos 2) ≡ false → leZ (back q) (pos maxDivisor) ≡ isDivisor q
+    unfolding isDivisor
+    large-divisor e =
+        let l : ltZ q (pos 2) ≡ false = rw (toZ-ofZ f) at e in
+        rw (sym none-test ∙ h, toZ-ofZ f, le-leZ (ltZ-false {a = q} {b = pos 2} l))

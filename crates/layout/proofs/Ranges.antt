@@ -1,9 +1,9 @@
--- The tests of one variable's bounds, and loops that go up while the numbers are in range: over the variables of a box, and over rows. The premises of a
+-- The tests of one variable's bounds, and loops that go up while the numbers are in range: over the variables of a box, over rows, and over the divisors of inputs. The premises of a
 -- law are the facts that stand where the code goes on or returns.
 use Prim.Native.Nat.{ℕ, _+_, _*_, _<_, _≤_}
 use mathlib.Core.Bool.{Bool, true, false, not, and-true}
 use mathlib.Core.List.{List}
-use mathlib.Core.Path.{_≡_, ap, _∙_}
+use mathlib.Core.Path.{_≡_, sym, ap, _∙_}
 use lib.IntN.{ℤ, pos}
 use lib.ListN.{getD}
 use lib.Signed.{leZ}
@@ -12,11 +12,12 @@ use mir.Val.{SFits}
 use mir.Facts.{toZ-ofZ}
 use Rattle.model.specs.Lists.{tab, all, allOf}
 use Rattle.model.specs.Ranges.{within, maxBound}
-use Rattle.model.specs.Constraint.{inRange}
+use Rattle.model.specs.Constraint.{inRange, isDivisor, divisorInRange}
 use Rattle.model.specs.Problem.{boundsInRange}
+use Rattle.lists.proofs.AllOf.{allOf-tab}
 use Rattle.lists.proofs.Bools.{said-no, said-yes}
 use Rattle.lists.proofs.Loops.{every-none, every-more, every-end, every-fails}
-use Rattle.layout.specs.Rows.{rowLength, numberIn, constraintAt, rowAt, boundsAt, boxOf}
+use Rattle.layout.specs.Rows.{rowLength, numberIn, constraintAt, dividedAt, rowAt, inputAt, boundsAt, boxOf}
 use Rattle.layout.proofs.Elements.{back}
 
 -- ---- one variable
@@ -80,3 +81,27 @@ module _ (n : ℕ) (rows : List ℤ) where
     pub range-fails : (count : ℕ) → j < count → not r ≡ true → false ≡ allOf inRange (tab (rowAt n rows) 0 count)
     unfolding rowAt
     range-fails count l h = every-fails inRange (rowAt n rows) count j l (said-no t h)
+
+-- ---- inputs: their numbers are those of their rows, and their divisors stand apart
+module _ (n : ℕ) (rows divisors : List ℤ) where
+  pub inputs-range : (i count : ℕ) → allOf inRange (tab (inputAt n rows divisors) i count) ≡ allOf inRange (tab (rowAt n rows) i count)
+  unfolding inRange inputAt dividedAt rowAt constraintAt
+  inputs-range i count = allOf-tab inRange (inputAt n rows divisors) i count ∙ sym (allOf-tab inRange (rowAt n rows) i count)
+
+  pub divisors-none : allOf divisorInRange (tab (inputAt n rows divisors) 0 0) ≡ true
+  divisors-none = every-none divisorInRange (inputAt n rows divisors)
+
+  pub divisors-end : (count j : ℕ) → count ≤ j → j ≤ count → allOf divisorInRange (tab (inputAt n rows divisors) 0 j) ≡ true →
+      true ≡ allOf divisorInRange (tab (inputAt n rows divisors) 0 count)
+  divisors-end count j l h a = every-end divisorInRange (inputAt n rows divisors) count j l h a
+
+  module _ (j : ℕ) (f : SFits w64 (getD divisors j (pos 0))) (r : Bool) (t : r ≡ isDivisor (back (getD divisors j (pos 0)))) where
+    divisor-test : r ≡ divisorInRange (inputAt n rows divisors j)
+    unfolding divisorInRange inputAt dividedAt numberIn
+    divisor-test = rw (toZ-ofZ f) at t
+
+    pub divisors-more : allOf divisorInRange (tab (inputAt n rows divisors) 0 j) ≡ true → not r ≡ false → allOf divisorInRange (tab (inputAt n rows divisors) 0 (j + 1)) ≡ true
+    divisors-more a h = every-more divisorInRange (inputAt n rows divisors) j a (said-yes divisor-test h)
+
+    pub divisors-fail : (count : ℕ) → j < count → not r ≡ true → false ≡ allOf divisorInRange (tab (inputAt n rows divisors) 0 count)
+    divisors-fail count l h = every-fails divisorInRange (inputAt n rows divisors) count j l (said-no divisor-test h)

@@ -2,7 +2,7 @@
 use Prim.Native.Nat.{ℕ, _+_, _<_, _≤_}
 use native.Mathlib.Omega.{arith}
 use mathlib.Core.List.{List}
-use mathlib.Core.Path.{_≡_, sym, ap, ap₂, _∙_}
+use mathlib.Core.Path.{_≡_, refl, sym, ap, ap₂, _∙_}
 use lib.IntN.{ℤ, pos}
 use lib.ListN.{getD, set, length}
 use Rattle.model.specs.Constraint.{Constraint, Bounds, noBounds, coefficientAt, lowerAt, upperAt, setLower, setUpper}
@@ -18,6 +18,11 @@ pub length-coefficients : (n : ℕ) (rows : List ℤ) (start : ℕ) → length (
 unfolding constraintAt
 length-coefficients n rows start = length-tab (cell rows start) 0 n
 
+-- a row by itself is an inequality
+pub row-plain : (n : ℕ) (rows : List ℤ) (start : ℕ) → constraintAt n rows start .divisor ≡ pos 0
+unfolding constraintAt
+row-plain n rows start = refl
+
 pub coefficient-at : (n : ℕ) (rows : List ℤ) (start i : ℕ) → i < n → coefficientAt (constraintAt n rows start) i ≡ cell rows start i
 unfolding coefficientAt constraintAt
 coefficient-at n rows start i h = getD-tab (cell rows start) n i (pos 0) h
@@ -31,8 +36,9 @@ unfolding upperAt boxOf boundsAt
 upper-at n lower upper i h = ap (λ (b : Bounds). b .upper) (getD-tab (boundsAt lower upper) n i noBounds h)
 
 -- ---- two constraints are equal by their parts, and by the numbers of their rows
-pub constraint-eq : {a b : ℤ} {cs ds : List ℤ} → a ≡ b → cs ≡ ds → _≡_ {A = Constraint} (record { constant = a; coefficients = cs }) (record { constant = b; coefficients = ds })
-constraint-eq p q = ap₂ (λ (a : ℤ) (cs : List ℤ). record { constant = a; coefficients = cs }) p q
+pub constraint-eq : {a b d : ℤ} {cs ds : List ℤ} → a ≡ b → cs ≡ ds →
+    _≡_ {A = Constraint} (record { constant = a; coefficients = cs; divisor = d }) (record { constant = b; coefficients = ds; divisor = d })
+constraint-eq {d = d} p q = ap₂ (λ (a : ℤ) (cs : List ℤ). record { constant = a; coefficients = cs; divisor = d }) p q
 
 pub row-same : (n : ℕ) (a b : List ℤ) (s t : ℕ) → ((k : ℕ) → k ≤ n → numberIn a (s + k) ≡ numberIn b (t + k)) → constraintAt n a s ≡ constraintAt n b t
 unfolding constraintAt cell

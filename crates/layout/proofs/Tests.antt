@@ -70,7 +70,7 @@ sameAt a at b bt i = equalℤ (cell a at i) (cell b bt i)
 module _ (n : ℕ) (a : List ℤ) (at : ℕ) (b : List ℤ) (bt : ℕ) where
   equal-tests : equal (constraintAt n a at) (constraintAt n b bt) ≡ (equalℤ (numberIn a at) (numberIn b bt) && all (tab (sameAt a at b bt) 0 n))
   unfolding equal constraintAt sameAt
-  equal-tests = rw (pairs-tab equalℤ (cell a at) (cell b bt) 0 n)
+  equal-tests = rw (pairs-tab equalℤ (cell a at) (cell b bt) 0 n, equal-refl (pos 0))
 
   pub differ-first : equalℤ (numberIn a at) (numberIn b bt) ≡ false → false ≡ equal (constraintAt n a at) (constraintAt n b bt)
   differ-first e = rw equal-tests (fails-first _ (sameAt a at b bt) n e)

@@ -29,11 +29,19 @@ cell rows start i = numberIn rows (start + 1 + i)
 
 -- the constraint of n variables whose row starts at `start`
 unfoldable pub constraintAt : ℕ → List ℤ → ℕ → Constraint
-constraintAt n rows start = record { constant = numberIn rows start; coefficients = tab (cell rows start) 0 n }
+constraintAt n rows start = record { constant = numberIn rows start; coefficients = tab (cell rows start) 0 n; divisor = pos 0 }
+
+-- the same with divisor q
+unfoldable pub dividedAt : ℕ → List ℤ → ℕ → ℤ → Constraint
+dividedAt n rows start q = record { constant = numberIn rows start; coefficients = tab (cell rows start) 0 n; divisor = q }
 
 -- the constraint in row j
 unfoldable pub rowAt : ℕ → List ℤ → ℕ → Constraint
 rowAt n rows j = constraintAt n rows (rowLength * j)
+
+-- input j: the constraint in row j with its divisor
+unfoldable pub inputAt : ℕ → List ℤ → List ℤ → ℕ → Constraint
+inputAt n rows divisors j = dividedAt n rows (rowLength * j) (numberIn divisors j)
 
 -- the bounds of variable i, and the box of the first n variables
 unfoldable pub boundsAt : List ℤ → List ℤ → ℕ → Bounds

@@ -1,4 +1,4 @@
-// Constraints in rows of 33 numbers, and the sizes and ranges of document 01, each once: rows are tested, compared, copied and stored here. specs/ says how
+// Constraints in rows of 33 numbers, and the sizes and ranges of documents 01 and 02, each once: rows are tested, compared, copied and stored here. specs/ says how
 // flat arrays are read as the model's constraints and boxes.
 ghost use Prim.Native.Nat.{_+_, _*_, _≤_, _<_};
 ghost use mathlib.Core.Path.{_≡_};
@@ -27,6 +27,9 @@ pub const MAX_BOUND: u32 = 1_048_576;
 
 // Coefficients and constants: −2^30 to 2^30.
 pub const MAX_COEFFICIENT: u32 = 1_073_741_824;
+
+// Divisors: 2 to 2^20.
+pub const MAX_DIVISOR: u32 = 1_048_576;
 
 // The numbers of a row: a constant, then a coefficient for each variable.
 pub const ROW: usize = 1 + MAX_VARIABLES;

@@ -1,15 +1,17 @@
-// The ranges of document 01, tested on numbers.
+// The ranges of documents 01 and 02, tested on numbers.
 use crate::MAX_BOUND;
 use crate::MAX_BUDGET;
 use crate::MAX_COEFFICIENT;
 use crate::MAX_CONSTRAINTS;
+use crate::MAX_DIVISOR;
 use crate::MAX_VARIABLES;
+use crate::is_same;
 ghost use mathlib.Core.Path.{_≡_};
 ghost use Prim.Native.Nat.{_+_, _<_};
 ghost use lib.ListN.{length};
 ghost use Rattle.model.specs.Ranges.{within};
 ghost use Rattle.model.specs.Problem.{boundsInRange};
-ghost use Rattle.model.specs.Constraint.{inRange};
+ghost use Rattle.model.specs.Constraint.{inRange, isDivisor};
 ghost use Rattle.layout.specs.Rows.{constraintAt};
 ghost use Rattle.layout.specs.Sizes.{sizesFit};
 
@@ -69,4 +71,17 @@ pub fn is_in_range<'a>(rows: &'a [i64], start: usize, n: usize) -> bool
         i += 1;
     }
     true
+}
+
+// Whether a constraint's divisor is in range: none, or 2 to 2^20.
+pub fn is_divisor_in_range(q: i64) -> bool
+    ensures { λ r. ⌜ r ≡ isDivisor q ⌝ }
+{
+    if is_same(q, 0) {
+        return true;
+    }
+    if q < 2 {
+        return false;
+    }
+    q <= MAX_DIVISOR as i64
 }

@@ -3,6 +3,7 @@ pub mod Ranges
 pub mod Terms
 pub mod Implied
 pub mod Reaching
+pub mod Dividing
 pub mod Sizes
 pub mod RoundingLaws
 pub mod ResolvingLaws

@@ -1,26 +1,28 @@
 -- For callers: what the functions ask follows from the model's own tests, and a number in range is what the machine reads back from its bits.
 use Prim.Native.Nat.{ℕ, _+_, _≤_, _<_}
-use mathlib.Core.Bool.{true, false}
+use mathlib.Core.Bool.{true}
 use mathlib.Core.List.{List}
-use mathlib.Core.Path.{_≡_}
-use lib.Dec.{lit<, lit≤}
-use lib.IntN.{ℤ, pos}
+use mathlib.Core.Logic.{⊎-elim}
+use mathlib.Core.Path.{_≡_, refl}
+use native.Mathlib.Omega.{arith}
+use borrow.Author.Tests.{eqb-true, leb-true}
+use lib.Dec.{lit<, lit≤, eqb, leb}
+use lib.IntN.{ℤ, pos, negsuc}
 use lib.ListN.{length}
-use lib.Signed.{_≤ℤ_}
 use mir.Syntax.{w64}
 use mir.Val.{toZ, ofZ}
-use Rattle.model.specs.Ranges.{within, maxVariables, maxCoefficient, maxBound}
+use Rattle.model.specs.Ranges.{within, maxVariables, maxCoefficient, maxDivisor, maxBound}
 use Rattle.model.specs.Lists.{all, allOf}
-use Rattle.model.specs.Constraint.{Constraint, Box, activity, falsified, inRange, noBounds}
+use Rattle.model.specs.Constraint.{equalℤ, inRange, isDivisor, noBounds}
 use Rattle.model.specs.Problem.{boundsInRange}
 use Rattle.integer.specs.Size.{Within, weaken, between-in}
-use Rattle.integer.specs.Tests.{back, of-true, ltZ-false}
-use Rattle.lists.proofs.Bools.{and-true}
+use Rattle.integer.specs.Tests.{back, of-true}
+use Rattle.lists.proofs.Bools.{clash, and-true, or-true}
 use Rattle.lists.proofs.Tab.{getD-tab}
 use Rattle.lists.proofs.AllOf.{allOf-getD}
 use Rattle.layout.specs.Rows.{numberIn, cell, constraintAt, boundsAt, boxOf}
 use Rattle.layout.proofs.Rows.{length-box, length-coefficients}
-use Rattle.linear.specs.Ranges.{TermFits, RowFits, BoxFits}
+use Rattle.linear.specs.Ranges.{TermFits, RowFits, BoxFits, DivisorFits}
 
 within-in : (b : ℕ) (z : ℤ) → within b z ≡ true → Within b z
 unfolding within
@@ -41,6 +43,12 @@ row-fits n rows start few room e =
           (rw (getD-tab (cell rows start) n i (pos 0) h) at
           (allOf-getD (within maxCoefficient) (k .coefficients) i (pos 0) (both .1) (rw (length-coefficients n rows start) h)));
     }
+
+-- ---- a divisor, from `isDivisor`
+pub divisor-fits : (q : ℤ) → isDivisor q ≡ true → DivisorFits q
+unfolding isDivisor equalℤ
+divisor-fits (pos q) e = ⊎-elim (λ z. omega (arith, eqb-true q 0 z)) (λ b. leb-true q maxDivisor (and-true (leb 2 q) (leb q maxDivisor) b .1)) (or-true (eqb q 0) _ e)
+divisor-fits (negsuc q) e = clash e refl
 
 -- ---- bounds, from `boundsInRange`
 module _ (n : ℕ) (lower upper : List ℤ) (e : allOf boundsInRange (boxOf n lower upper) ≡ true) where
@@ -74,10 +82,6 @@ module _ (n : ℕ) (lower upper : List ℤ) (e : allOf boundsInRange (boxOf n lo
 pub term-fits : {n : ℕ} {rows : List ℤ} {start : ℕ} {lower upper : List ℤ} → RowFits n rows start → BoxFits n lower upper → (i : ℕ) → i < n →
     TermFits (cell rows start i) (numberIn lower i) (numberIn upper i)
 term-fits r b i h = record { coefficient = r .coefficients i h; low = b .low i h; high = b .high i h }
-
-pub not-falsified : (k : Constraint) (box : Box) → falsified k box ≡ false → activity k box ≤ℤ pos 0
-unfolding falsified
-not-falsified k box e = ltZ-false e
 
 -- ---- as the machine reads them
 module _ {n : ℕ} {rows : List ℤ} {start : ℕ} (r : RowFits n rows start) where

@@ -14,7 +14,7 @@ use lib.Signed.{_<ℤ_}
 use Rattle.model.specs.Lists.{tab}
 use Rattle.model.specs.Division.{floorDiv, ceilDiv, exactDiv, gcd}
 use Rattle.model.specs.Ranges.{maxCoefficient}
-use Rattle.model.specs.Constraint.{Constraint, coefficientAt, divisor, roundedBy, rounded, inRange, impliedUpper, impliedLower}
+use Rattle.model.specs.Constraint.{Constraint, modulus, coefficientAt, commonDivisor, roundedBy, roundedAs, rounded, inRange, impliedUpper, impliedLower}
 use Rattle.integer.specs.Parts.{lt-in}
 use Rattle.integer.specs.Size.{Within, abs-neg}
 use Rattle.lists.proofs.Tab.{tab-end, tab-down, tab-map}
@@ -25,29 +25,29 @@ use Rattle.linear.specs.Excess.{Excess, RoundedOrOut}
 use Rattle.linear.proofs.Sizes.{range-sized}
 
 -- ---- the divisor of the coefficients from i on
-pub divisor-none : (f : ℕ → ℤ) (n : ℕ) → 0 ≡ divisor (tab f n (n - n))
-unfolding divisor
+pub divisor-none : (f : ℕ → ℤ) (n : ℕ) → 0 ≡ commonDivisor (tab f n (n - n))
+unfolding commonDivisor
 divisor-none f n = rw (tab-end f n n (omega arith))
 
-pub divisor-down : (f : ℕ → ℤ) (n i a g : ℕ) → 0 < i → i ≤ n → a ≡ natAbs (f (i - 1)) → g ≡ divisor (tab f i (n - i)) →
-    gcd a g ≡ divisor (tab f (i - 1) (n - (i - 1)))
-unfolding divisor
+pub divisor-down : (f : ℕ → ℤ) (n i a g : ℕ) → 0 < i → i ≤ n → a ≡ natAbs (f (i - 1)) → g ≡ commonDivisor (tab f i (n - i)) →
+    gcd a g ≡ commonDivisor (tab f (i - 1) (n - (i - 1)))
+unfolding commonDivisor
 divisor-down f n i a g p h e k = rw (tab-down f n i p h, e, k)
 
 -- the same for what may be given as 1
-pub above-down : (f : ℕ → ℤ) (n i a g least r : ℕ) → 0 < i → i ≤ n → a ≡ natAbs (f (i - 1)) → (g ≡ 1 → ⊥) → Above least (divisor (tab f i (n - i))) g →
-    Above least (gcd a g) r → Above least (divisor (tab f (i - 1) (n - (i - 1)))) r
+pub above-down : (f : ℕ → ℤ) (n i a g least r : ℕ) → 0 < i → i ≤ n → a ≡ natAbs (f (i - 1)) → (g ≡ 1 → ⊥) → Above least (commonDivisor (tab f i (n - i))) g →
+    Above least (gcd a g) r → Above least (commonDivisor (tab f (i - 1) (n - (i - 1)))) r
 above-down f n i a g least r p h e o d t = ⊎-elim (λ k. rw (divisor-down f n i a g p h e k) at t) (λ k. absurd (o (k .0))) d
 
 gcd-one : (a : ℕ) → gcd a 1 ≡ 1
 gcd-one a = omega (arith, le-of-dvd (lit< tt) (gcd-right a 1), pos-of-dvd-of-pos (gcd-right a 1) (lit< tt))
 
 -- once it is 1, it stays 1; once it is at most `least`, it stays so
-pub above-one : (f : ℕ → ℤ) (n i g least : ℕ) → i ≤ n → Above least (divisor (tab f i (n - i))) g → g ≡ 1 → Above least (divisor (tab f 0 n)) 1
+pub above-one : (f : ℕ → ℤ) (n i g least : ℕ) → i ≤ n → Above least (commonDivisor (tab f i (n - i))) g → g ≡ 1 → Above least (commonDivisor (tab f 0 n)) 1
 above-one f n zero g least h d o = let z : n - 0 ≡ n = omega arith in rw (z, o) at d
 above-one f n (suc i) g least h d o =
     let z : suc i - 1 ≡ i = omega arith in
-    let e : gcd (natAbs (f i)) (divisor (tab f (suc i) (n - suc i))) ≡ divisor (tab f i (n - i)) =
+    let e : gcd (natAbs (f i)) (commonDivisor (tab f (suc i) (n - suc i))) ≡ commonDivisor (tab f i (n - i)) =
     rw z at (divisor-down f n (suc i) (natAbs (f (suc i - 1))) _ (omega arith) h refl refl) in
     above-one f n i 1 least (omega arith)
     (⊎-elim
@@ -63,10 +63,14 @@ unfolding roundedBy constraintAt
 divided-row n zero c r p l = absurd (omega arith)
 divided-row n (suc h) c r p l = filled n r l ∙ constraint-eq refl (sym (tab-map (exactDiv (suc h)) (cell c 0) 0 n))
 
--- ---- rounding, from the divisor
-pub rounded-none : (k : Constraint) → divisor (k .coefficients) ≡ 0 → k ≡ rounded k
-unfolding rounded roundedBy
-rounded-none k e = rw e
+-- ---- rounding an inequality, from the divisor of its coefficients
+as-inequality : (k : Constraint) → k .divisor ≡ pos 0 → roundedBy (commonDivisor (k .coefficients)) k ≡ rounded k
+unfolding rounded roundedAs modulus
+as-inequality k q = ap (λ (z : ℤ). roundedAs (natAbs z) k) (sym q)
+
+pub rounded-none : (k : Constraint) → k .divisor ≡ pos 0 → commonDivisor (k .coefficients) ≡ 0 → k ≡ rounded k
+unfolding roundedBy
+rounded-none k q e = ap (λ (h : ℕ). roundedBy h k) (sym e) ∙ as-inequality k q
 
 floor-one : (z : ℤ) → floorDiv z 1 ≡ z
 unfolding floorDiv
@@ -90,28 +94,25 @@ by-one : (k : Constraint) → k ≡ roundedBy 1 k
 unfolding roundedBy
 by-one k = constraint-eq (sym (ceil-one (k .constant))) (sym (exact-ones (k .coefficients)))
 
-pub rounded-one : (k : Constraint) → divisor (k .coefficients) ≡ 1 → k ≡ rounded k
-unfolding rounded
-rounded-one k e = rw e (by-one k)
+pub rounded-by : (k : Constraint) (h : ℕ) → k .divisor ≡ pos 0 → h ≡ commonDivisor (k .coefficients) → roundedBy h k ≡ rounded k
+rounded-by k h q e = ap (λ (d : ℕ). roundedBy d k) e ∙ as-inequality k q
 
-pub rounded-by : (k : Constraint) (h : ℕ) → h ≡ divisor (k .coefficients) → roundedBy h k ≡ rounded k
-unfolding rounded
-rounded-by k h e = rw e
+pub rounded-one : (k : Constraint) → k .divisor ≡ pos 0 → commonDivisor (k .coefficients) ≡ 1 → k ≡ rounded k
+rounded-one k q e = by-one k ∙ rounded-by k 1 q (sym e)
 
 -- ---- and from what may be given as 1: neither k nor what it is rounded to is in range where the excess reaches the divisor
-module _ (k : Constraint) (least h : ℕ) (x : Excess k least) (d : Above least (divisor (k .coefficients)) h) where
+module _ (k : Constraint) (least h : ℕ) (q : k .divisor ≡ pos 0) (x : Excess k least) (d : Above least (commonDivisor (k .coefficients)) h) where
   pub left-none : h ≡ 0 → RoundedOrOut k k
-  left-none z = ⊎-elim (λ e. inl (rounded-none k (sym e ∙ z))) (λ s. absurd (omega arith)) d
+  left-none z = ⊎-elim (λ e. inl (rounded-none k q (sym e ∙ z))) (λ s. absurd (omega arith)) d
 
   pub left-one : h ≡ 1 → RoundedOrOut k k
-  unfolding rounded
   left-one o =
       ⊎-elim
-      (λ e. inl (rounded-one k (sym e ∙ o)))
-      (λ s. inr (ap inRange (by-one k) ∙ x 1 (lit< tt) (omega arith), x (divisor (k .coefficients)) (s .1 .0) (s .1 .1)))
+      (λ e. inl (rounded-one k q (sym e ∙ o)))
+      (λ s. inr (ap inRange (by-one k) ∙ x 1 (lit< tt) (omega arith), ap inRange (sym (as-inequality k q)) ∙ x (commonDivisor (k .coefficients)) (s .1 .0) (s .1 .1)))
       d
 
-  pub above-is : (h ≡ 1 → ⊥) → h ≡ divisor (k .coefficients)
+  pub above-is : (h ≡ 1 → ⊥) → h ≡ commonDivisor (k .coefficients)
   above-is o = ⊎-elim (λ e. e) (λ s. absurd (o (s .0))) d
 
 -- ---- a coefficient of that size shows the excess

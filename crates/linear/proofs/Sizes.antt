@@ -14,7 +14,7 @@ use mir.Val.{toZ, ofZ}
 use Rattle.model.specs.Ranges.{within, maxCoefficient}
 use Rattle.model.specs.Division.{exactDiv, gcd}
 use Rattle.model.specs.Lists.{allOf}
-use Rattle.model.specs.Constraint.{Constraint, coefficientAt, divisor, roundedBy, rounded, mixed, combination, resolvent, inRange}
+use Rattle.model.specs.Constraint.{Constraint, modulus, coefficientAt, commonDivisor, roundedBy, roundedAs, rounded, mixed, combination, resolvent, inRange}
 use Rattle.integer.specs.Size.{Within, weaken, between-in, between-out}
 use Rattle.integer.specs.Rounding.{ceil-size, exact-size}
 use Rattle.integer.specs.Divisor.{gcd-most}
@@ -82,12 +82,12 @@ module _ (n : ℕ) (rows : List ℤ) (start : ℕ) (e : inRange (constraintAt n 
   coefficient-read i l h = rw (cell-read rows start i (start + 1 + i) refl h) (cell-within i l)
 
 -- ---- rounding makes no number larger
-divisor-most : {b : ℕ} (cs : List ℤ) → Small b cs → divisor cs ≤ b
-unfolding divisor
+divisor-most : {b : ℕ} (cs : List ℤ) → Small b cs → commonDivisor cs ≤ b
+unfolding commonDivisor
 divisor-most [] h = omega arith
-divisor-most {b} (c ∷ cs) h = gcd-most (natAbs c) (divisor cs) b (h 0 .within) (divisor-most cs (λ i. h (suc i)))
+divisor-most {b} (c ∷ cs) h = gcd-most (natAbs c) (commonDivisor cs) b (h 0 .within) (divisor-most cs (λ i. h (suc i)))
 
-pub divisor-sized : {b : ℕ} (k : Constraint) → Sized b k → divisor (k .coefficients) ≤ b
+pub divisor-sized : {b : ℕ} (k : Constraint) → Sized b k → commonDivisor (k .coefficients) ≤ b
 unfolding coefficientAt
 divisor-sized k h = divisor-most (k .coefficients) (h .coefficient)
 
@@ -105,9 +105,14 @@ by-sized (suc d) k h =
       coefficient = divided-small (suc d) (k .coefficients) (h .coefficient);
     }
 
+as-sized : {b : ℕ} (q : ℕ) (k : Constraint) → Sized b k → Sized b (roundedAs q k)
+unfolding roundedAs
+as-sized zero k h = by-sized (commonDivisor (k .coefficients)) k h
+as-sized (suc q) k h = h
+
 pub rounded-sized : {b : ℕ} (k : Constraint) → Sized b k → Sized b (rounded k)
 unfolding rounded
-rounded-sized k h = by-sized (divisor (k .coefficients)) k h
+rounded-sized k h = as-sized (modulus k) k h
 
 pub rounded-range : (k : Constraint) → inRange k ≡ true → inRange (rounded k) ≡ true
 rounded-range k e = sized-range (rounded k) (rounded-sized k (range-sized k e))

@@ -1,10 +1,10 @@
 -- The ranges in which the line arithmetic does not overflow. `proofs/Ranges` derives them from the model's own tests.
 use Prim.Native.Nat.{ℕ, _+_, _*_, _≤_, _<_, _^_}
 use mathlib.Core.List.{List}
-use lib.IntN.{ℤ, pos}
+use lib.IntN.{ℤ, pos, natAbs}
 use lib.ListN.{length}
 use lib.Signed.{_≤ℤ_}
-use Rattle.model.specs.Ranges.{maxVariables, maxCoefficient}
+use Rattle.model.specs.Ranges.{maxVariables, maxCoefficient, maxDivisor}
 use Rattle.integer.specs.Size.{Within}
 use Rattle.layout.specs.Rows.{numberIn, cell}
 
@@ -43,6 +43,10 @@ pub record BoxFits (n : ℕ) (lower upper : List ℤ) : Type 0 where
   pub uppers : n ≤ length upper
   pub low : (i : ℕ) → i < n → Within widestBound (numberIn lower i)
   pub high : (i : ℕ) → i < n → Within widestBound (numberIn upper i)
+
+-- a divisor in range: none, or one that a problem may have
+abbrev pub DivisorFits : ℤ → Type 0
+DivisorFits q = natAbs q ≤ maxDivisor
 
 -- the activity without a variable, and the variable's coefficient
 pub record ImpliedFits (p a : ℤ) : Type 0 where

@@ -8,7 +8,7 @@ ghost use Prim.Native.Nat.{_<_, _≤_, _^_};
 ghost use lib.IntN.{pos, natAbs};
 ghost use lib.ListN.{length};
 ghost use Rattle.model.specs.Ranges.{maxVariables, maxCoefficient};
-ghost use Rattle.model.specs.Constraint.{divisor as divisorOf, roundedBy, rounded};
+ghost use Rattle.model.specs.Constraint.{commonDivisor, roundedBy, rounded};
 ghost use Rattle.integer.specs.Size.{Within};
 ghost use Rattle.integer.specs.Divisor.{Above};
 ghost use Rattle.layout.specs.Rows.{rowLength, constraintAt};
@@ -39,7 +39,7 @@ fn excess(c: &[i64; 33], n: usize) -> u64
 // as 1.
 fn divisor(c: &[i64; 33], n: usize, least: u64) -> u64
     requires { ⌜ n ≤ maxVariables ⌝ }
-    ensures { λ r. ⌜ Above least (divisorOf (constraintAt n (now (c .entry)) 0 .coefficients)) r ⌝ }
+    ensures { λ r. ⌜ Above least (commonDivisor (constraintAt n (now (c .entry)) 0 .coefficients)) r ⌝ }
 {
     let mut g: u64 = 0;
     let mut i = n;

@@ -62,13 +62,21 @@ checksum k b = (sum (tab (wordAt b) 0 127) + suc k) % 2 ^ 32
 unfoldable pub isZero : ℕ → Bool
 isZero b = eqb b 0
 
+-- the bytes from place i to place e are zero
+unfoldable pub zeroBetween : ℕ → ℕ → List ℕ → Bool
+zeroBetween i e b = allOf isZero (drop i (take e b))
+
 -- the bytes from place i to the check are zero
 unfoldable pub zeroFrom : ℕ → List ℕ → Bool
-zeroFrom i b = allOf isZero (drop i (take checkOffset b))
+zeroFrom i b = zeroBetween i checkOffset b
+
+-- the content, then zeros up to place e
+unfoldable pub paddedTo : ℕ → List ℕ → List ℕ
+paddedTo e content = content ++ replicate (e - length content) 0
 
 -- the content, then zeros up to the check
 unfoldable pub padded : List ℕ → List ℕ
-padded content = content ++ replicate (checkOffset - length content) 0
+padded content = paddedTo checkOffset content
 
 -- the 512 bytes of block k
 unfoldable pub sealed : ℕ → List ℕ → List ℕ

@@ -1,4 +1,4 @@
--- Computed cases beside the table: of lines, points and kept cuts here, of turns and runs, of validity, and of bytes. One theorem covers them.
+-- Computed cases beside the table: of lines, points and kept cuts here, of divisor lines, of turns and runs, of validity, and of bytes. One theorem covers them.
 use Prim.Native.Nat.{ℕ}
 use mathlib.Core.Bool.{Bool, true, false, _&&_, not}
 use mathlib.Core.List.{List, [], _∷_, _++_}
@@ -9,10 +9,11 @@ use Rattle.model.specs.Lists.{tab, all, anyOf, allPairs}
 use Rattle.model.specs.Constraint.{Constraint, rounded, resolvent, equal}
 use Rattle.model.specs.Search.{Core, numberAt, keptNumber, nextNumber, keep, coreOf}
 use Rattle.model.specs.Points.{allPoints, points}
-use Rattle.model.specs.Examples.{neg, linear, between, A-second, planA, planB, sameValues, definitions}
+use Rattle.model.specs.Examples.{neg, linear, divided, between, A-second, planA, planB, sameValues, definitions}
 use Rattle.model.specs.SearchCases.{searchCases}
+use Rattle.model.specs.DivisorCases.{divisorCases}
 use Rattle.model.specs.ValidityCases.{validityCases}
-use Rattle.model.specs.FileCases.{checkRule, fileCases}
+use Rattle.model.specs.FileCases.{checkRule, indivisible, fileCases}
 
 -- ---- lines and points
 -- 'A line with no coefficient but 0 stays.' And g matters: 2v1 + 3v2 − 7 with −2v1 − 3v2 + 8 is 1 ≤ 0, not 3 ≤ 0.
@@ -26,7 +27,7 @@ abbrev opened : Bool
 opened =
     allPairs equal (coreOf planB .inputs) (linear (pos 2 ∷ neg 1 ∷ []) (pos 0) ∷ linear (neg 2 ∷ pos 1 ∷ []) (pos 1) ∷ [])
 
--- the tests of equality do refuse: another constant, another coefficient, another sign, another length
+-- the tests of equality do refuse: another constant, another coefficient, another sign, another length, a divisor
 abbrev unequal : Bool
 unequal =
     not (anyOf (equal (linear (neg 1 ∷ pos 2 ∷ []) (pos 1)))
@@ -37,6 +38,7 @@ unequal =
     linear (neg 1 ∷ pos 2 ∷ []) (neg 1) ∷
     linear (neg 1 ∷ []) (pos 1) ∷
     linear (neg 1 ∷ pos 2 ∷ pos 0 ∷ []) (pos 1) ∷
+    divided 2 (neg 1 ∷ pos 2 ∷ []) (pos 1) ∷
     []))
 
 -- the points of limits −1 to 1 and 5 to 6, in dictionary order
@@ -90,11 +92,11 @@ newestKept =
 
 -- ---- the theorem: what is quick stands first
 unfoldable pub shortCases : List Bool
-shortCases = checkRule ∷ zeroLines ∷ opened ∷ unequal ∷ pointList ∷ []
+shortCases = checkRule ∷ zeroLines ∷ opened ∷ unequal ∷ pointList ∷ indivisible ∷ []
 
 pub cases : List Bool
-cases = shortCases ++ (searchCases ++ (newestKept ∷ (validityCases ++ fileCases)))
+cases = shortCases ++ (divisorCases ++ (searchCases ++ (newestKept ∷ (validityCases ++ fileCases))))
 
 pub cases-hold : T (all cases)
-unfolding cases shortCases searchCases validityCases fileCases definitions
+unfolding cases shortCases divisorCases searchCases validityCases fileCases definitions
 cases-hold = tt

@@ -1,12 +1,12 @@
--- Document 01's dead end: analysis, numbering and keeping the cut, the backjump level, and going back.
+-- Document 01's dead end, with N1's: analysis, numbering and keeping the cut, the backjump level, and going back.
 use Prim.Native.Nat.{ℕ, zero, suc, _-_}
 use mathlib.Core.Bool.{_&&_, cond}
 use mathlib.Core.List.{List, [], _∷_}
 use mathlib.Core.Option.{Option, none, some}
 use lib.IntN.{ℤ, pos, negsuc}
-use lib.ListN.{getD, length, drop}
+use lib.ListN.{getD, length, drop, replicate}
 use Rattle.model.specs.Lists.{orElse, withDefault}
-use Rattle.model.specs.Constraint.{Constraint, Box, coefficientAt, falsified, resolvent, opposite, inRange, equal}
+use Rattle.model.specs.Constraint.{Constraint, Box, modulus, isInequality, coefficientAt, falsified, resolvent, opposite, inRange, equal}
 use Rattle.model.specs.File.{noConstraint}
 use Rattle.model.specs.Search.{Reason, domain, decision, flipped, constraint, Reasons, Level, reasonsAt, flipAt, Core, depth, levels, withLevels, kept, numberAt, keptNumber, nextNumber, keep}
 
@@ -31,9 +31,10 @@ takeIf box f k g = cond (inRange g && falsified g box) (record { cut = g; used =
 unfoldable pub resolveWith : Box → ℕ → Constraint → ℕ → Constraint → Resolved
 resolveWith box i f k j = cond (opposite (coefficientAt f i) (coefficientAt j i)) (takeIf box f k (resolvent i f j)) (unchanged f)
 
+-- a divisor constraint is never combined
 unfoldable pub resolveKept : Box → ℕ → Constraint → ℕ → Option Constraint → Resolved
 resolveKept box i f k none = unchanged f
-resolveKept box i f k (some j) = resolveWith box i f k j
+resolveKept box i f k (some j) = cond (isInequality j) (resolveWith box i f k j) (unchanged f)
 
 -- with a bound's reason
 unfoldable pub resolveBy : Core → ℕ → Constraint → Reason → Resolved
@@ -75,12 +76,12 @@ numberedBy c cut none = record { number = nextNumber c; core = keep cut c }
 unfoldable pub numbered : Core → Constraint → Numbered
 numbered c cut = numberedBy c cut (firstEqual 0 (kept c) cut)
 
--- ---- 'd': the least depth whose level makes the cut falsified, the levels given from the deepest out
+-- ---- 'd': the least depth whose level makes the cut, or the divisor constraint, falsified, the levels given from the deepest out
 unfoldable pub leastFalsified : Constraint → List Level → Option ℕ
 leastFalsified cut [] = none
 leastFalsified cut (l ∷ ls) = orElse (leastFalsified cut ls) (cond (falsified cut (l .box)) (some (length ls)) none)
 
--- there is one, for the deepest level makes the cut falsified: the default is never reached
+-- there is one, for the deepest level makes it falsified: the default is never reached
 unfoldable pub backjumpLevel : Constraint → Core → ℕ
 backjumpLevel cut c = withDefault 0 (leastFalsified cut (levels c))
 
@@ -120,8 +121,21 @@ conflictOf c j a n d =
       core = settled d (n .core);
     }
 
+-- at an inequality: the cut is learned
+unfoldable pub learning : Core → ℕ → Constraint → Conflict
+learning c j k = let a = analyze c k in conflictOf c j a (numbered c (a .cut)) (backjumpLevel (a .cut) c)
+
+-- at a divisor constraint: nothing is learned, and d is the least depth that falsifies the constraint itself
+unfoldable pub nothingLearned : ℕ → Analysis
+nothingLearned n = record { cut = record { constant = pos 0; coefficients = replicate n (pos 0); divisor = pos 0 }; used = replicate n 0 }
+
+unfoldable pub noLearning : Core → ℕ → Constraint → Conflict
+noLearning c j k = conflictOf c j (nothingLearned (c .variables)) (record { number = 0; core = c }) (backjumpLevel k c)
+
+unfoldable pub conflictBy : ℕ → Core → ℕ → Constraint → Conflict
+conflictBy zero c j k = learning c j k
+conflictBy (suc q) c j k = noLearning c j k
+
 -- at the kept constraint in position j, which the deepest level falsifies
 unfoldable pub atConflict : Core → ℕ → Conflict
-atConflict c j =
-    let a = analyze c (getD (kept c) j noConstraint) in
-    conflictOf c j a (numbered c (a .cut)) (backjumpLevel (a .cut) c)
+atConflict c j = let k = getD (kept c) j noConstraint in conflictBy (modulus k) c j k

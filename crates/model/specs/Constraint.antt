@@ -1,18 +1,28 @@
--- Document 01, 'Lines and bounds'. A constraint is its 'line': constant + Σ coefficient · variable ≤ 0. Variables are counted from 0.
+-- Document 01, 'Lines and bounds', with document 02's N1. A constraint is its 'line': constant + Σ coefficient · variable ≤ 0, or, where it carries a
+-- divisor q, q divides constant + Σ coefficient · variable. Variables are counted from 0.
 use Prim.Native.Nat.{ℕ, zero, suc, _/_}
-use mathlib.Core.Bool.{Bool, false, _&&_}
+use mathlib.Core.Bool.{Bool, false, not, cond, _&&_, _||_}
 use mathlib.Core.List.{List, [], _∷_, map}
 use lib.Dec.{eqb}
 use lib.IntN.{ℤ, pos, negsuc, negℤ, natAbs, sucℤ, _+ℤ_, _*ℤ_}
-use lib.Signed.{ltZ}
+use lib.Signed.{leZ, ltZ}
 use lib.ListN.{getD, set}
-use Rattle.model.specs.Division.{floorDiv, ceilDiv, exactDiv, gcd}
+use Rattle.model.specs.Division.{floorDiv, ceilDiv, exactDiv, gcd, divides}
 use Rattle.model.specs.Lists.{allOf, allPairs}
-use Rattle.model.specs.Ranges.{within, maxCoefficient}
+use Rattle.model.specs.Ranges.{within, maxCoefficient, maxDivisor}
 
+-- N1's 'q' is 0 for an inequality. An input may carry a divisor; a cut never does.
 pub record Constraint : Type 0 where
   pub constant : ℤ
   pub coefficients : List ℤ
+  pub divisor : ℤ
+
+-- the size of q: 0 for an inequality, above 0 for a divisor constraint
+unfoldable pub modulus : Constraint → ℕ
+modulus k = natAbs (k .divisor)
+
+unfoldable pub isInequality : Constraint → Bool
+isInequality k = eqb (modulus k) 0
 
 -- the coefficient at variable i, 0 past the last one
 unfoldable pub coefficientAt : Constraint → ℕ → ℤ
@@ -35,6 +45,10 @@ lowerAt box i = getD box i noBounds .lower
 
 unfoldable pub upperAt : Box → ℕ → ℤ
 upperAt box i = getD box i noBounds .upper
+
+-- 'L < U'
+unfoldable pub isOpen : Bounds → Bool
+isOpen b = ltZ (b .lower) (b .upper)
 
 -- ---- the three ways in which bounds change: a lower bound rises to v, an upper bound falls to v, and v's next value
 unfoldable pub setLower : ℕ → ℤ → Box → Box
@@ -60,9 +74,29 @@ terms (a ∷ cs) (b ∷ box) = term a b +ℤ terms cs box
 unfoldable pub activity : Constraint → Box → ℤ
 activity k box = k .constant +ℤ terms (k .coefficients) box
 
--- 'false': the minimum activity is above 0
+-- ---- a divisor constraint in a box
+-- the greatest common divisor of q and the coefficients of the variables with L < U
+unfoldable pub openDivisor : ℕ → List ℤ → Box → ℕ
+openDivisor q [] box = q
+openDivisor q (a ∷ cs) [] = q
+openDivisor q (a ∷ cs) (b ∷ box) = cond (isOpen b) (gcd (natAbs a) (openDivisor q cs box)) (openDivisor q cs box)
+
+-- 'the rest's value': the constant, and a · L of the variables with L = U
+unfoldable pub fixedTerms : List ℤ → Box → ℤ
+fixedTerms [] box = pos 0
+fixedTerms (a ∷ cs) [] = pos 0
+fixedTerms (a ∷ cs) (b ∷ box) = cond (isOpen b) (fixedTerms cs box) (a *ℤ b .lower +ℤ fixedTerms cs box)
+
+unfoldable pub fixedValue : Constraint → Box → ℤ
+fixedValue k box = k .constant +ℤ fixedTerms (k .coefficients) box
+
+-- ---- 'false': the minimum activity of an inequality is above 0; of a divisor constraint that greatest common divisor does not divide the rest's value
+unfoldable pub falsifiedBy : ℕ → Constraint → Box → Bool
+falsifiedBy zero k box = ltZ (pos 0) (activity k box)
+falsifiedBy (suc q) k box = not (divides (openDivisor (suc q) (k .coefficients) box) (fixedValue k box))
+
 unfoldable pub falsified : Constraint → Box → Bool
-falsified k box = ltZ (pos 0) (activity k box)
+falsified k box = falsifiedBy (modulus k) k box
 
 -- ---- the bounds that a constraint implies for a variable with coefficient a or −a; p is its activity without that variable
 unfoldable pub impliedUpper : ℤ → ℕ → ℤ
@@ -73,17 +107,22 @@ impliedLower p a = ceilDiv p a
 
 -- ---- 'rounding'
 -- the greatest common divisor of the coefficients; 0 where they are all 0
-unfoldable pub divisor : List ℤ → ℕ
-divisor [] = 0
-divisor (a ∷ cs) = gcd (natAbs a) (divisor cs)
+unfoldable pub commonDivisor : List ℤ → ℕ
+commonDivisor [] = 0
+commonDivisor (a ∷ cs) = gcd (natAbs a) (commonDivisor cs)
 
 -- divided by h, the constant rounded up
 unfoldable pub roundedBy : ℕ → Constraint → Constraint
 roundedBy zero k = k
-roundedBy (suc h) k = record { constant = ceilDiv (k .constant) (suc h); coefficients = map (exactDiv (suc h)) (k .coefficients) }
+roundedBy (suc h) k = record { constant = ceilDiv (k .constant) (suc h); coefficients = map (exactDiv (suc h)) (k .coefficients); divisor = k .divisor }
+
+-- a divisor constraint stays
+unfoldable pub roundedAs : ℕ → Constraint → Constraint
+roundedAs zero k = roundedBy (commonDivisor (k .coefficients)) k
+roundedAs (suc q) k = k
 
 unfoldable pub rounded : Constraint → Constraint
-rounded k = roundedBy (divisor (k .coefficients)) k
+rounded k = roundedAs (modulus k) k
 
 -- ---- 'combining': resolving F with J at variable i
 unfoldable pub mixed : ℕ → List ℤ → ℕ → List ℤ → List ℤ
@@ -93,7 +132,8 @@ mixed s (a ∷ cs) t (b ∷ bs) = (pos s *ℤ a +ℤ pos t *ℤ b) ∷ mixed s c
 
 -- s · F + t · J
 unfoldable pub combination : ℕ → Constraint → ℕ → Constraint → Constraint
-combination s f t j = record { constant = pos s *ℤ f .constant +ℤ pos t *ℤ j .constant; coefficients = mixed s (f .coefficients) t (j .coefficients) }
+combination s f t j =
+    record { constant = pos s *ℤ f .constant +ℤ pos t *ℤ j .constant; coefficients = mixed s (f .coefficients) t (j .coefficients); divisor = pos 0 }
 
 unfoldable pub resolvent : ℕ → Constraint → Constraint → Constraint
 resolvent i f j =
@@ -118,5 +158,12 @@ equalℤ (pos a) (negsuc b) = false
 equalℤ (negsuc a) (pos b) = false
 equalℤ (negsuc a) (negsuc b) = eqb a b
 
+-- a divisor that a constraint may carry: none, or 2 to 2^20
+unfoldable pub isDivisor : ℤ → Bool
+isDivisor q = equalℤ q (pos 0) || (leZ (pos 2) q && leZ q (pos maxDivisor))
+
+unfoldable pub divisorInRange : Constraint → Bool
+divisorInRange k = isDivisor (k .divisor)
+
 unfoldable pub equal : Constraint → Constraint → Bool
-equal k l = equalℤ (k .constant) (l .constant) && allPairs equalℤ (k .coefficients) (l .coefficients)
+equal k l = equalℤ (k .divisor) (l .divisor) && (equalℤ (k .constant) (l .constant) && allPairs equalℤ (k .coefficients) (l .coefficients))

@@ -1,6 +1,8 @@
--- Division with rounding, the greatest common divisor, and exact division.
+-- Division with rounding, the greatest common divisor, exact division, and divisibility.
 use Prim.Native.Nat.{ℕ, zero, suc, _/_, _%_}
-use lib.IntN.{ℤ, pos, negsuc, negℤ}
+use mathlib.Core.Bool.{Bool}
+use lib.Dec.{eqb}
+use lib.IntN.{ℤ, pos, negsuc, negℤ, natAbs}
 
 -- z / d rounded down, for d of at least 1: -1 - a rounded down is -1 - a / d
 unfoldable pub floorDiv : ℤ → ℕ → ℤ
@@ -25,3 +27,7 @@ gcdWith (suc fuel) a (suc b) = gcdWith fuel (suc b) (a % suc b)
 -- the greatest common divisor of two numbers; of 0 and 0 it is 0
 unfoldable pub gcd : ℕ → ℕ → ℕ
 gcd a b = gcdWith (suc b) a b
+
+-- d divides z, for d of at least 1
+unfoldable pub divides : ℕ → ℤ → Bool
+divides d z = eqb (natAbs z % d) 0

@@ -37,7 +37,15 @@ neg n = negℤ (pos n)
 
 -- the coefficients, then the constant: a line as document 01 writes it
 abbrev pub linear : List ℤ → ℤ → Constraint
-linear cs c = record { constant = c; coefficients = cs }
+linear cs c = record { constant = c; coefficients = cs; divisor = pos 0 }
+
+-- N1: q divides it
+abbrev pub divided : ℕ → List ℤ → ℤ → Constraint
+divided q cs c = record { constant = c; coefficients = cs; divisor = pos q }
+
+-- the same numbers with another q, in range or not
+abbrev pub withDivisor : ℤ → Constraint → Constraint
+withDivisor q k = record { constant = k .constant; coefficients = k .coefficients; divisor = q }
 
 -- L to U
 abbrev pub between : ℤ → ℤ → Bounds
@@ -185,30 +193,31 @@ filled content check = content ++ (replicate (508 - length content) 0 ++ check)
 unfoldable pub definitions : Unit {0}
 unfolding Lists.tab Lists.parts Lists.sum Lists.all Lists.allOf Lists.anyOf Lists.allPairs Lists.orElse Lists.withDefault
     Ranges.within
-    Division.floorDiv Division.ceilDiv Division.exactDiv Division.gcdWith Division.gcd
+    Division.floorDiv Division.ceilDiv Division.exactDiv Division.gcdWith Division.gcd Division.divides
+    Constraint.modulus Constraint.isInequality Constraint.isOpen Constraint.openDivisor Constraint.fixedTerms Constraint.fixedValue Constraint.falsifiedBy
     Constraint.coefficientAt Constraint.lowerAt Constraint.upperAt Constraint.setLower Constraint.setUpper Constraint.nextValue Constraint.term
-    Constraint.terms Constraint.activity Constraint.falsified Constraint.impliedUpper Constraint.impliedLower Constraint.divisor Constraint.roundedBy
-    Constraint.rounded Constraint.mixed Constraint.combination Constraint.resolvent Constraint.opposite Constraint.inRange Constraint.equalℤ
+    Constraint.terms Constraint.activity Constraint.falsified Constraint.impliedUpper Constraint.impliedLower Constraint.commonDivisor Constraint.roundedBy
+    Constraint.roundedAs Constraint.isDivisor Constraint.divisorInRange Constraint.rounded Constraint.mixed Constraint.combination Constraint.resolvent Constraint.opposite Constraint.inRange Constraint.equalℤ
     Constraint.equal
-    Problem.variables Problem.sizesInRange Problem.boundsInRange Problem.domainInRange Problem.constraintsInRange Problem.firstError Problem.resultOf
+    Problem.variables Problem.sizesInRange Problem.boundsInRange Problem.domainInRange Problem.constraintsInRange Problem.divisorsInRange Problem.firstError Problem.resultOf
     Bytes.u16At Bytes.u32At Bytes.signed Bytes.i32At Bytes.u16Bytes Bytes.u32Bytes Bytes.unsigned Bytes.i32Bytes Bytes.block Bytes.wordAt
-    Bytes.checksum Bytes.isZero Bytes.zeroFrom Bytes.padded Bytes.sealed
+    Bytes.checksum Bytes.isZero Bytes.zeroBetween Bytes.zeroFrom Bytes.paddedTo Bytes.padded Bytes.sealed
     File.magic File.variablesIn File.constraintsIn File.budgetIn File.boundsOffset File.boundsIn File.coefficientOffset File.coefficientIn
     File.constraintIn File.constraintOf File.problemIn File.wholeBlocks File.checkMatches File.checksMatch File.magicMatches File.blockCountMatches
-    File.constraintPadded File.paddingZero File.readError File.readFile File.boundsBytes File.headBytes File.coefficientBytes File.constraintBytes
+    File.blockPadded File.constraintPadded File.paddingZero File.readError File.readFile File.boundsBytes File.headBytes File.coefficientBytes File.numbersBytes File.constraintBytes
     File.blockOf File.fileOf File.fileLength File.writeError File.writtenBy File.writeFile
     Search.reasonsAt Search.setLowerReason Search.setUpperReason Search.raiseLower Search.lowerUpper Search.decideAt Search.flipAt Search.depth
     Search.levels Search.withLevels Search.withDeepest Search.kept Search.dropped Search.numberAt Search.keptNumber Search.nextNumber Search.newest
     Search.keep Search.levelOf Search.coreOf Search.openProblem Search.openedBy Search.openFile
-    Move.firstFalsified Move.improvementAt Move.improvementFrom Move.firstImprovement Move.firstOpen Move.nextMove Move.follow Move.slack
+    Move.firstFalsified Move.improvementAt Move.improvementFrom Move.improvementBy Move.firstImprovement Move.firstOpen Move.nextMove Move.follow Move.slack
     Move.descendFor Move.descend
     Conflict.unchanged Conflict.takeIf Conflict.resolveWith Conflict.resolveKept Conflict.resolveBy Conflict.usedReason Conflict.resolveAt
     Conflict.analyzeFrom Conflict.analyze Conflict.firstEqual Conflict.numberedBy Conflict.numbered Conflict.leastFalsified Conflict.backjumpLevel
-    Conflict.backFrom Conflict.backUp Conflict.settled Conflict.conflictOf Conflict.atConflict
+    Conflict.backFrom Conflict.backUp Conflict.settled Conflict.conflictOf Conflict.learning Conflict.nothingLearned Conflict.noLearning Conflict.conflictBy Conflict.atConflict
     Journal.recordMagic Journal.usedBytes Journal.recordHead Journal.recordContent Journal.recordBytes Journal.cutOffset Journal.cutCoefficient
     Journal.cutIn
-    Validity.scalarsValid Validity.constraintsValid Validity.cutNumber Validity.numbersValid Validity.reasonValid Validity.reasonsValid
-    Validity.levelValid Validity.levelsValid Validity.inside Validity.boxInside Validity.decisionValid Validity.nestedValid Validity.isOpen
+    Validity.scalarsValid Validity.constraintsValid Validity.divisorsValid Validity.cutNumber Validity.numbersValid Validity.reasonValid Validity.reasonsValid
+    Validity.levelValid Validity.levelsValid Validity.inside Validity.boxInside Validity.decisionValid Validity.nestedValid
     Validity.falsifies Validity.anyFalsified Validity.outermost Validity.statusValid Validity.valid Validity.levelShaped Validity.constraintShaped
     Validity.shaped
     Step.lowers Step.withStatus Step.solvedBy Step.budgetSpent Step.recordOf Step.verdictAt Step.statusAt Step.counted Step.onConflict Step.endedAt

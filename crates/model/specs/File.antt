@@ -1,4 +1,4 @@
--- Document 01, 'The plan file' and the writer: the format on bytes, its errors, reading and writing.
+-- Document 01, 'The plan file' and the writer, with N1's divisors: the format on bytes, its errors in the order in which they count, reading and writing.
 use Prim.Native.Nat.{ℕ, zero, suc, _+_, _*_, _/_, _%_}
 use mathlib.Core.Bool.{Bool, _&&_}
 use mathlib.Core.List.{List, [], _∷_, _++_}
@@ -7,8 +7,8 @@ use lib.IntN.{ℤ, pos}
 use lib.ListN.{getD, take, drop, length}
 use Rattle.model.specs.Lists.{tab, parts, all, allPairs}
 use Rattle.model.specs.Constraint.{Constraint, Bounds, lowerAt, upperAt, coefficientAt}
-use Rattle.model.specs.Problem.{Problem, variables, sizesInRange, domainInRange, constraintsInRange, firstError, Result, resultOf}
-use Rattle.model.specs.Bytes.{u16At, u32At, i32At, u16Bytes, u32Bytes, i32Bytes, blockLength, checkOffset, block, checksum, zeroFrom, sealed}
+use Rattle.model.specs.Problem.{Problem, variables, sizesInRange, domainInRange, constraintsInRange, divisorsInRange, firstError, Result, resultOf}
+use Rattle.model.specs.Bytes.{u16At, u32At, i32At, u16Bytes, u32Bytes, i32Bytes, blockLength, checkOffset, block, checksum, zeroBetween, zeroFrom, paddedTo, sealed}
 
 -- ---- where the fields stand
 -- the letters BLUE
@@ -36,11 +36,15 @@ boundsIn f i = record { lower = i32At f (boundsOffset i); upper = i32At f (bound
 unfoldable pub coefficientOffset : ℕ → ℕ
 coefficientOffset i = 4 + 4 * i
 
+-- N1's 'q', whatever n is
+abbrev pub divisorOffset : ℕ
+divisorOffset = 132
+
 unfoldable pub coefficientIn : List ℕ → ℕ → ℤ
 coefficientIn b i = i32At b (coefficientOffset i)
 
 unfoldable pub constraintIn : ℕ → List ℕ → Constraint
-constraintIn n b = record { constant = i32At b 0; coefficients = tab (coefficientIn b) 0 n }
+constraintIn n b = record { constant = i32At b 0; coefficients = tab (coefficientIn b) 0 n; divisor = i32At b divisorOffset }
 
 -- constraint j, counted from 0, stands in block j + 1
 unfoldable pub constraintOf : List ℕ → ℕ → Constraint
@@ -71,8 +75,12 @@ unfoldable pub blockCountMatches : List ℕ → Bool
 blockCountMatches f = eqb (length f) (blockLength * suc (constraintsIn f))
 
 -- 7, 'stray'
+-- of a constraint's block: before its divisor and after it
+unfoldable pub blockPadded : ℕ → List ℕ → Bool
+blockPadded n b = zeroBetween (coefficientOffset n) divisorOffset b && zeroFrom (divisorOffset + 4) b
+
 unfoldable pub constraintPadded : List ℕ → ℕ → Bool
-constraintPadded f j = zeroFrom (coefficientOffset (variablesIn f)) (block f (suc j))
+constraintPadded f j = blockPadded (variablesIn f) (block f (suc j))
 
 unfoldable pub paddingZero : List ℕ → Bool
 paddingZero f = zeroFrom (boundsOffset (variablesIn f)) (block f 0) && all (tab (constraintPadded f) 0 (constraintsIn f))
@@ -87,6 +95,7 @@ readError f =
     (4, sizesInRange (problemIn f) && blockCountMatches f) ∷
     (5, domainInRange (problemIn f)) ∷
     (6, constraintsInRange (problemIn f)) ∷
+    (10, divisorsInRange (problemIn f)) ∷
     (7, paddingZero f) ∷
     [])
 
@@ -104,11 +113,14 @@ headBytes p =
 unfoldable pub coefficientBytes : Constraint → ℕ → List ℕ
 coefficientBytes k i = i32Bytes (coefficientAt k i)
 
+unfoldable pub numbersBytes : ℕ → Constraint → List ℕ
+numbersBytes n k = i32Bytes (k .constant) ++ parts (coefficientBytes k) 0 n
+
 unfoldable pub constraintBytes : ℕ → Constraint → List ℕ
-constraintBytes n k = i32Bytes (k .constant) ++ parts (coefficientBytes k) 0 n
+constraintBytes n k = paddedTo divisorOffset (numbersBytes n k) ++ i32Bytes (k .divisor)
 
 abbrev pub noConstraint : Constraint
-noConstraint = record { constant = pos 0; coefficients = [] }
+noConstraint = record { constant = pos 0; coefficients = []; divisor = pos 0 }
 
 unfoldable pub blockOf : Problem → ℕ → List ℕ
 blockOf p zero = sealed 0 (headBytes p)
@@ -124,7 +136,7 @@ fileLength p = blockLength * suc (length (p .constraints))
 -- writing into a buffer of `room` bytes; 8 is the 'short shelf'
 unfoldable pub writeError : Problem → ℕ → ℕ
 writeError p room =
-    firstError ((4, sizesInRange p) ∷ (5, domainInRange p) ∷ (6, constraintsInRange p) ∷ (8, leb (fileLength p) room) ∷ [])
+    firstError ((4, sizesInRange p) ∷ (5, domainInRange p) ∷ (6, constraintsInRange p) ∷ (10, divisorsInRange p) ∷ (8, leb (fileLength p) room) ∷ [])
 
 -- the answer's number, 0 where the file was written, and the lent buffer's bytes after the call
 pub record Written : Type 0 where

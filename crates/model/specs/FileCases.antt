@@ -4,7 +4,7 @@ use Prim.Native.Nat.{ℕ}
 use mathlib.Core.Bool.{Bool, _&&_, not}
 use mathlib.Core.List.{List, [], _∷_, _++_}
 use lib.Dec.{eqb}
-use lib.IntN.{pos}
+use lib.IntN.{ℤ, pos}
 use lib.ListN.{take, drop, replicate}
 use Rattle.model.specs.Lists.{all, anyOf, allPairs}
 use Rattle.model.specs.Constraint.{Constraint, Box, equal}
@@ -14,7 +14,7 @@ use Rattle.model.specs.File.{paddingZero, readError, readFile, fileOf, w
 use Rattle.model.specs.Search.{openProblem}
 use Rattle.model.specs.Journal.{cutIn}
 use Rattle.model.specs.Demand.{journal}
-use Rattle.model.specs.Examples.{neg, linear, between, problem, A-first, A-domain, planA, sameBytes, sameProblem, isOk, joined, filled}
+use Rattle.model.specs.Examples.{neg, linear, divided, withDivisor, between, problem, A-first, A-domain, planA, sameBytes, sameProblem, isOk, joined, filled}
 
 -- ---- the check: of a block that begins with the words 1 and 2^32 − 1 and then holds zeros, at k = 3, it is 1 − 1 + 3 + 1
 abbrev pub checkRule : Bool
@@ -100,11 +100,6 @@ keepsShort =
     let w = writeFile (planA 5) (replicate 1535 7) in
     eqb (w .number) 8 && sameBytes (w .buffer) (replicate 1535 7)
 
--- ---- the errors of reading, on variants of that file; 'the lowest number that applies is given'
--- 1: the length is no multiple of 512, or under 512
-abbrev torn : Bool
-torn = all (eqb (readError (take 1535 fileA)) 1 ∷ eqb (readError (take 511 fileA)) 1 ∷ eqb (readError []) 1 ∷ [])
-
 -- n, m, B and the limits of plan A, for a head with other letters or another m
 abbrev fieldsA : List ℕ → ℕ → List ℕ
 fieldsA letters m = joined (letters ∷ (2 ∷ 0 ∷ []) ∷ (m ∷ 0 ∷ []) ∷ (5 ∷ 0 ∷ 0 ∷ 0 ∷ []) ∷ (0 ∷ 0 ∷ 0 ∷ 0 ∷ 1 ∷ 0 ∷ 0 ∷ 0 ∷ []) ∷ (0 ∷ 0 ∷ 0 ∷ 0 ∷ 1 ∷ 0 ∷ 0 ∷ 0 ∷ []) ∷ [])
@@ -114,6 +109,25 @@ BLUE = 66 ∷ 76 ∷ 85 ∷ 69 ∷ []
 
 abbrev BLUF : List ℕ
 BLUF = 66 ∷ 76 ∷ 85 ∷ 70 ∷ []
+
+-- ---- a file with N1's q: limits 0 to 1, 5 | 2v1 − v2 − 3, B = 5
+-- its line block up to byte 131
+abbrev numbersQ : List ℕ
+numbersQ = joined ((253 ∷ 255 ∷ 255 ∷ 255 ∷ []) ∷ (2 ∷ 0 ∷ 0 ∷ 0 ∷ []) ∷ (255 ∷ 255 ∷ 255 ∷ 255 ∷ []) ∷ replicate 120 0 ∷ [])
+
+abbrev fileQ : List ℕ
+fileQ = filled (fieldsA BLUE 1) (76 ∷ 76 ∷ 86 ∷ 69 ∷ []) ++ filled (numbersQ ++ (5 ∷ 0 ∷ 0 ∷ 0 ∷ [])) (5 ∷ 0 ∷ 0 ∷ 0 ∷ [])
+
+abbrev planQ : Problem
+planQ = problem A-domain (divided 5 (pos 2 ∷ neg 1 ∷ []) (neg 3) ∷ []) 5
+
+abbrev roundTripQ : Bool
+roundTripQ = isOk (λ (p : Problem). sameProblem p planQ) (readFile fileQ) && sameBytes (fileOf planQ) fileQ
+
+-- ---- the errors of reading, on variants of these files: the first that applies in the order 1 to 6, 10, 7
+-- 1: the length is no multiple of 512, or under 512
+abbrev torn : Bool
+torn = all (eqb (readError (take 1535 fileA)) 1 ∷ eqb (readError (take 511 fileA)) 1 ∷ eqb (readError []) 1 ∷ [])
 
 -- 2: a head alone whose check is one too high; its letters are wrong too
 abbrev badCheck : Bool
@@ -139,17 +153,32 @@ abbrev heavy : Bool
 heavy =
     eqb (readError (filled (fieldsA BLUE 1) (76 ∷ 76 ∷ 86 ∷ 69 ∷ []) ++ filled (1 ∷ 0 ∷ 0 ∷ 0 ∷ 255 ∷ 255 ∷ 255 ∷ 255 ∷ 1 ∷ 0 ∷ 0 ∷ 64 ∷ 1 ∷ []) (4 ∷ 0 ∷ 0 ∷ 64 ∷ []))) 6
 
+-- 10: q is −1, and a byte after it is not zero; before it 6: a_2 = 2^30 + 1 and q = 1
+abbrev pub indivisible : Bool
+indivisible =
+    let head = filled (fieldsA BLUE 1) (76 ∷ 76 ∷ 86 ∷ 69 ∷ []) in
+    eqb (readError (head ++ filled (numbersQ ++ (255 ∷ 255 ∷ 255 ∷ 255 ∷ 1 ∷ [])) (0 ∷ 0 ∷ 0 ∷ 0 ∷ []))) 10 &&
+    eqb (readError (head ++ filled ((1 ∷ 0 ∷ 0 ∷ 0 ∷ 255 ∷ 255 ∷ 255 ∷ 255 ∷ 1 ∷ 0 ∷ 0 ∷ 64 ∷ []) ++ (replicate 120 0 ++ (1 ∷ []))) (4 ∷ 0 ∷ 0 ∷ 64 ∷ []))) 6
+
 -- 7: no lines, and the byte after the last limit is 1
 abbrev stray : Bool
 stray = eqb (readError (filled (fieldsA BLUE 0 ++ (1 ∷ [])) (77 ∷ 76 ∷ 85 ∷ 69 ∷ []))) 7
 
--- its test alone, which leaves the checks out: the last byte before the check counts and the check does not; a line's bytes after its last coefficient
+-- its test alone, which leaves the checks out: the last byte before the check counts and the check does not; a line's bytes after its last coefficient,
+-- but for q at 132 to 135
 abbrev padding : Bool
 padding =
     let plain = filled (fieldsA BLUE 1) (9 ∷ 9 ∷ 9 ∷ 9 ∷ []) in
     let line : List ℕ = 1 ∷ 0 ∷ 0 ∷ 0 ∷ 255 ∷ 255 ∷ 255 ∷ 255 ∷ 255 ∷ 255 ∷ 255 ∷ 255 ∷ [] in
+    let wide = line ++ replicate 120 0 in
     paddingZero (plain ++ filled line (9 ∷ 9 ∷ 9 ∷ 9 ∷ [])) &&
-    not (anyOf paddingZero ((plain ++ filled (line ++ (1 ∷ [])) (9 ∷ 9 ∷ 9 ∷ 9 ∷ [])) ∷ (take 507 plain ++ (1 ∷ 9 ∷ 9 ∷ 9 ∷ 9 ∷ filled line (9 ∷ 9 ∷ 9 ∷ 9 ∷ []))) ∷ []))
+    (paddingZero (plain ++ filled (wide ++ (1 ∷ 2 ∷ 3 ∷ 4 ∷ [])) (9 ∷ 9 ∷ 9 ∷ 9 ∷ [])) &&
+    not (anyOf paddingZero (
+    (plain ++ filled (line ++ (1 ∷ [])) (9 ∷ 9 ∷ 9 ∷ 9 ∷ [])) ∷
+    (plain ++ filled (line ++ (replicate 119 0 ++ (1 ∷ []))) (9 ∷ 9 ∷ 9 ∷ 9 ∷ [])) ∷
+    (plain ++ filled (wide ++ (0 ∷ 0 ∷ 0 ∷ 0 ∷ 1 ∷ [])) (9 ∷ 9 ∷ 9 ∷ 9 ∷ [])) ∷
+    (take 507 plain ++ (1 ∷ 9 ∷ 9 ∷ 9 ∷ 9 ∷ filled line (9 ∷ 9 ∷ 9 ∷ 9 ∷ []))) ∷
+    [])))
 
 -- ---- the errors of writing into a buffer of that many bytes, with the edges of document 01
 abbrev writing : Box → List Constraint → ℕ → ℕ → ℕ
@@ -192,9 +221,26 @@ rangeEdges =
     eqb (writing A-domain (linear (pos 0 ∷ pos 0 ∷ []) (pos 1_073_741_825) ∷ []) 5 0) 6 ∷
     [])
 
+-- 10: a divisor of −1, 0, 1, 2, 2^20 and one more; after 6 and before 8
+abbrev dividing : ℤ → ℕ → ℕ
+dividing q room = writing A-domain (withDivisor q A-first ∷ []) 5 room
+
+abbrev divisorEdges : Bool
+divisorEdges =
+    all (
+    eqb (dividing (neg 1) 1024) 10 ∷
+    eqb (dividing (pos 0) 1024) 0 ∷
+    eqb (dividing (pos 1) 0) 10 ∷
+    eqb (dividing (pos 2) 1024) 0 ∷
+    eqb (dividing (pos 2) 1023) 8 ∷
+    eqb (dividing (pos 1_048_576) 1024) 0 ∷
+    eqb (dividing (pos 1_048_577) 1024) 10 ∷
+    eqb (writing A-domain (withDivisor (pos 1) A-first ∷ linear (neg 1_073_741_825 ∷ pos 0 ∷ []) (pos 0) ∷ []) 5 1536) 6 ∷
+    [])
+
 unfoldable pub fileCases : List Bool
 fileCases =
     blockBytes ∷ blockCut ∷
-    readsA ∷ writesA ∷ leavesRest ∷ keepsShort ∷
+    readsA ∷ writesA ∷ leavesRest ∷ keepsShort ∷ roundTripQ ∷
     torn ∷ badCheck ∷ notAPlan ∷ wrongSize ∷ wrongLimits ∷ heavy ∷ stray ∷ padding ∷
-    shortShelf ∷ sizeEdges ∷ limitEdges ∷ rangeEdges ∷ []
+    shortShelf ∷ sizeEdges ∷ limitEdges ∷ rangeEdges ∷ divisorEdges ∷ []

@@ -1,7 +1,7 @@
 -- Document 01, 'Journal block': one for each counted dead end.
 use Prim.Native.Nat.{ℕ, _+_, _*_, _-_}
 use mathlib.Core.List.{List, [], _∷_, _++_}
-use lib.IntN.{ℤ}
+use lib.IntN.{ℤ, pos}
 use lib.ListN.{getD}
 use Rattle.model.specs.Lists.{tab, parts}
 use Rattle.model.specs.Ranges.{maxVariables}
@@ -47,4 +47,4 @@ unfoldable pub cutCoefficient : List ℕ → ℕ → ℤ
 cutCoefficient b i = i32At b (cutOffset + 4 + 4 * i)
 
 unfoldable pub cutIn : ℕ → List ℕ → Constraint
-cutIn n b = record { constant = i32At b cutOffset; coefficients = tab (cutCoefficient b) 0 n }
+cutIn n b = record { constant = i32At b cutOffset; coefficients = tab (cutCoefficient b) 0 n; divisor = pos 0 }

@@ -18,6 +18,7 @@ pub mod Demand
 pub mod Examples
 pub mod Table
 pub mod SearchCases
+pub mod DivisorCases
 pub mod FileCases
 pub mod ValidityCases
 pub mod Cases

@@ -6,7 +6,7 @@ use mathlib.Core.Option.{Option, none, some}
 use lib.IntN.{ℤ, pos, negsuc, natAbs, _-ℤ_}
 use lib.Signed.{ltZ}
 use Rattle.model.specs.Lists.{orElse, withDefault}
-use Rattle.model.specs.Constraint.{Constraint, Bounds, Box, term, activity, falsified, impliedUpper, impliedLower}
+use Rattle.model.specs.Constraint.{Constraint, Bounds, Box, modulus, term, activity, falsified, impliedUpper, impliedLower}
 use Rattle.model.specs.Search.{constraint, Core, levels, withLevels, withDeepest, kept, numberAt, raiseLower, lowerUpper, decideAt}
 
 -- Constraints are named by their position among the kept ones, j, and variables by their index, i.
@@ -37,9 +37,14 @@ improvementFrom j i w [] box = none
 improvementFrom j i w (a ∷ cs) [] = none
 improvementFrom j i w (a ∷ cs) (b ∷ box) = orElse (improvementAt j i (w -ℤ term a b) a b) (improvementFrom j (suc i) w cs box)
 
+-- constraint j; a divisor constraint implies no bound
+unfoldable pub improvementBy : ℕ → ℕ → Constraint → Box → Option Move
+improvementBy zero j k box = improvementFrom j 0 (activity k box) (k .coefficients) box
+improvementBy (suc q) j k box = none
+
 unfoldable pub firstImprovement : ℕ → List Constraint → Box → Option Move
 firstImprovement j [] box = none
-firstImprovement j (k ∷ ks) box = orElse (improvementFrom j 0 (activity k box) (k .coefficients) box) (firstImprovement (suc j) ks box)
+firstImprovement j (k ∷ ks) box = orElse (improvementBy (modulus k) j k box) (firstImprovement (suc j) ks box)
 
 -- ---- 3. the first variable with L < U
 unfoldable pub firstOpen : ℕ → Box → Option Move

@@ -1,13 +1,14 @@
 -- The words of the demands: points, solutions, dictionary order.
 use Prim.Native.Nat.{ℕ, zero, suc}
-use mathlib.Core.Bool.{cond}
+use mathlib.Core.Bool.{true, cond}
 use mathlib.Core.List.{List, [], _∷_, _++_, map}
 use mathlib.Core.Logic.{_⊎_}
 use mathlib.Core.Path.{_≡_}
 use lib.IntN.{ℤ, pos, natAbs, _+ℤ_, _-ℤ_, _*ℤ_}
 use lib.Signed.{leZ, _≤ℤ_, _<ℤ_}
 use lib.ListN.{length}
-use Rattle.model.specs.Constraint.{Constraint, Bounds, Box, nextValue}
+use Rattle.model.specs.Division.{divides}
+use Rattle.model.specs.Constraint.{Constraint, Bounds, Box, nextValue, modulus}
 use Rattle.model.specs.Problem.{Problem}
 
 -- a 'point' is a choice of all variables' values
@@ -54,9 +55,13 @@ dot (a ∷ cs) (x ∷ v) = a *ℤ x +ℤ dot cs v
 unfoldable pub value : Constraint → Point → ℤ
 value k v = k .constant +ℤ dot (k .coefficients) v
 
--- 'meets' a line
+-- 'meets' a line: the value of an inequality is at most 0; that of a divisor constraint, q divides
+abbrev pub MeetsBy : ℕ → Point → Constraint → Type 0
+MeetsBy zero v k = value k v ≤ℤ pos 0
+MeetsBy (suc q) v k = divides (suc q) (value k v) ≡ true
+
 abbrev pub Meets : Point → Constraint → Type 0
-Meets v k = value k v ≤ℤ pos 0
+Meets v k = MeetsBy (modulus k) v k
 
 abbrev pub MeetsAll : Point → List Constraint → Type 0
 MeetsAll v [] = Unit {0}

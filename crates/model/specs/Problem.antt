@@ -7,7 +7,7 @@ use lib.Signed.{leZ}
 use lib.ListN.{length}
 use Rattle.model.specs.Lists.{all, allOf}
 use Rattle.model.specs.Ranges.{maxVariables, maxConstraints, maxBudget, maxBound, within}
-use Rattle.model.specs.Constraint.{Constraint, Bounds, Box, inRange}
+use Rattle.model.specs.Constraint.{Constraint, Bounds, Box, inRange, divisorInRange}
 
 -- The 'limits', the 'lines' as they stand in the file, and 'B'. The number of variables, 'n', is the length of the domain; 'm' that of the constraints,
 -- each of which has n coefficients: what a problem holds past n and m is not part of it.
@@ -33,6 +33,10 @@ domainInRange p = allOf boundsInRange (p .domain)
 -- 6 does not hold
 unfoldable pub constraintsInRange : Problem → Bool
 constraintsInRange p = allOf inRange (p .constraints)
+
+-- 10 does not hold
+unfoldable pub divisorsInRange : Problem → Bool
+divisorsInRange p = allOf divisorInRange (p .constraints)
 
 -- ---- errors
 -- The table's numbers with their tests, in the order in which they count: the first that fails gives the number, 0 where none fails.

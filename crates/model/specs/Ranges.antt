@@ -1,4 +1,4 @@
--- The sizes and ranges of document 01, each once.
+-- The sizes and ranges of documents 01 and 02, each once.
 use Prim.Native.Nat.{ℕ, _^_}
 use mathlib.Core.Bool.{Bool, _&&_}
 use lib.IntN.{ℤ, pos, negℤ}
@@ -27,6 +27,10 @@ maxBound = 2 ^ 20
 -- coefficients and constants: −2^30 to 2^30
 abbrev pub maxCoefficient : ℕ
 maxCoefficient = 2 ^ 30
+
+-- N1's divisors: 2 to 2^20
+abbrev pub maxDivisor : ℕ
+maxDivisor = 2 ^ 20
 
 -- −b ≤ z ≤ b
 unfoldable pub within : ℕ → ℤ → Bool

@@ -16,7 +16,7 @@ use Rattle.model.specs.Demand.{stateAfter}
 use Rattle.model.specs.Examples.{neg, linear, between, problem, planA, sameBounds, sameReasons, runsTo, stepsTo, entry, writes}
 
 -- ---- what a state holds after k turns from the opening: depth, the deepest level's bounds and causes, kept cuts with their numbers, cuts made
-abbrev stands : ℕ → Box → List Reasons → List Constraint → List ℕ → ℕ → Core → Bool
+abbrev pub stands : ℕ → Box → List Reasons → List Constraint → List ℕ → ℕ → Core → Bool
 stands d b rs ks ns made c =
     all (
     eqb (depth c) d ∷
@@ -27,13 +27,13 @@ stands d b rs ks ns made c =
     eqb (c .made) made ∷
     [])
 
-abbrev after : ℕ → Problem → Core
+abbrev pub after : ℕ → Problem → Core
 after k p = stateAfter k (openProblem p) .core
 
-abbrev to : ℕ → Bounds
+abbrev pub to : ℕ → Bounds
 to u = between (pos 0) (pos u)
 
-abbrev by : Reason → Reason → Reasons
+abbrev pub by : Reason → Reason → Reasons
 by l u = record { lower = l; upper = u }
 
 -- the mark after k turns from the opening

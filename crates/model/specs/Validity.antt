@@ -7,7 +7,7 @@ use lib.Signed.{leZ, ltZ}
 use lib.ListN.{length}
 use Rattle.model.specs.Lists.{tab, all, allOf, anyOf, allPairs}
 use Rattle.model.specs.Ranges.{maxVariables, maxConstraints, maxCuts, maxBudget}
-use Rattle.model.specs.Constraint.{Constraint, Bounds, Box, lowerAt, upperAt, falsified, inRange, equalℤ}
+use Rattle.model.specs.Constraint.{Constraint, Bounds, Box, isInequality, lowerAt, upperAt, isOpen, falsified, inRange, divisorInRange, equalℤ}
 use Rattle.model.specs.Problem.{boundsInRange}
 use Rattle.model.specs.Search.{Reason, domain, decision, flipped, constraint, Reasons, Level, Core, Status, undecided, infeasible, solved, Search, depth, levels, kept, dropped}
 
@@ -27,6 +27,10 @@ scalarsValid s =
 -- the kept lines' constants and coefficients
 unfoldable pub constraintsValid : Core → Bool
 constraintsValid c = allOf inRange (kept c)
+
+-- the inputs' divisors
+unfoldable pub divisorsValid : Core → Bool
+divisorsValid c = allOf divisorInRange (c .inputs)
 
 -- kept cuts are numbered one after the other, up to m + cuts made
 unfoldable pub cutNumber : Core → ℕ → ℕ
@@ -74,9 +78,6 @@ nestedValid n l [] = true
 nestedValid n l (o ∷ ls) = boxInside (l .box) (o .box) && (decisionValid n (l .decided) (l .box) (o .box) && nestedValid n o ls)
 
 -- the marks
-unfoldable pub isOpen : Bounds → Bool
-isOpen b = ltZ (b .lower) (b .upper)
-
 unfoldable pub falsifies : Box → Constraint → Bool
 falsifies box k = falsified k box
 
@@ -98,13 +99,14 @@ valid s =
     all (
     scalarsValid s ∷
     constraintsValid (s .core) ∷
+    divisorsValid (s .core) ∷
     numbersValid (s .core) ∷
     levelsValid (s .core) ∷
     nestedValid (s .core .variables) (s .core .deepest) (s .core .outer) ∷
     statusValid (s .core) (s .status) ∷
     [])
 
--- ---- the shape of a state: its lists are as long as its numbers say. Every state that the code can hold has it, so no call tests it.
+-- ---- the shape of a state: its lists are as long as its numbers say, and its cuts carry no divisor. Every state that the code can hold has it, so no call tests it.
 unfoldable pub levelShaped : ℕ → Level → Bool
 levelShaped n l = eqb (length (l .box)) n && eqb (length (l .reasons)) n
 
@@ -116,5 +118,6 @@ shaped c =
     all (
     allOf (levelShaped (c .variables)) (levels c) ∷
     allOf (constraintShaped (c .variables)) (kept c) ∷
+    allOf isInequality (c .cuts) ∷
     eqb (length (c .cuts)) (min (c .made) maxCuts) ∷
     [])

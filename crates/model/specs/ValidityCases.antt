@@ -1,8 +1,8 @@
--- Computed cases of document 01's foreign walk (9): states that are accepted, and made-up ones beside them that are refused for one condition each.
+-- Computed cases of document 01's foreign walk (9), with N1's divisors: states that are accepted, and made-up ones beside them that are refused for one condition each.
 use Prim.Native.Nat.{ℕ}
 use mathlib.Core.Bool.{Bool, _&&_, not}
-use mathlib.Core.List.{List, [], _∷_}
-use lib.IntN.{pos}
+use mathlib.Core.List.{List, [], _∷_, map}
+use lib.IntN.{ℤ, pos}
 use lib.ListN.{replicate}
 use Rattle.model.specs.Lists.{tab, all, allOf, anyOf}
 use Rattle.model.specs.Constraint.{Constraint, Bounds}
@@ -10,7 +10,7 @@ use Rattle.model.specs.Search.{Reason, domain, decision, flipped, constr
 use Rattle.model.specs.Validity.{valid}
 use Rattle.model.specs.Step.{stepCall, runCall}
 use Rattle.model.specs.Demand.{stateAfter}
-use Rattle.model.specs.Examples.{neg, linear, between, problem, A-first, A-second, A-domain, planA, isError}
+use Rattle.model.specs.Examples.{neg, linear, divided, withDivisor, between, problem, A-first, A-second, A-domain, planA, isError}
 
 -- ---- the states that plan A meets: opened, after its first turn, and marked solved after its second
 abbrev metA : Bool
@@ -91,6 +91,31 @@ rangeCase =
     accepted (withCut cut (3 ∷ []) 1 1 ∷ withCut (linear (neg 1_073_741_824 ∷ pos 0 ∷ []) (pos 1_073_741_824)) (3 ∷ []) 1 1 ∷ []) &&
     refused (withCut (linear (neg 1_073_741_825 ∷ pos 0 ∷ []) (pos 1)) (3 ∷ []) 1 1 ∷ withCut (linear (neg 1 ∷ pos 0 ∷ []) (pos 1_073_741_825)) (3 ∷ []) 1 1 ∷ [])
 
+-- N1: an input's divisor that is negative, 1 or above 2^20
+abbrev withInput : Constraint → Level → Status → Search
+withInput k l status =
+    record {
+      core = record { variables = 2; inputs = k ∷ A-second ∷ []; cuts = []; numbers = []; made = 0; deepest = l; outer = [] };
+      budget = 5;
+      conflicts = 1;
+      status = status;
+    }
+
+abbrev dividedBy : ℤ → Search
+dividedBy q = withInput (withDivisor q A-first) root undecided
+
+abbrev divisorCase : Bool
+divisorCase =
+    accepted (map dividedBy (pos 0 ∷ pos 2 ∷ pos 1_048_576 ∷ [])) && refused (map dividedBy (neg 1 ∷ neg 2 ∷ pos 1 ∷ pos 1_048_577 ∷ []))
+
+-- both marks go by the divisor line's own test: 2 | v1 + v2 + 1 is false at (1, 1) and not at (1, 0)
+abbrev dividedMarks : Bool
+dividedMarks =
+    let k = divided 2 (pos 1 ∷ pos 1 ∷ []) (pos 1) in
+    let met = level (at 1) (at 0) 0 in
+    let missed = level (at 1) (at 1) 0 in
+    accepted (withInput k met solved ∷ withInput k missed infeasible ∷ []) && refused (withInput k missed solved ∷ withInput k met infeasible ∷ [])
+
 -- 'kept cuts not numbered as above'
 abbrev numberCase : Bool
 numberCase = refused (withCut cut (2 ∷ []) 1 1 ∷ withCut cut (4 ∷ []) 1 1 ∷ [])
@@ -153,4 +178,4 @@ nine = isError 9 (stepCall (withCut cut (4 ∷ []) 1 1)) && isError 9 (runCall (
 
 unfoldable pub validityCases : List Bool
 validityCases =
-    metA ∷ baseCase ∷ sizeCase ∷ tooDeep ∷ boundCase ∷ rangeCase ∷ numberCase ∷ manyCase ∷ countCase ∷ reasonCase ∷ insideCase ∷ decidedCase ∷ solvedCase ∷ noneCase ∷ nine ∷ []
+    metA ∷ baseCase ∷ sizeCase ∷ tooDeep ∷ boundCase ∷ rangeCase ∷ divisorCase ∷ dividedMarks ∷ numberCase ∷ manyCase ∷ countCase ∷ reasonCase ∷ insideCase ∷ decidedCase ∷ solvedCase ∷ noneCase ∷ nine ∷ []

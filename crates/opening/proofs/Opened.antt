@@ -9,11 +9,11 @@ use Rattle.model.specs.Constraint.{rounded}
 use Rattle.model.specs.Problem.{variables}
 use Rattle.model.specs.Search as model
 use Rattle.lists.proofs.Tab.{tab-ext-0, tab-const, getD-const}
-use Rattle.layout.specs.Rows.{rowAt, boxOf}
+use Rattle.layout.specs.Rows.{inputAt, boxOf}
 use Rattle.layout.proofs.Rows.{length-box}
 use Rattle.problem.specs.declared.Problem.{Problem}
 use Rattle.problem.specs.View.{problemOf}
-use Rattle.state.specs.View.{domainReason, reasonOf, reasonsIn, levelOf, noLevel, levelAt, levelsFrom, statusOf, keptCuts, coreWith, coreOf, view}
+use Rattle.state.specs.View.{domainReason, reasonOf, reasonsIn, levelOf, noLevel, levelAt, levelsFrom, statusOf, keptCuts, inputsOf, coreOver, coreOf, view}
 use Rattle.state.specs.declared.Level.{Level}
 use Rattle.state.specs.declared.Status.the-variants.{Undecided}
 
@@ -35,10 +35,10 @@ module _ (p : Problem) where
   level-opened = rw (← variables-are) (ap (λ (rs : List model.Reasons). record { box = boxOf (p .n) (p .lower) (p .upper); reasons = rs; decided = 0 }) (reasons-domain (p .n)))
 
   -- ---- the state
-  pub opened : (rows : List ℤ) (numbers : List ℕ) (levels : List Level) → tab (rowAt (p .n) rows) 0 (p .m) ≡ map rounded (problemOf p .constraints) →
+  pub opened : (rows : List ℤ) (numbers : List ℕ) (levels : List Level) → tab (inputAt (p .n) rows (p .divisors)) 0 (p .m) ≡ map rounded (problemOf p .constraints) →
       levelOf (p .n) (getD levels 0 noLevel) ≡ model.levelOf (problemOf p) →
-      view (record { n = p .n; m = p .m; budget = p .budget; conflicts = 0; made = 0; depth = 0; status = Undecided; rows = rows; numbers = numbers; levels = levels }) ≡ model.openProblem (problemOf p)
-  unfolding view coreOf coreWith levelAt levelsFrom keptCuts tab statusOf model.openProblem model.coreOf problemOf
+      view (record { n = p .n; m = p .m; budget = p .budget; conflicts = 0; made = 0; depth = 0; status = Undecided; rows = rows; divisors = p .divisors; numbers = numbers; levels = levels }) ≡ model.openProblem (problemOf p)
+  unfolding view coreOf coreOver inputsOf levelAt levelsFrom keptCuts tab statusOf model.openProblem model.coreOf problemOf
   opened rows numbers levels r l =
       λ i.
       record {

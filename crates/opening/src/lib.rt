@@ -15,33 +15,43 @@ ghost use Rattle.model.specs.Lists.{tab};
 ghost use Rattle.model.specs.Ranges.{maxVariables, maxConstraints};
 ghost use Rattle.model.specs.Constraint.{rounded, inRange};
 ghost use Rattle.model.specs.Search.{levelOf as firstLevel, openProblem};
-ghost use Rattle.layout.specs.Rows.{rowAt};
+ghost use Rattle.layout.specs.Rows.{rowAt, inputAt};
 ghost use Rattle.problem.specs.View.{problemOf};
 ghost use Rattle.state.specs.View.{levelOf, view};
 ghost use Rattle.opening.specs.Accepted.{Accepted};
 ghost use Rattle.opening.specs.Rounded.{RowsRounded};
 
-// Rounds constraint j into row j; the ones before it are there already.
-fn round_row(constraints: &[i64; 2112], n: usize, j: usize, rows: &mut [i64; 4224])
-    requires { ⌜ (n ≤ maxVariables) × ((j < maxConstraints) × ((inRange (rowAt n (now constraints) j) ≡ true) × RowsRounded n (now constraints) j (now rows))) ⌝ }
-    ensures { λ r. ⌜ RowsRounded n (now (constraints .entry)) (j + 1) (now (rows .exit)) ⌝ }
+// Rounds constraint j into row j; the ones before it are there already. One with a divisor is copied as it is.
+fn round_row<'a>(
+    constraints: &'a [i64; 2112],
+    divisors: &'a [i64; 64],
+    n: usize,
+    j: usize,
+    rows: &mut [i64; 4224],
+)
+    requires { ⌜ (n ≤ maxVariables) × ((j < maxConstraints) × ((inRange (rowAt n (now constraints) j) ≡ true) × RowsRounded n (now constraints) (now divisors) j (now rows))) ⌝ }
+    ensures { λ r. ⌜ RowsRounded n (now (constraints .entry)) (now (divisors .entry)) (j + 1) (now (rows .exit)) ⌝ }
 {
     let row = copy_row(constraints, ROW * j, n);
+    if divisors[j] != 0 {
+        store_row(rows, &row, j);
+        return;
+    }
     let rounded = rounding::round(row, n);
     store_row(rows, &rounded, j);
 }
 
-// The rows of a search state: the constraints of the problem, rounded.
+// The rows of a search state: the constraints of the problem, the inequalities rounded.
 fn rounded_rows(p: Problem) -> [i64; 4224]
     requires { ⌜ Accepted p ⌝ }
-    ensures { λ r. ⌜ tab (rowAt (p .n) r) 0 (p .m) ≡ map rounded (problemOf p .constraints) ⌝ }
+    ensures { λ r. ⌜ tab (inputAt (p .n) r (p .divisors)) 0 (p .m) ≡ map rounded (problemOf p .constraints) ⌝ }
 {
     let n = p.n;
     let m = p.m;
     let mut rows = [0i64; 4224];
     let mut j: usize = 0;
     while j < m {
-        round_row(&p.constraints, n, j, &mut rows);
+        round_row(&p.constraints, &p.divisors, n, j, &mut rows);
         j += 1;
     }
     rows
@@ -71,6 +81,7 @@ pub fn from_problem(p: Problem) -> Search
     let m = p.m;
     let budget = p.budget;
     let rows = rounded_rows(p);
+    let divisors = p.divisors;
     let first = first_level(p);
     Search {
         n,
@@ -81,6 +92,7 @@ pub fn from_problem(p: Problem) -> Search
         depth: 0,
         status: Status::Undecided,
         rows,
+        divisors,
         numbers: [0; 64],
         levels: [first; 33],
     }

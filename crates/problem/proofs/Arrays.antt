@@ -12,9 +12,9 @@ use Rattle.model.specs.Lists.{tab}
 use Rattle.lists.proofs.Tab.{getD-tab, getD-tab-past, tab-append, tab-ext, tab-ext-0, tab-const}
 use Rattle.format.proofs.AcceptedShape.{variables-in, constraints-in}
 use Rattle.layout.specs.Rows.{rowLength}
-use Rattle.fields.specs.Fields.{Blocks, room, cells, zeros, inRow, filled, boundIn, cellIn}
+use Rattle.fields.specs.Fields.{Blocks, room, cells, divisorRoom, zeros, inRow, filled, boundIn, cellIn, divisorIn}
 use Rattle.problem.specs.declared.Problem.{Problem}
-use Rattle.problem.specs.View.{inRows, packed}
+use Rattle.problem.specs.View.{inRows, divisorAt, packed}
 
 -- an array that is filled is the table of a function that is 0 from there on
 filled-is : (f g : ℕ → ℤ) (n w : ℕ) → n ≤ w → ((i : ℕ) → i < n → f i ≡ g i) → ((i : ℕ) → n ≤ i → g i ≡ pos 0) → filled f n w ≡ tab g 0 w
@@ -53,25 +53,34 @@ unfolding inRow coefficientAt
 no-cell zero = refl
 no-cell (suc i) = refl
 
-module _ (f : List ℕ) (m : ℕ) (em : m ≡ constraintsIn f) (few : rowLength * m ≤ cells) where
+module _ (f : List ℕ) (m : ℕ) (em : m ≡ constraintsIn f) (few : m ≤ divisorRoom) where
   rows-are : filled (cellIn f) (rowLength * m) cells ≡ tab (inRows (problemIn f .constraints)) 0 cells
   unfolding cellIn inRows problemIn
   rows-are =
-      filled-is (cellIn f) (inRows (problemIn f .constraints)) (rowLength * m) cells few
+      filled-is (cellIn f) (inRows (problemIn f .constraints)) (rowLength * m) cells (omega arith)
       (λ c l. sym (ap (λ (k : Constraint). inRow k (c % rowLength)) (getD-tab (constraintOf f) (constraintsIn f) (c / rowLength) noConstraint (omega arith))))
       (λ c l. ap (λ (k : Constraint). inRow k (c % rowLength)) (getD-tab-past (constraintOf f) 0 (constraintsIn f) (c / rowLength) noConstraint (omega arith)) ∙ no-cell (c % rowLength))
 
--- ---- and the problem
-same : {n n′ m m′ b b′ : ℕ} {l l′ u u′ k k′ : List ℤ} → n ≡ n′ → m ≡ m′ → b ≡ b′ → l ≡ l′ → u ≡ u′ → k ≡ k′ →
-    _≡_ {A = Problem} (record { n = n; m = m; budget = b; lower = l; upper = u; constraints = k }) (record { n = n′; m = m′; budget = b′; lower = l′; upper = u′; constraints = k′ })
-same en em eb el eu ek = cc
+  divisors-are : filled (divisorIn f) m divisorRoom ≡ tab (divisorAt (problemIn f .constraints)) 0 divisorRoom
+  unfolding divisorIn divisorAt problemIn
+  divisors-are =
+      filled-is (divisorIn f) (divisorAt (problemIn f .constraints)) m divisorRoom few
+      (λ j l. sym (ap (λ (k : Constraint). k .divisor) (getD-tab (constraintOf f) (constraintsIn f) j noConstraint (omega arith))))
+      (λ j l. ap (λ (k : Constraint). k .divisor) (getD-tab-past (constraintOf f) 0 (constraintsIn f) j noConstraint (omega arith)))
 
-pub problem-is : (f : List ℕ) (n m b : ℕ) (l u k : List ℤ) → Blocks f → n ≡ variablesIn f → m ≡ constraintsIn f → b ≡ budgetIn f →
+-- ---- and the problem
+same : {n n′ m m′ b b′ : ℕ} {l l′ u u′ k k′ q q′ : List ℤ} → n ≡ n′ → m ≡ m′ → b ≡ b′ → l ≡ l′ → u ≡ u′ → k ≡ k′ → q ≡ q′ →
+    _≡_ {A = Problem} (record { n = n; m = m; budget = b; lower = l; upper = u; constraints = k; divisors = q })
+    (record { n = n′; m = m′; budget = b′; lower = l′; upper = u′; constraints = k′; divisors = q′ })
+same en em eb el eu ek eq = cc
+
+pub problem-is : (f : List ℕ) (n m b : ℕ) (l u k q : List ℤ) → Blocks f → n ≡ variablesIn f → m ≡ constraintsIn f → b ≡ budgetIn f →
     l ≡ filled (boundIn f 0) n room → u ≡ filled (boundIn f 4) n room → k ≡ filled (cellIn f) (rowLength * m) cells →
-    _≡_ {A = Problem} (record { n = n; m = m; budget = b; lower = l; upper = u; constraints = k }) (packed (problemIn f))
+    q ≡ filled (divisorIn f) m divisorRoom →
+    _≡_ {A = Problem} (record { n = n; m = m; budget = b; lower = l; upper = u; constraints = k; divisors = q }) (packed (problemIn f))
 unfolding packed problemIn
-problem-is f n m b l u k s en em eb el eu ek =
+problem-is f n m b l u k q s en em eb el eu ek eq =
     let few = s .few-variables in
     let short = s .few-constraints in
     same (en ∙ sym (variables-in f)) (em ∙ sym (constraints-in f)) eb
-    (el ∙ lower-is f n en (omega arith)) (eu ∙ upper-is f n en (omega arith)) (ek ∙ rows-are f m em (omega arith))
+    (el ∙ lower-is f n en (omega arith)) (eu ∙ upper-is f n en (omega arith)) (ek ∙ rows-are f m em (omega arith)) (eq ∙ divisors-are f m em (omega arith))

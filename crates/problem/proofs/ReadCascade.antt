@@ -8,11 +8,11 @@ use lib.ListN.{length}
 use borrow.Author.Tests.{leb-true, eqb-true}
 use Rattle.model.specs.Bytes.{blockLength}
 use Rattle.model.specs.File.{constraintsIn, problemIn, wholeBlocks, checksMatch, magicMatches, blockCountMatches, paddingZero, readError, readFile}
-use Rattle.model.specs.Problem.{sizesInRange, domainInRange, constraintsInRange, firstError, resultOf}
+use Rattle.model.specs.Problem.{sizesInRange, domainInRange, constraintsInRange, divisorsInRange, firstError, resultOf}
 use Rattle.lists.proofs.Bools.{said-no, said-yes, and-true}
 use Rattle.format.proofs.AcceptedShape.{Sizes, sizes, variables-in, constraints-in}
 use Rattle.problem.specs.declared.Answer.{Answer}
-use Rattle.problem.specs.declared.Answer.the-variants.{Done, Truncated, BadChecksum, BadMagic, SizeRange, DomainRange, CoefficientRange, NonzeroPadding}
+use Rattle.problem.specs.declared.Answer.the-variants.{Done, Truncated, BadChecksum, BadMagic, SizeRange, DomainRange, CoefficientRange, NonzeroPadding, DivisorRange}
 use Rattle.problem.specs.declared.Problem.{Problem}
 use Rattle.problem.specs.declared.Reading.{Reading}
 use Rattle.problem.specs.Answer.{number}
@@ -48,7 +48,7 @@ module _ (f : List ℕ) where
         unfolding sizesMatch readError firstError number
         size-range r q e h g = error-is 3 SizeRange q (rw (t₁, t₂, t₃, said-no e h)) refl g
 
--- ---- past the sizes, 5 and 6 are tests on the problem
+-- ---- past the sizes, 5, 6 and 10 are tests on the problem
 module _ (f : List ℕ) (t₄ : sizesMatch f ≡ true) where
   t₄′ : (sizesInRange (problemIn f) && blockCountMatches f) ≡ true
   unfolding sizesMatch
@@ -92,10 +92,20 @@ module _ (f : List ℕ) (t₄ : sizesMatch f ≡ true) where
           t₆′ : constraintsInRange (problemIn f) ≡ true
           t₆′ = rw view at t₆
 
-          pub nonzero-padding : (r : Bool) (q : Reading) → r ≡ paddingZero f → not r ≡ true → q ≡ record { answer = NonzeroPadding; problem = empty } → seenRead q ≡ readingOf (readFile f)
+          pub divisor-range : (r : Bool) (q : Reading) → r ≡ divisorsInRange (problemOf p) → not r ≡ true → q ≡ record { answer = DivisorRange; problem = empty } → seenRead q ≡ readingOf (readFile f)
           unfolding readError firstError number
-          nonzero-padding r q e h g = error-is f 6 NonzeroPadding q (rw (t₁, t₂, t₃, t₄′, t₅′, t₆′, said-no e h)) refl g
+          divisor-range r q e h g =
+              let t : divisorsInRange (problemIn f) ≡ false = rw view at (said-no e h) in
+              error-is f 9 DivisorRange q (rw (t₁, t₂, t₃, t₄′, t₅′, t₆′, t)) refl g
 
-          pub accepted : (r : Bool) → r ≡ paddingZero f → not r ≡ false → seenRead (record { answer = Done; problem = p }) ≡ readingOf (readFile f)
-          unfolding readFile readError firstError resultOf readingOf seenRead number
-          accepted r e h = rw (ep, t₁, t₂, t₃, t₄′, t₅′, t₆′, said-yes e h)
+          module _ (t₁₀ : divisorsInRange (problemOf p) ≡ true) where
+            t₁₀′ : divisorsInRange (problemIn f) ≡ true
+            t₁₀′ = rw view at t₁₀
+
+            pub nonzero-padding : (r : Bool) (q : Reading) → r ≡ paddingZero f → not r ≡ true → q ≡ record { answer = NonzeroPadding; problem = empty } → seenRead q ≡ readingOf (readFile f)
+            unfolding readError firstError number
+            nonzero-padding r q e h g = error-is f 6 NonzeroPadding q (rw (t₁, t₂, t₃, t₄′, t₅′, t₆′, t₁₀′, said-no e h)) refl g
+
+            pub accepted : (r : Bool) → r ≡ paddingZero f → not r ≡ false → seenRead (record { answer = Done; problem = p }) ≡ readingOf (readFile f)
+            unfolding readFile readError firstError resultOf readingOf seenRead number
+            accepted r e h = rw (ep, t₁, t₂, t₃, t₄′, t₅′, t₆′, t₁₀′, said-yes e h)

@@ -15,13 +15,14 @@ use Rattle.model.specs.Validity.{constraintShaped}
 use Rattle.lists.proofs.All.{all-of}
 use Rattle.lists.proofs.AllOf.{allOf-tab}
 use Rattle.lists.proofs.Bools.{true-of, T-of}
+use Rattle.lists.proofs.Tab.{length-tab}
 use Rattle.format.proofs.AcceptedShape.{sizes}
 use Rattle.format.proofs.BufferKept.{length-written}
 use Rattle.format.proofs.Errors.{result-ok}
 use Rattle.format.proofs.FileIsWritten.{read-then-written}
 use Rattle.format.proofs.WrittenIsRead.{writable, written-is-read}
-use Rattle.layout.proofs.Rows.{length-box, length-coefficients}
-use Rattle.layout.specs.Rows.{rowLength, rowAt}
+use Rattle.layout.proofs.Rows.{length-box}
+use Rattle.layout.specs.Rows.{rowLength, cell, dividedAt, inputAt}
 use Rattle.problem.specs.declared.Answer.{Answer}
 use Rattle.problem.specs.declared.Answer.the-variants.{Done}
 use Rattle.problem.specs.declared.Problem.{Problem}
@@ -49,13 +50,13 @@ module _ (f : List ℕ) (r : Reading) (reads : seenRead r ≡ readingOf (readFil
       (done a (ap (λ (q : Written). q .number) e), ap (λ (q : Written). q .buffer) e)
 
 -- ---- a problem that `write` accepts, read from the bytes that were written, is the problem with zeros past its last variable and its last constraint
-rows-shaped : (p : Problem) → T (allOf (constraintShaped (variables (problemOf p))) (problemOf p .constraints))
-unfolding problemOf variables constraintShaped rowAt
-rows-shaped p =
+inputs-shaped : (p : Problem) → T (allOf (constraintShaped (variables (problemOf p))) (problemOf p .constraints))
+unfolding problemOf variables constraintShaped inputAt dividedAt
+inputs-shaped p =
     rw (length-box (p .n) (p .lower) (p .upper))
-    (T-of (allOf-tab (constraintShaped (p .n)) (rowAt (p .n) (p .constraints)) 0 (p .m) ∙
-    all-of (λ j. constraintShaped (p .n) (rowAt (p .n) (p .constraints) j)) (p .m)
-    (λ j l. eq-eqb _ _ (length-coefficients (p .n) (p .constraints) (rowLength * j)))))
+    (T-of (allOf-tab (constraintShaped (p .n)) (inputAt (p .n) (p .constraints) (p .divisors)) 0 (p .m) ∙
+    all-of (λ j. constraintShaped (p .n) (inputAt (p .n) (p .constraints) (p .divisors) j)) (p .m)
+    (λ j l. eq-eqb _ _ (length-tab (cell (p .constraints) (rowLength * j)) 0 (p .n)))))
 
 same-reading : {a b : Answer} {p q : Problem} → a ≡ b → p ≡ q → _≡_ {A = Reading} (record { answer = a; problem = p }) (record { answer = b; problem = q })
 same-reading d g = cc
@@ -85,7 +86,7 @@ module _ (p : Problem) (b : List ℕ) (a : Answer) (s : List ℕ) (writes : writ
   pub problem-written-then-read : (r : Reading) → seenRead r ≡ readingOf (readFile (take (fileLength (problemOf p)) s)) → r ≡ record { answer = Done; problem = packed (problemOf p) }
   unfolding seenRead readingOf
   problem-written-then-read r e =
-      let f : seenRead r ≡ record { number = 0; problem = packed (problemOf p) } = e ∙ rw file-is (ap readingOf (written-is-read (problemOf p) (length b) (rows-shaped p) writes-no-error)) in
+      let f : seenRead r ≡ record { number = 0; problem = packed (problemOf p) } = e ∙ rw file-is (ap readingOf (written-is-read (problemOf p) (length b) (inputs-shaped p) writes-no-error)) in
       same-reading (done (r .answer) (ap (λ (q : SeenReading). q .number) f)) (ap (λ (q : SeenReading). q .problem) f)
 
   -- and those arrays say what the problem's said
@@ -93,4 +94,4 @@ module _ (p : Problem) (b : List ℕ) (a : Answer) (s : List ℕ) (writes : writ
   view-of-written =
       let z = sizes (problemOf p) (writable (problemOf p) (length b) writes-no-error .sized) in
       view-of-packed (problemOf p) (z .few-variables) (z .few-constraints)
-      (true-of (allOf (constraintShaped (variables (problemOf p))) (problemOf p .constraints)) (rows-shaped p))
+      (true-of (allOf (constraintShaped (variables (problemOf p))) (problemOf p .constraints)) (inputs-shaped p))

@@ -18,9 +18,9 @@ use Rattle.lists.proofs.AllOf.{allOf-getD}
 use Rattle.lists.proofs.Bools.{true-of}
 use Rattle.lists.proofs.Tab.{getD-tab, tab-is}
 use Rattle.format.proofs.AcceptedShape.{Sizes, sizes, tests, problem-shaped}
-use Rattle.layout.specs.Rows.{rowLength, numberIn, cell, constraintAt, rowAt, boundsAt, boxOf}
-use Rattle.fields.specs.Fields.{room, cells, inRow}
-use Rattle.problem.specs.View.{problemOf, inRows, packed}
+use Rattle.layout.specs.Rows.{rowLength, numberIn, cell, dividedAt, inputAt, boundsAt, boxOf}
+use Rattle.fields.specs.Fields.{room, cells, divisorRoom, inRow}
+use Rattle.problem.specs.View.{problemOf, inRows, divisorAt, packed}
 
 -- ---- the domain
 module _ (box : Box) (few : length box ≤ room) where
@@ -43,26 +43,31 @@ module _ (ks : List Constraint) (j : ℕ) (h : j < maxConstraints) where
       let r : (rowLength * j + i) % rowLength ≡ i = omega arith in
       getD-tab (inRows ks) cells (rowLength * j + i) (pos 0) (omega arith) ∙ rw (d, r)
 
-  row-is : (n : ℕ) → n ≤ maxVariables → length (getD ks j noConstraint .coefficients) ≡ n → rowAt n (tab (inRows ks) 0 cells) j ≡ getD ks j noConstraint
-  unfolding rowAt constraintAt cell inRow coefficientAt
-  row-is n few e =
+  divisor-at : numberIn (tab (divisorAt ks) 0 divisorRoom) j ≡ getD ks j noConstraint .divisor
+  unfolding numberIn divisorAt
+  divisor-at = getD-tab (divisorAt ks) divisorRoom j (pos 0) h
+
+  input-is : (n : ℕ) → n ≤ maxVariables → length (getD ks j noConstraint .coefficients) ≡ n →
+      inputAt n (tab (inRows ks) 0 cells) (tab (divisorAt ks) 0 divisorRoom) j ≡ getD ks j noConstraint
+  unfolding inputAt dividedAt cell inRow coefficientAt
+  input-is n few e =
       let k = getD ks j noConstraint in
       let rows = tab (inRows ks) 0 cells in
       let first : numberIn (tab (inRows ks) 0 cells) (rowLength * j) ≡ getD ks j noConstraint .constant = ap (numberIn rows) (omega arith) ∙ cell-at 0 (omega arith) in
       let rest : tab (cell (tab (inRows ks) 0 cells) (rowLength * j)) 0 n ≡ getD ks j noConstraint .coefficients =
       tab-is (k .coefficients) n (cell rows (rowLength * j)) (pos 0) e
       (λ i l. sym (ap (numberIn rows) (omega arith) ∙ cell-at (suc i) (omega arith))) in
-      ap₂ (λ (c : ℤ) (cs : List ℤ). record { constant = c; coefficients = cs }) first rest
+      λ i. record { constant = first i; coefficients = rest i; divisor = divisor-at i }
 
 -- ---- the problem
 module _ (p : model.Problem) (few : variables p ≤ maxVariables) (short : length (p .constraints) ≤ maxConstraints)
     (shape : allOf (constraintShaped (variables p)) (p .constraints) ≡ true) where
-  constraints-are : tab (rowAt (variables p) (tab (inRows (p .constraints)) 0 cells)) 0 (length (p .constraints)) ≡ p .constraints
+  constraints-are : tab (inputAt (variables p) (tab (inRows (p .constraints)) 0 cells) (tab (divisorAt (p .constraints)) 0 divisorRoom)) 0 (length (p .constraints)) ≡ p .constraints
   unfolding constraintShaped
   constraints-are =
       let ks = p .constraints in
-      tab-is ks (length ks) (rowAt (variables p) (tab (inRows ks) 0 cells)) noConstraint refl
-      (λ j l. sym (row-is ks j (omega arith) (variables p) few (eqb-true _ _ (allOf-getD (constraintShaped (variables p)) ks j noConstraint shape l))))
+      tab-is ks (length ks) (inputAt (variables p) (tab (inRows ks) 0 cells) (tab (divisorAt ks) 0 divisorRoom)) noConstraint refl
+      (λ j l. sym (input-is ks j (omega arith) (variables p) few (eqb-true _ _ (allOf-getD (constraintShaped (variables p)) ks j noConstraint shape l))))
 
   pub view-of-packed : problemOf (packed p) ≡ p
   unfolding problemOf packed variables

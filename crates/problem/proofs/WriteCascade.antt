@@ -8,13 +8,13 @@ use lib.ListN.{drop, length}
 use borrow.Author.Tests.{lt-leb, le-leb}
 use Rattle.model.specs.Bytes.{blockLength}
 use Rattle.model.specs.File.{fileOf, fileLength, writeError, writtenBy, writeFile}
-use Rattle.model.specs.Problem.{variables, sizesInRange, domainInRange, constraintsInRange, firstError}
+use Rattle.model.specs.Problem.{variables, sizesInRange, domainInRange, constraintsInRange, divisorsInRange, firstError}
 use Rattle.model.specs.Ranges.{maxVariables, maxConstraints}
 use Rattle.lists.proofs.Tab.{length-tab}
 use Rattle.format.proofs.AcceptedShape.{Sizes, sizes}
 use Rattle.layout.proofs.Rows.{length-box}
-use Rattle.layout.specs.Rows.{rowAt}
-use Rattle.problem.specs.declared.Answer.the-variants.{Done, SizeRange, DomainRange, CoefficientRange, ShortBuffer}
+use Rattle.layout.specs.Rows.{inputAt}
+use Rattle.problem.specs.declared.Answer.the-variants.{Done, SizeRange, DomainRange, CoefficientRange, ShortBuffer, DivisorRange}
 use Rattle.problem.specs.declared.Problem.{Problem}
 use Rattle.problem.specs.Answer.{number, written}
 use Rattle.problem.specs.Writable.{Writable}
@@ -30,7 +30,7 @@ module _ (p : Problem) where
 
   constraint-count : length (problemOf p .constraints) ≡ p .m
   unfolding problemOf
-  constraint-count = length-tab (rowAt (p .n) (p .constraints)) 0 (p .m)
+  constraint-count = length-tab (inputAt (p .n) (p .constraints) (p .divisors)) 0 (p .m)
 
   length-is : fileLength (problemOf p) ≡ blockLength * suc (p .m)
   unfolding fileLength
@@ -54,9 +54,9 @@ module _ (p : Problem) where
     pub constraints-few : p .m ≤ maxConstraints
     constraints-few = omega (arith, in-range .few-constraints, constraint-count)
 
-    pub writable : (space : ℕ) → domainInRange (problemOf p) ≡ true → constraintsInRange (problemOf p) ≡ true → p .m < space / blockLength → Writable p space
-    writable space t₅ t₆ l =
-        record { few-variables = variables-few; few-constraints = constraints-few; bounded = t₅; coefficient-range = t₆; long = omega arith }
+    pub writable : (space : ℕ) → domainInRange (problemOf p) ≡ true → constraintsInRange (problemOf p) ≡ true → divisorsInRange (problemOf p) ≡ true → p .m < space / blockLength → Writable p space
+    writable space t₅ t₆ t₁₀ l =
+        record { few-variables = variables-few; few-constraints = constraints-few; bounded = t₅; coefficient-range = t₆; divisor-range = t₁₀; long = omega arith }
 
 module _ (p : Problem) (b : List ℕ) where
   pub size-range : (r : Bool) → r ≡ sizesFit (p .n) (p .m) (p .budget) → not r ≡ true → written SizeRange b ≡ writeFile (problemOf p) b
@@ -74,10 +74,15 @@ module _ (p : Problem) (b : List ℕ) where
       coefficient-range r e h = rw (t₄, t₅, said-no e h)
 
       module _ (t₆ : constraintsInRange (problemOf p) ≡ true) where
-        pub short-buffer : length b / blockLength ≤ p .m → written ShortBuffer b ≡ writeFile (problemOf p) b
+        pub divisor-range : (r : Bool) → r ≡ divisorsInRange (problemOf p) → not r ≡ true → written DivisorRange b ≡ writeFile (problemOf p) b
         unfolding written number writeFile writeError writtenBy firstError
-        short-buffer h = rw (t₄, t₅, t₆, length-is p, lt-leb (blockLength * suc (p .m)) (length b) (omega arith))
+        divisor-range r e h = rw (t₄, t₅, t₆, said-no e h)
 
-        pub done : (s : List ℕ) → p .m < length b / blockLength → s ≡ fileOf (problemOf p) ++ drop (fileLength (problemOf p)) b → written Done s ≡ writeFile (problemOf p) b
-        unfolding written number writeFile writeError writtenBy firstError
-        done s l e = rw (t₄, t₅, t₆, e, le-leb (fileLength (problemOf p)) (length b) (omega (arith, length-is p)))
+        module _ (t₁₀ : divisorsInRange (problemOf p) ≡ true) where
+          pub short-buffer : length b / blockLength ≤ p .m → written ShortBuffer b ≡ writeFile (problemOf p) b
+          unfolding written number writeFile writeError writtenBy firstError
+          short-buffer h = rw (t₄, t₅, t₆, t₁₀, length-is p, lt-leb (blockLength * suc (p .m)) (length b) (omega arith))
+
+          pub done : (s : List ℕ) → p .m < length b / blockLength → s ≡ fileOf (problemOf p) ++ drop (fileLength (problemOf p)) b → written Done s ≡ writeFile (problemOf p) b
+          unfolding written number writeFile writeError writtenBy firstError
+          done s l e = rw (t₄, t₅, t₆, t₁₀, e, le-leb (fileLength (problemOf p)) (length b) (omega (arith, length-is p)))

@@ -13,10 +13,10 @@ use mir.Val.{SFits, toZ, ofZ}
 use mir.Facts.{toZ-ofZ}
 use borrow.Rule.Slice.PartMut.{putMid}
 use Rattle.model.specs.Bytes.{u16Bytes, u32Bytes, i32Bytes, blockLength, checkOffset, sealed}
-use Rattle.model.specs.Constraint.{inRange}
+use Rattle.model.specs.Constraint.{inRange, isDivisor, divisorInRange}
 use Rattle.model.specs.File.{magic, boundsOffset, boundsBytes, headBytes, constraintBytes, noConstraint, blockOf, fileOf, fileLength}
 use Rattle.model.specs.Lists.{parts, all}
-use Rattle.model.specs.Problem.{variables, boundsInRange, domainInRange, constraintsInRange}
+use Rattle.model.specs.Problem.{variables, boundsInRange, domainInRange, constraintsInRange, divisorsInRange}
 use Rattle.model.specs.Ranges.{within, maxVariables, maxBound}
 use Rattle.integer.specs.Size.{Within}
 use Rattle.lists.proofs.Loops.{every-at}
@@ -24,7 +24,7 @@ use Rattle.lists.proofs.Bools.{and-true}
 use Rattle.lists.proofs.Parts.{parts-append}
 use Rattle.lists.proofs.Tab.{length-tab, getD-tab}
 use Rattle.layout.proofs.Rows.{length-box, lower-at, upper-at}
-use Rattle.layout.specs.Rows.{rowLength, numberIn, constraintAt, rowAt, boundsAt, boxOf}
+use Rattle.layout.specs.Rows.{rowLength, numberIn, constraintAt, dividedAt, inputAt, boundsAt, boxOf}
 use Rattle.block.proofs.Placing.{then, none-placed, more-placed, part-placed}
 use Rattle.block.proofs.Sealing.{sealed-content}
 use Rattle.block.specs.Placed.{Placed, cleared}
@@ -72,7 +72,7 @@ pub head-sealed : (p : Problem) {y z s t : List ℕ} → p .n ≤ maxVariables �
     t ≡ sealed 0 (take checkOffset s) → t ≡ sealed 0 (headBytes (problemOf p))
 unfolding headBytes problemOf variables
 head-sealed p l e x y f =
-    rw (length-box (p .n) (p .lower) (p .upper), length-tab (rowAt (p .n) (p .constraints)) 0 (p .m))
+    rw (length-box (p .n) (p .lower) (p .upper), length-tab (inputAt (p .n) (p .constraints) (p .divisors)) 0 (p .m))
     (sealed-content 0 f (simp append-assoc at (then x y)) (omega arith) e)
 
 -- ---- the file
@@ -84,7 +84,7 @@ placed-length {s} {b} {t} {i} {j} l p =
 module _ (p : Problem) where
   constraint-count : length (problemOf p .constraints) ≡ p .m
   unfolding problemOf
-  constraint-count = length-tab (rowAt (p .n) (p .constraints)) 0 (p .m)
+  constraint-count = length-tab (inputAt (p .n) (p .constraints) (p .divisors)) 0 (p .m)
 
   -- the head's part, as it comes back
   pub head-placed : {s part : List ℕ} → blockLength ≤ length s → length part ≡ length (take blockLength s) → part ≡ sealed 0 (headBytes (problemOf p)) →
@@ -98,28 +98,33 @@ module _ (p : Problem) where
 
   module _ (j : ℕ) (l : j < p .m) where
     pub row-passes : constraintsInRange (problemOf p) ≡ true → inRange (constraintAt (p .n) (p .constraints) (rowLength * j)) ≡ true
-    unfolding constraintsInRange problemOf rowAt
-    row-passes e = every-at inRange (rowAt (p .n) (p .constraints)) (p .m) j e l
+    unfolding constraintsInRange problemOf inRange inputAt dividedAt constraintAt
+    row-passes e = every-at inRange (inputAt (p .n) (p .constraints) (p .divisors)) (p .m) j e l
 
-    row-sealed : blockOf (problemOf p) (suc j) ≡ sealed (suc j) (constraintBytes (p .n) (constraintAt (p .n) (p .constraints) (rowLength * j)))
-    unfolding blockOf problemOf variables rowAt
-    row-sealed = rw (length-box (p .n) (p .lower) (p .upper), getD-tab (rowAt (p .n) (p .constraints)) (p .m) j noConstraint l)
+    pub divisor-passes : SFits w64 (getD (p .divisors) j (pos 0)) → divisorsInRange (problemOf p) ≡ true → isDivisor (toZ w64 (ofZ w64 (getD (p .divisors) j (pos 0)))) ≡ true
+    unfolding divisorsInRange divisorInRange problemOf inputAt dividedAt numberIn
+    divisor-passes f e = rw (toZ-ofZ f) (every-at divisorInRange (inputAt (p .n) (p .constraints) (p .divisors)) (p .m) j e l)
+
+    input-sealed : blockOf (problemOf p) (suc j) ≡ sealed (suc j) (constraintBytes (p .n) (inputAt (p .n) (p .constraints) (p .divisors) j))
+    unfolding blockOf problemOf variables
+    input-sealed = rw (length-box (p .n) (p .lower) (p .upper), getD-tab (inputAt (p .n) (p .constraints) (p .divisors)) (p .m) j noConstraint l)
 
     blocks-next : parts (blockOf (problemOf p)) 1 (j + 1) ≡ parts (blockOf (problemOf p)) 1 j ++ blockOf (problemOf p) (suc j)
     unfolding parts
     blocks-next = let e : 1 + j ≡ suc j = omega arith in parts-append (blockOf (problemOf p)) 1 j 1 ∙ rw (append-nil, e)
 
     -- and a constraint's
-    pub blocks-more : {s t part : List ℕ} → blockLength * (p .m + 1) ≤ length t →
+    pub blocks-more : {s t part : List ℕ} → SFits w64 (getD (p .divisors) j (pos 0)) → blockLength * (p .m + 1) ≤ length t →
         length part ≡ length (take (blockLength * (j + 1) + blockLength - blockLength * (j + 1)) (drop (blockLength * (j + 1)) t)) →
-        part ≡ sealed (j + 1) (constraintBytes (p .n) (constraintAt (p .n) (p .constraints) (rowLength * j))) →
+        part ≡ sealed (j + 1) (constraintBytes (p .n) (dividedAt (p .n) (p .constraints) (rowLength * j) (toZ w64 (ofZ w64 (getD (p .divisors) j (pos 0)))))) →
         Placed s blockLength (blockLength * (j + 1)) (parts (blockOf (problemOf p)) 1 j) t →
         (length (putMid (blockLength * (j + 1)) (blockLength * (j + 1) + blockLength - blockLength * (j + 1)) t part) ≡ length t) ×
         Placed s blockLength (blockLength * (j + 1 + 1)) (parts (blockOf (problemOf p)) 1 (j + 1)) (putMid (blockLength * (j + 1)) (blockLength * (j + 1) + blockLength - blockLength * (j + 1)) t part)
-    blocks-more {s} {t} {part} f k e x =
+    unfolding inputAt numberIn
+    blocks-more {s} {t} {part} q f k e x =
         let a = blockLength * (j + 1) in
         let z : j + 1 ≡ suc j = add-one j in
-        let g : part ≡ blockOf (problemOf p) (suc j) = e ∙ rw z (sym row-sealed) in
+        let g : part ≡ blockOf (problemOf p) (suc j) = e ∙ rw (z, toZ-ofZ q) (sym input-sealed) in
         let next = moved a (blockLength * (j + 1 + 1)) refl (omega arith) (part-placed t a (a + blockLength) (omega arith) (omega arith) k g) in
         (placed-length (omega arith) next, rw blocks-next (then x next))
 

@@ -1,9 +1,9 @@
--- Document 01's table of errors, the number of each answer; and what writing shows.
+-- Document 01's table of errors with document 02's, the number of each answer; and what writing shows.
 use Prim.Native.Nat.{ℕ}
 use mathlib.Core.List.{List}
 use Rattle.model.specs.File.{Written}
 use Rattle.problem.specs.declared.Answer.{Answer}
-use Rattle.problem.specs.declared.Answer.the-variants.{Done, Truncated, BadChecksum, BadMagic, SizeRange, DomainRange, CoefficientRange, NonzeroPadding, ShortBuffer, InvalidSearch}
+use Rattle.problem.specs.declared.Answer.the-variants.{Done, Truncated, BadChecksum, BadMagic, SizeRange, DomainRange, CoefficientRange, NonzeroPadding, ShortBuffer, InvalidSearch, DivisorRange}
 
 unfoldable pub number : Answer → ℕ
 number Done = 0
@@ -16,6 +16,7 @@ number CoefficientRange = 6
 number NonzeroPadding = 7
 number ShortBuffer = 8
 number InvalidSearch = 9
+number DivisorRange = 10
 
 -- what writing shows: its answer's number, and the lent buffer's bytes
 unfoldable pub written : Answer → List ℕ → Written

@@ -8,8 +8,8 @@ use Rattle.model.specs.File.{noConstraint}
 use Rattle.model.specs.Lists.{tab}
 use Rattle.model.specs.Problem as model
 use Rattle.model.specs.Problem.{variables, Result, ok, error}
-use Rattle.layout.specs.Rows.{rowLength, rowAt, boxOf}
-use Rattle.fields.specs.Fields.{room, cells, zeros, inRow}
+use Rattle.layout.specs.Rows.{rowLength, inputAt, boxOf}
+use Rattle.fields.specs.Fields.{room, cells, divisorRoom, zeros, inRow}
 use Rattle.problem.specs.declared.Problem.{Problem}
 use Rattle.problem.specs.declared.Reading.{Reading}
 use Rattle.problem.specs.Answer.{number}
@@ -19,13 +19,16 @@ unfoldable pub problemOf : Problem → model.Problem
 problemOf p =
     record {
       domain = boxOf (p .n) (p .lower) (p .upper);
-      constraints = tab (rowAt (p .n) (p .constraints)) 0 (p .m);
+      constraints = tab (inputAt (p .n) (p .constraints) (p .divisors)) 0 (p .m);
       budget = p .budget;
     }
 
 -- ---- and the arrays of a problem: zeros past its last variable and its last constraint
 unfoldable pub inRows : List Constraint → ℕ → ℤ
 inRows ks c = inRow (getD ks (c / rowLength) noConstraint) (c % rowLength)
+
+unfoldable pub divisorAt : List Constraint → ℕ → ℤ
+divisorAt ks j = getD ks j noConstraint .divisor
 
 unfoldable pub packed : model.Problem → Problem
 packed p =
@@ -36,6 +39,7 @@ packed p =
       lower = tab (lowerAt (p .domain)) 0 room;
       upper = tab (upperAt (p .domain)) 0 room;
       constraints = tab (inRows (p .constraints)) 0 cells;
+      divisors = tab (divisorAt (p .constraints)) 0 divisorRoom;
     }
 
 -- ---- what reading shows: its answer's number, and the problem's arrays
@@ -48,7 +52,7 @@ seenRead r = record { number = number (r .answer); problem = r .problem }
 
 -- what an error shows of the problem
 unfoldable pub empty : Problem
-empty = record { n = 0; m = 0; budget = 0; lower = zeros room; upper = zeros room; constraints = zeros cells }
+empty = record { n = 0; m = 0; budget = 0; lower = zeros room; upper = zeros room; constraints = zeros cells; divisors = zeros divisorRoom }
 
 unfoldable pub readingOf : Result model.Problem → SeenReading
 readingOf (ok p) = record { number = 0; problem = packed p }

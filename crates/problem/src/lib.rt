@@ -27,9 +27,11 @@ pub struct Problem {
     pub lower: [i64; 32],
     pub upper: [i64; 32],
     pub constraints: [i64; 2112],
+    // the divisor of each constraint, 0 for an inequality
+    pub divisors: [i64; 64],
 }
 
-// Document 01's table, 0 to 9 in this order; `Done` where none of its conditions holds.
+// Document 01's table with document 02's 10, 0 to 10 in this order; `Done` where none of its conditions holds.
 pub enum Answer {
     Done,
     Truncated,
@@ -41,9 +43,10 @@ pub enum Answer {
     NonzeroPadding,
     ShortBuffer,
     InvalidSearch,
+    DivisorRange,
 }
 
-// An answer's number in document 01's table, 0 where there is no error.
+// An answer's number in the documents' tables, 0 where there is no error.
 pub fn error_number(answer: Answer) -> usize
     ensures { λ r. ⌜ r ≡ number answer ⌝ }
 {
@@ -58,6 +61,7 @@ pub fn error_number(answer: Answer) -> usize
         Answer::NonzeroPadding => 7,
         Answer::ShortBuffer => 8,
         Answer::InvalidSearch => 9,
+        Answer::DivisorRange => 10,
     }
 }
 
@@ -78,11 +82,12 @@ fn refused(answer: Answer) -> Reading
         lower: [0; 32],
         upper: [0; 32],
         constraints: [0; 2112],
+        divisors: [0; 64],
     };
     Reading { answer, problem }
 }
 
-// Reads a problem file: the problem in it, or the first error of document 01's table that applies.
+// Reads a problem file: the problem in it, or the first error that applies, in the order 1 to 6, 10, 7.
 pub fn read(file: &[u8]) -> Reading
     ensures { λ r. ⌜ seenRead r ≡ readingOf (readFile (now (file .entry))) ⌝ }
 {
@@ -104,6 +109,9 @@ pub fn read(file: &[u8]) -> Reading
     }
     if !range::constraints_in_range(found) {
         return refused(Answer::CoefficientRange);
+    }
+    if !range::divisors_in_range(found) {
+        return refused(Answer::DivisorRange);
     }
     if !padding_zero(file) {
         return refused(Answer::NonzeroPadding);
@@ -127,6 +135,9 @@ pub fn write(problem: Problem, buffer: &mut [u8]) -> Answer
     }
     if !range::constraints_in_range(problem) {
         return Answer::CoefficientRange;
+    }
+    if !range::divisors_in_range(problem) {
+        return Answer::DivisorRange;
     }
     if buffer.len() / block::LENGTH <= m {
         return Answer::ShortBuffer;

@@ -1,12 +1,13 @@
-// The ranges of document 01, tested on a problem: its errors 5 and 6, for reading and for writing.
+// The ranges of documents 01 and 02, tested on a problem: errors 5, 6 and 10, for reading and for writing.
 use crate::Problem;
 use layout::ROW;
 use layout::range::bounds_in_range;
+use layout::range::is_divisor_in_range;
 use layout::range::is_in_range;
 ghost use mathlib.Core.Path.{_≡_};
 ghost use Prim.Native.Nat.{_≤_};
 ghost use Rattle.model.specs.Ranges.{maxVariables, maxConstraints};
-ghost use Rattle.model.specs.Problem.{domainInRange, constraintsInRange};
+ghost use Rattle.model.specs.Problem.{domainInRange, constraintsInRange, divisorsInRange};
 ghost use Rattle.problem.specs.View.{problemOf};
 
 // 5, 'limits': whether every variable's bounds are in range, the lower not above the upper.
@@ -35,6 +36,22 @@ pub(crate) fn constraints_in_range(problem: Problem) -> bool
     let mut j: usize = 0;
     while j < m {
         if !is_in_range(&problem.constraints, ROW * j, n) {
+            return false;
+        }
+        j += 1;
+    }
+    true
+}
+
+// 10: whether every constraint's divisor is in range.
+pub(crate) fn divisors_in_range(problem: Problem) -> bool
+    requires { ⌜ problem .m ≤ maxConstraints ⌝ }
+    ensures { λ r. ⌜ r ≡ divisorsInRange (problemOf problem) ⌝ }
+{
+    let m = problem.m;
+    let mut j: usize = 0;
+    while j < m {
+        if !is_divisor_in_range(problem.divisors[j]) {
             return false;
         }
         j += 1;

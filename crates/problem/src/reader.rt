@@ -4,6 +4,7 @@ use fields::offsets;
 use fields::reader::bounds_in;
 use fields::reader::budget_in;
 use fields::reader::constraints_in;
+use fields::reader::divisors_in;
 use fields::reader::rows_in;
 use fields::reader::variables_in;
 ghost use mathlib.Core.Path.{_≡_};
@@ -24,6 +25,7 @@ pub(crate) fn problem_in(file: &[u8]) -> Problem
     let lower = bounds_in(file, n, offsets::LOWER);
     let upper = bounds_in(file, n, offsets::UPPER);
     let constraints = rows_in(file, n, m);
+    let divisors = divisors_in(file, m);
     Problem {
         n,
         m,
@@ -31,5 +33,6 @@ pub(crate) fn problem_in(file: &[u8]) -> Problem
         lower,
         upper,
         constraints,
+        divisors,
     }
 }

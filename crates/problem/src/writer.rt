@@ -60,10 +60,12 @@ pub(crate) fn write_blocks(problem: Problem, buffer: &mut [u8])
     while j < m {
         let start = block::LENGTH * (j + 1);
         let end = start + block::LENGTH;
+        let q = problem.divisors[j];
         write_constraint(
             n,
             &problem.constraints,
             ROW * j,
+            q,
             j + 1,
             &mut buffer[start..end],
         );

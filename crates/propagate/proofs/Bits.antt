@@ -44,8 +44,8 @@ module _ (P : ℕ → Type 0) (n : ℕ) where
   covers-none = record { few = pow-pos (n - n); rest = λ k l h. absurd (omega arith) }
 
   module _ (i mask : ℕ) (c : Covers P n i mask) where
-    pub covers-small : n ≤ 32 → mask < 2 ^ 32
-    covers-small h = let l : n - i ≤ 32 = omega arith in lt-of-lt-of-le (c .few) (pow-mono l)
+    pub covers-small : (b : ℕ) → n - i ≤ b → mask < 2 ^ b
+    covers-small b h = lt-of-lt-of-le (c .few) (pow-mono h)
 
     pub covers-all : i ≤ 0 → (mask < 2 ^ n) × ((k : ℕ) → k < n → bit mask k ≡ 0 → P k)
     covers-all h =

@@ -5,6 +5,7 @@ pub mod Tracking
 pub mod Passed
 pub mod Fuel
 pub mod Numbers
+pub mod Warning
 pub mod Steps
 pub mod Looping
 pub mod Descent

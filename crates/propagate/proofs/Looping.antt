@@ -3,19 +3,21 @@ use Prim.Native.Nat.{ℕ, _+_}
 use mathlib.Core.List.{List}
 use mathlib.Core.Path.{_≡_, _∙_}
 use lib.IntN.{ℤ}
+use Rattle.model.specs.Constraint.{Constraint}
 use Rattle.state.specs.View.{keptCuts}
 use Rattle.state.specs.Change.{held}
 use Rattle.propagate.specs.Ready.{Ready}
 use Rattle.propagate.specs.Tracked.{Tracked, Shifted, Told}
 use Rattle.propagate.specs.Masks.{Opens}
+use Rattle.propagate.specs.Divided.{Warned}
 use Rattle.propagate.proofs.Steps.{answer, scan-fits, Next}
 use Rattle.propagate.proofs.Tracking.{Closes, opens-closer, told-set}
 
 -- from the arrays marked ₀; the decision variable does not change
-pub record Loop (n m made : ℕ) (rows : List ℤ) (mask : ℕ) (lower₀ upper₀ : List ℤ) (below₀ above₀ : List ℕ) (lower upper : List ℤ) (below above : List ℕ) (activities reaches : List ℤ) (falsified : ℕ) : Type 0 where
+pub record Loop (ks : List Constraint) (n m made : ℕ) (rows : List ℤ) (mask : ℕ) (lower₀ upper₀ : List ℤ) (below₀ above₀ : List ℕ) (lower upper : List ℤ) (below above : List ℕ) (activities reaches : List ℤ) (falsified : ℕ) : Type 0 where
   pub ready : Ready n m made rows (held lower upper below above 0)
-  pub same : (d : ℕ) → answer n m made rows (held lower₀ upper₀ below₀ above₀ d) ≡ answer n m made rows (held lower upper below above d)
-  pub told : Told n rows lower upper activities reaches (m + keptCuts made) falsified
+  pub same : (d : ℕ) → answer ks n m made (held lower₀ upper₀ below₀ above₀ d) ≡ answer ks n m made (held lower upper below above d)
+  pub told : Warned ks n rows lower upper activities reaches (m + keptCuts made) falsified
   pub opens : Opens n lower upper mask
 
 -- whatever the decision variable is
@@ -31,17 +33,18 @@ ready-at d r =
       bounds = r .bounds;
     }
 
-module _ (n m made : ℕ) (rows : List ℤ) (mask : ℕ) (lower₀ upper₀ : List ℤ) (below₀ above₀ : List ℕ) (lower upper : List ℤ) (below above : List ℕ) (activities reaches : List ℤ) (falsified : ℕ)
-    (loop : Loop n m made rows mask lower₀ upper₀ below₀ above₀ lower upper below above activities reaches falsified) where
-  pub loop-set : (lower₁ upper₁ : List ℤ) (below₁ above₁ : List ℕ) (activities₁ reaches₁ : List ℤ) (i j r : ℕ) (rise fall : ℤ) →
-      ((d : ℕ) → Next n m made rows (held lower upper below above d) j i (held lower₁ upper₁ below₁ above₁ d)) → Tracked n rows lower upper activities reaches₁ (m + keptCuts made) →
-      Closes n rows lower upper lower₁ upper₁ i rise fall → Shifted (m + keptCuts made) i rise fall rows activities activities₁ r →
-      Loop n m made rows mask lower₀ upper₀ below₀ above₀ lower₁ upper₁ below₁ above₁ activities₁ reaches₁ r
-  loop-set lower₁ upper₁ below₁ above₁ activities₁ reaches₁ i j r rise fall next t c s =
+module _ (ks : List Constraint) (n m made : ℕ) (rows : List ℤ) (mask : ℕ) (lower₀ upper₀ : List ℤ) (below₀ above₀ : List ℕ) (lower upper : List ℤ) (below above : List ℕ) (activities reaches : List ℤ) (falsified : ℕ)
+    (loop : Loop ks n m made rows mask lower₀ upper₀ below₀ above₀ lower upper below above activities reaches falsified) where
+  pub loop-set : (lower₁ upper₁ : List ℤ) (below₁ above₁ : List ℕ) (activities₁ reaches₁ : List ℤ) (i j told r : ℕ) (rise fall : ℤ) →
+      ((d : ℕ) → Next ks n m made rows (held lower upper below above d) j i (held lower₁ upper₁ below₁ above₁ d)) → Tracked n rows lower upper activities reaches₁ (m + keptCuts made) →
+      Closes n rows lower upper lower₁ upper₁ i rise fall → Shifted (m + keptCuts made) i rise fall rows activities activities₁ told →
+      (Told n rows lower₁ upper₁ activities₁ reaches₁ (m + keptCuts made) told → Warned ks n rows lower₁ upper₁ activities₁ reaches₁ (m + keptCuts made) r) →
+      Loop ks n m made rows mask lower₀ upper₀ below₀ above₀ lower₁ upper₁ below₁ above₁ activities₁ reaches₁ r
+  loop-set lower₁ upper₁ below₁ above₁ activities₁ reaches₁ i j told r rise fall next t c s w =
       let k = next 0 .ready in
       record {
         ready = k;
         same = λ d. loop .same d ∙ next d .same;
-        told = told-set n (m + keptCuts made) rows lower upper lower₁ upper₁ activities reaches₁ activities₁ i r rise fall t (scan-fits n m made rows (held lower₁ upper₁ below₁ above₁ 0) k) (k .whole .lower) (k .whole .upper) c s;
+        told = w (told-set n (m + keptCuts made) rows lower upper lower₁ upper₁ activities reaches₁ activities₁ i told rise fall t (scan-fits n m made rows (held lower₁ upper₁ below₁ above₁ 0) k) (k .whole .lower) (k .whole .upper) c s);
         opens = opens-closer n rows lower upper lower₁ upper₁ i mask rise fall c (loop .opens);
       }

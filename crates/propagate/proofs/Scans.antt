@@ -11,8 +11,8 @@ use borrow.Author.Tests.{lt-ltb, le-ltb}
 use lib.IntN.{ℤ, pos, _-ℤ_}
 use lib.Signed.{ltZ}
 use Rattle.model.specs.Lists.{tab, orElse, withDefault}
-use Rattle.model.specs.Constraint.{Constraint, Box, term, activity, falsified}
-use Rattle.model.specs.Move.{Move, conflict, decide, finish, firstFalsified, improvementAt, improvementFrom, firstImprovement, firstOpen, nextMove}
+use Rattle.model.specs.Constraint.{Constraint, Box, modulus, term, activity}
+use Rattle.model.specs.Move.{Move, conflict, decide, finish, firstFalsified, improvementAt, improvementFrom, improvementBy, firstImprovement, firstOpen, nextMove}
 use Rattle.lists.proofs.Tab.{tab-step, tab-end}
 use Rattle.layout.specs.Rows.{rowLength, numberIn, cell, constraintAt, rowAt, boundsAt, boxOf}
 use Rattle.propagate.specs.Moves.{hitAt}
@@ -20,9 +20,6 @@ use Rattle.propagate.specs.Moves.{hitAt}
 -- ---- what the scans find from a place on
 unfoldable pub openFrom : ℕ → List ℤ → List ℤ → ℕ → Option Move
 openFrom n lower upper i = firstOpen i (tab (boundsAt lower upper) i (n - i))
-
-unfoldable pub falsifiedFrom : ℕ → ℕ → List ℤ → List ℤ → List ℤ → ℕ → Option Move
-falsifiedFrom n kept rows lower upper j = firstFalsified j (tab (rowAt n rows) j (kept - j)) (boxOf n lower upper)
 
 unfoldable pub improvedFrom : ℕ → ℕ → List ℤ → List ℤ → List ℤ → ℕ → Option Move
 improvedFrom n kept rows lower upper j = firstImprovement j (tab (rowAt n rows) j (kept - j)) (boxOf n lower upper)
@@ -58,25 +55,6 @@ module _ (n : ℕ) (lower upper : List ℤ) where
     unfolding openFrom firstOpen hitAt
     open-end h = sym (e ∙ rw (tab-end (boundsAt lower upper) n i h, le-ltb n n (omega arith)))
 
--- ---- move 1
-module _ (n kept : ℕ) (rows lower upper : List ℤ) where
-  pub falsified-start : firstFalsified 0 (tab (rowAt n rows) 0 kept) (boxOf n lower upper) ≡ falsifiedFrom n kept rows lower upper 0
-  unfolding falsifiedFrom
-  falsified-start = rw sub-zero
-
-  module _ (whole : Option Move) (j : ℕ) (e : whole ≡ falsifiedFrom n kept rows lower upper j) where
-    pub falsified-hit : j < kept → ltZ (pos 0) (activity (rowAt n rows j) (boxOf n lower upper)) ≡ true → hitAt conflict kept j ≡ whole
-    unfolding falsifiedFrom firstFalsified hitAt falsified
-    falsified-hit h t = sym (e ∙ rw (tab-step (rowAt n rows) kept j h, t, lt-ltb j kept h))
-
-    pub falsified-miss : j < kept → ltZ (pos 0) (activity (rowAt n rows j) (boxOf n lower upper)) ≡ false → whole ≡ falsifiedFrom n kept rows lower upper (j + 1)
-    unfolding falsifiedFrom firstFalsified falsified
-    falsified-miss h t = e ∙ rw (tab-step (rowAt n rows) kept j h, t, add-one)
-
-    pub falsified-end : kept ≤ j → hitAt conflict kept kept ≡ whole
-    unfolding falsifiedFrom firstFalsified hitAt
-    falsified-end h = sym (e ∙ rw (tab-end (rowAt n rows) kept j h, le-ltb kept kept (omega arith)))
-
 -- ---- move 2
 module _ (n kept : ℕ) (rows lower upper : List ℤ) where
   pub improved-start : firstImprovement 0 (tab (rowAt n rows) 0 kept) (boxOf n lower upper) ≡ improvedFrom n kept rows lower upper 0
@@ -92,7 +70,7 @@ module _ (n kept : ℕ) (rows lower upper : List ℤ) where
     -- at the first variable of constraint j
     improved-enter : whole ≡ improvedFrom n kept rows lower upper j → j < kept →
         whole ≡ orElse (improvedAfter n rows lower upper j 0) (improvedFrom n kept rows lower upper (j + 1))
-    unfolding improvedFrom firstImprovement improvedAfter rowAt constraintAt boxOf
+    unfolding improvedFrom firstImprovement improvementBy modulus improvedAfter rowAt constraintAt boxOf
     improved-enter e h = e ∙ rw (tab-step (rowAt n rows) kept j h, add-one, sub-zero)
 
     module _ (i : ℕ) (e : whole ≡ orElse (improvedAfter n rows lower upper j i) (improvedFrom n kept rows lower upper (j + 1))) where

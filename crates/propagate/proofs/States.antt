@@ -1,68 +1,98 @@
 -- For callers: propagation on the view of a search state. A valid state has what propagation asks, and its descent goes through what the code gives.
-use Prim.Native.Nat.{ℕ, _≤_}
+use Prim.Native.Nat.{ℕ, _+_, _≤_, _<_}
+use native.Mathlib.Omega.{arith}
+use mathlib.Core.Bool.{true}
 use mathlib.Core.List.{List}
-use mathlib.Core.Path.{_≡_, sym, ap₂, subst, _∙_}
+use mathlib.Core.Logic.{⊎-elim}
+use mathlib.Core.Path.{_≡_, refl, sym, ap, subst, _∙_}
 use lib.Dec.{T}
-use lib.IntN.{ℤ}
-use Rattle.model.specs.Lists.{allOf}
-use Rattle.model.specs.Ranges.{maxVariables, maxConstraints, maxBudget}
-use Rattle.model.specs.Constraint.{Constraint, inRange}
+use lib.IntN.{ℤ, pos}
+use Rattle.model.specs.Lists.{tab, allOf}
+use Rattle.model.specs.Ranges.{within, maxVariables, maxConstraints, maxBudget, maxCoefficient}
+use Rattle.model.specs.Constraint.{inRange}
+use Rattle.model.specs.File.{noConstraint}
 use Rattle.model.specs.Problem.{boundsInRange}
 use Rattle.model.specs.Search as model
 use Rattle.model.specs.Move.{follow, descend}
-use Rattle.layout.specs.Rows.{boxOf}
-use Rattle.state.specs.View.{levelOf, coreWith, numberFor}
+use Rattle.lists.proofs.Bools.{true-of, T-of, lt-or-le}
+use Rattle.lists.proofs.Tab.{length-tab, getD-tab}
+use Rattle.lists.proofs.AllOf.{allOf-getD, allOf-of, allOf-replicate}
+use Rattle.layout.specs.Rows.{numberIn, rowAt, inputAt, boxOf}
+use Rattle.state.specs.View.{levelOf, keptCuts, coreOver, numberFor}
 use Rattle.state.specs.Change.{Whole}
 use Rattle.state.specs.declared.Level.{Level}
-use Rattle.state.proofs.Cores.{kept-rows, number-at}
+use Rattle.state.proofs.Cores.{number-over}
 use Rattle.validity.proofs.Every.{every-out}
 use Rattle.validity.proofs.Moves.{Chosen}
 use Rattle.validity.proofs.States.{ConstraintFits, CoreFits}
 use Rattle.propagate.specs.Moves.{stopOf}
 use Rattle.propagate.specs.Propagation.{Propagation, propagation, propagationOf}
 use Rattle.propagate.specs.Ready.{keptRows, Ready}
+use Rattle.propagate.specs.Divided.{keptOver, coreApart, blankRow, Apart}
 use Rattle.propagate.specs.declared.propagate.Found.{Found}
+use Rattle.propagate.proofs.Warning.{zero-or, length-over, over-cut}
 use Rattle.propagate.proofs.Fuel.{Stopped}
 use Rattle.propagate.proofs.Descent.{FitsAt, propagated, descent-propagated, propagated-stopped}
 
-module _ (n m made : ℕ) (rows : List ℤ) (numbers : List ℕ) (l : Level) (ls : List model.Level) (f : CoreFits (coreWith n m made rows numbers (levelOf n l) ls)) where
+-- a blank is in range
+blank-range : (n : ℕ) → inRange (blankRow n) ≡ true
+unfolding inRange within
+blank-range n = allOf-replicate (within maxCoefficient) n (pos 0) refl
+
+module _ (n m made : ℕ) (rows lines divisors : List ℤ) (numbers : List ℕ) (l : Level) (ls : List model.Level) (a : Apart n m rows lines divisors)
+    (f : CoreFits (coreApart n m made rows lines divisors numbers (levelOf n l) ls)) where
+  -- the kept constraints are in range, and so are the rows with blanks
+  over-range : allOf inRange (keptOver n m made rows lines divisors) ≡ true
+  over-range =
+      let c = coreApart n m made rows lines divisors numbers (levelOf n l) ls in
+      true-of _ (unfold coreOver model.kept in every-out (ConstraintFits n) inRange (λ k h. h .range) (model.kept c) (f .constraints))
+
+  row-range : (j : ℕ) → j < m + keptCuts made → inRange (rowAt n rows j) ≡ true
+  row-range j h =
+      ⊎-elim
+      (λ (i : j < m). ⊎-elim (λ e. rw (a .same j i e) (a .range j i)) (λ d. rw (a .blank j i d) (blank-range n)) (zero-or (numberIn divisors j)))
+      (λ (i : m ≤ j). rw (over-cut n m made rows lines divisors j i h) at
+      (allOf-getD inRange (keptOver n m made rows lines divisors) j noConstraint over-range (omega (arith, length-over n m made rows lines divisors))))
+      (lt-or-le j m)
+
   state-range : T (allOf inRange (keptRows n m made rows))
-  unfolding coreWith
   state-range =
-      let c = coreWith n m made rows numbers (levelOf n l) ls in
-      rw (kept-rows n m made rows numbers (levelOf n l) ls) at (every-out (ConstraintFits n) inRange (λ k h. h .range) (model.kept c) (f .constraints))
+      let count = m + keptCuts made in
+      T-of (allOf-of inRange (tab (rowAt n rows) 0 count) noConstraint (λ j h.
+      let i : j < count = omega (arith, length-tab (rowAt n rows) 0 count) in
+      rw (getD-tab (rowAt n rows) count j noConstraint i) (row-range j i)))
 
   state-bounds : T (allOf boundsInRange (boxOf n (l .lower) (l .upper)))
-  unfolding coreWith model.levels levelOf
+  unfolding coreOver model.levels levelOf
   state-bounds = f .levels .0 .range
 
   pub state-ready : n ≤ maxVariables → m ≤ maxConstraints → made ≤ maxBudget → Whole l → Ready n m made rows l
   state-ready few inputs cuts w = record { few = few; inputs = inputs; cuts = cuts; whole = w; constraints = state-range; bounds = state-bounds }
 
-  module _ (k : Level) (found : Found) (e : propagationOf n k found ≡ propagation (keptRows n m made rows) (numberFor m made) (levelOf n l)) where
-    state-propagated : propagated (coreWith n m made rows numbers (levelOf n l) ls) ≡ propagationOf n k found
-    unfolding coreWith
+  module _ (k : Level) (found : Found) (e : propagationOf n k found ≡ propagation (keptOver n m made rows lines divisors) (numberFor m made) (levelOf n l)) where
+    state-propagated : propagated (coreApart n m made rows lines divisors numbers (levelOf n l) ls) ≡ propagationOf n k found
+    unfolding coreOver model.kept
     state-propagated =
-        ap₂ (λ (ks : List Constraint) (number : ℕ → ℕ). propagation ks number (levelOf n l))
-        (kept-rows n m made rows numbers (levelOf n l) ls) (number-at n m made rows numbers (levelOf n l) ls) ∙ sym e
+        ap (λ (number : ℕ → ℕ). propagation (keptOver n m made rows lines divisors) number (levelOf n l))
+        (number-over (tab (inputAt n lines divisors) 0 m) n m made rows numbers (levelOf n l) ls (length-tab (inputAt n lines divisors) 0 m)) ∙ sym e
 
-    pub state-descent : descend (coreWith n m made rows numbers (levelOf n l) ls) ≡
-        follow (stopOf found) (coreWith n m made rows numbers (levelOf n k) ls) descend
-    unfolding coreWith model.withDeepest model.withLevels propagationOf
+    pub state-descent : descend (coreApart n m made rows lines divisors numbers (levelOf n l) ls) ≡
+        follow (stopOf found) (coreApart n m made rows lines divisors numbers (levelOf n k) ls) descend
+    unfolding coreOver model.withDeepest model.withLevels propagationOf
     state-descent =
-        let c = coreWith n m made rows numbers (levelOf n l) ls in
+        let c = coreApart n m made rows lines divisors numbers (levelOf n l) ls in
         subst (λ (p : Propagation). descend c ≡ follow (p .move) (model.withDeepest c (p .level)) descend) state-propagated (descent-propagated c f)
 
-    state-stopped : Stopped (keptRows n m made rows) (FitsAt (coreWith n m made rows numbers (levelOf n l) ls)) (propagationOf n k found)
+    state-stopped : Stopped (keptOver n m made rows lines divisors) (FitsAt (coreApart n m made rows lines divisors numbers (levelOf n l) ls)) (propagationOf n k found)
+    unfolding coreOver model.kept
     state-stopped =
-        let c = coreWith n m made rows numbers (levelOf n l) ls in
-        subst (λ (ks : List Constraint). Stopped ks (FitsAt c) (propagationOf n k found)) (kept-rows n m made rows numbers (levelOf n l) ls)
-        (subst (Stopped (model.kept c) (FitsAt c)) state-propagated (propagated-stopped c f))
+        let c = coreApart n m made rows lines divisors numbers (levelOf n l) ls in
+        subst (Stopped (keptOver n m made rows lines divisors) (FitsAt c)) state-propagated (propagated-stopped c f)
 
-    pub state-fits : CoreFits (coreWith n m made rows numbers (levelOf n k) ls)
-    unfolding coreWith model.withDeepest model.withLevels propagationOf
+    pub state-fits : CoreFits (coreApart n m made rows lines divisors numbers (levelOf n k) ls)
+    unfolding coreOver model.withDeepest model.withLevels propagationOf
     state-fits = state-stopped .holds
 
-    pub state-chosen : Chosen (keptRows n m made rows) (boxOf n (k .lower) (k .upper)) (stopOf found)
+    pub state-chosen : Chosen (keptOver n m made rows lines divisors) (boxOf n (k .lower) (k .upper)) (stopOf found)
     unfolding propagationOf levelOf
     state-chosen = state-stopped .chosen

@@ -5,17 +5,16 @@ use mathlib.Core.List.{List}
 use mathlib.Core.Path.{_≡_, sym, ap, subst, _∙_}
 use lib.Dec.{lit≤}
 use lib.IntN.{ℤ, _-ℤ_}
-use lib.ListN.{length-set}
-use Rattle.model.specs.Constraint.{Box, setLower, setUpper}
+use lib.ListN.{length, length-set}
+use Rattle.model.specs.Constraint.{Constraint, Box, setLower, setUpper}
 use Rattle.model.specs.Search as model
 use Rattle.model.specs.Move.{Move, conflict, newLower, newUpper, decide, finish, nextMove, slack}
-use Rattle.lists.proofs.Tab.{length-tab}
 use Rattle.integer.specs.Parts.{_⊑_}
 use Rattle.integer.specs.Size.{Within, weaken}
 use Rattle.lists.proofs.Bools.{true-of}
 use Rattle.linear.specs.Ranges.{widestBound}
 use Rattle.linear.proofs.Ranges.{lower-within, upper-within}
-use Rattle.layout.specs.Rows.{numberIn, rowAt, boxOf}
+use Rattle.layout.specs.Rows.{numberIn, boxOf}
 use Rattle.layout.proofs.Rows.{length-box, lower-at, upper-at, box-lower, box-upper}
 use Rattle.state.specs.View.{keptCuts, levelOf, numberFor}
 use Rattle.state.specs.Change.{Whole, raised, lowered}
@@ -28,7 +27,7 @@ use Rattle.propagate.specs.Propagation.{Propagation, propagateBy, propag
 use Rattle.propagate.specs.Moves.{stopOf}
 use Rattle.propagate.specs.declared.propagate.Found.{Found}
 use Rattle.propagate.specs.declared.propagate.Found.the-variants.{Conflict, Decide, Finish}
-use Rattle.propagate.specs.Ready.{keptRows, Ready}
+use Rattle.propagate.specs.Ready.{Ready}
 use Rattle.propagate.specs.Tracked.{ScanFits}
 use Rattle.propagate.specs.Bounds.{Settable}
 use Rattle.propagate.proofs.Tracking.{number-same, rise-size, fall-size}
@@ -39,8 +38,9 @@ use Rattle.propagate.proofs.Numbers.{number-reason}
 abbrev pub boxAt : ℕ → Level → Box
 boxAt n l = boxOf n (l .lower) (l .upper)
 
-unfoldable pub answer : ℕ → ℕ → ℕ → List ℤ → Level → Propagation
-answer n m made rows l = propagation (keptRows n m made rows) (numberFor m made) (levelOf n l)
+-- with the kept constraints ks
+unfoldable pub answer : List Constraint → ℕ → ℕ → ℕ → Level → Propagation
+answer ks n m made l = propagation ks (numberFor m made) (levelOf n l)
 
 -- what the scans ask
 pub scan-fits : (n m made : ℕ) (rows : List ℤ) (l : Level) → Ready n m made rows l → ScanFits n (m + keptCuts made) rows (l .lower) (l .upper)
@@ -48,31 +48,31 @@ unfolding keptCuts
 scan-fits n m made rows l r = record { few = r .few; count = omega (arith, r .inputs); constraints = r .constraints; bounds = r .bounds }
 
 -- constraint j sets a bound of variable i, which leaves the level k
-pub record Next (n m made : ℕ) (rows : List ℤ) (l : Level) (j i : ℕ) (k : Level) : Type 0 where
+pub record Next (ks : List Constraint) (n m made : ℕ) (rows : List ℤ) (l : Level) (j i : ℕ) (k : Level) : Type 0 where
   pub constraint : j < m + keptCuts made
   pub variable : i < n
   pub ready : Ready n m made rows k
-  pub same : answer n m made rows l ≡ answer n m made rows k
+  pub same : answer ks n m made l ≡ answer ks n m made k
   pub less : slack (boxAt n k) < slack (boxAt n l)
 
-module _ (n m made : ℕ) (rows : List ℤ) (l : Level) (r : Ready n m made rows l) where
+module _ (ks : List Constraint) (n m made : ℕ) (rows : List ℤ) (long : length ks ≡ m + keptCuts made) (l : Level) (r : Ready n m made rows l) where
   ordered : Ordered (boxAt n l)
   ordered = range-ordered (boxAt n l) (r .bounds)
 
   -- the answer is what the next move leads to
-  follows : (move : Move) → move ≡ nextMove (keptRows n m made rows) (boxAt n l) →
-      answer n m made rows l ≡ propagateBy move (numberFor m made) (levelOf n l) (propagation (keptRows n m made rows) (numberFor m made))
+  follows : (move : Move) → move ≡ nextMove ks (boxAt n l) →
+      answer ks n m made l ≡ propagateBy move (numberFor m made) (levelOf n l) (propagation ks (numberFor m made))
   unfolding answer levelOf
   follows move e =
-      propagation-next (keptRows n m made rows) (numberFor m made) (levelOf n l) ordered ∙
-      ap (λ (x : Move). propagateBy x (numberFor m made) (levelOf n l) (propagation (keptRows n m made rows) (numberFor m made))) (sym e)
+      propagation-next ks (numberFor m made) (levelOf n l) ordered ∙
+      ap (λ (x : Move). propagateBy x (numberFor m made) (levelOf n l) (propagation ks (numberFor m made))) (sym e)
 
-  chosen : (move : Move) → move ≡ nextMove (keptRows n m made rows) (boxAt n l) → Chosen (keptRows n m made rows) (boxAt n l) move
-  chosen move e = subst (Chosen (keptRows n m made rows) (boxAt n l)) (sym e) (next-chosen (keptRows n m made rows) (boxAt n l) ordered)
+  chosen : (move : Move) → move ≡ nextMove ks (boxAt n l) → Chosen ks (boxAt n l) move
+  chosen move e = subst (Chosen ks (boxAt n l)) (sym e) (next-chosen ks (boxAt n l) ordered)
 
   -- a level with a smaller box
   nested-next : (j i : ℕ) (k : Level) → (j < m + keptCuts made) × (i < n) → Whole k → Ordered (boxAt n k) → Nested (boxAt n k) (boxAt n l) → slack (boxAt n k) < slack (boxAt n l) →
-      answer n m made rows l ≡ answer n m made rows k → Next n m made rows l j i k
+      answer ks n m made l ≡ answer ks n m made k → Next ks n m made rows l j i k
   nested-next j i k places w o h less e =
       record {
         constraint = places .0;
@@ -89,22 +89,22 @@ module _ (n m made : ℕ) (rows : List ℤ) (l : Level) (r : Ready n m made rows
         less = less;
       }
 
-  module _ (j i : ℕ) (v : ℤ) (e : newLower j i v ≡ nextMove (keptRows n m made rows) (boxAt n l)) where
-    raises : Raises (keptRows n m made rows) (boxAt n l) j i v
+  module _ (j i : ℕ) (v : ℤ) (e : newLower j i v ≡ nextMove ks (boxAt n l)) where
+    raises : Raises ks (boxAt n l) j i v
     raises = chosen (newLower j i v) e
 
     raise-places : (j < m + keptCuts made) × (i < n)
-    raise-places = (omega (arith, raises .constraint, length-tab (rowAt n rows) 0 (m + keptCuts made)), omega (arith, raises .variable, length-box n (l .lower) (l .upper)))
+    raise-places = (omega (arith, raises .constraint, long), omega (arith, raises .variable, length-box n (l .lower) (l .upper)))
 
     raised-level : levelOf n (raised l i v (numberFor m made j)) ≡ model.raiseLower i v (model.constraint (numberFor m made j)) (levelOf n l)
     raised-level =
         level-raised n l (r .whole) (r .few) i v (numberFor m made j) (raise-places .1) ∙ rw (number-reason m made j (r .inputs) (r .cuts) (raise-places .0))
 
-    raised-answer : answer n m made rows l ≡ answer n m made rows (raised l i v (numberFor m made j))
+    raised-answer : answer ks n m made l ≡ answer ks n m made (raised l i v (numberFor m made j))
     unfolding propagateBy answer
-    raised-answer = follows (newLower j i v) e ∙ ap (propagation (keptRows n m made rows) (numberFor m made)) (sym raised-level)
+    raised-answer = follows (newLower j i v) e ∙ ap (propagation ks (numberFor m made)) (sym raised-level)
 
-    pub raise-next : Next n m made rows l j i (raised l i v (numberFor m made j))
+    pub raise-next : Next ks n m made rows l j i (raised l i v (numberFor m made j))
     raise-next =
         let w = r .whole in
         let box = boxAt n l in
@@ -131,22 +131,22 @@ module _ (n m made : ℕ) (rows : List ℤ) (l : Level) (r : Ready n m made rows
           change = raise-rise;
         }
 
-  module _ (j i : ℕ) (v : ℤ) (e : newUpper j i v ≡ nextMove (keptRows n m made rows) (boxAt n l)) where
-    lowers : Lowers (keptRows n m made rows) (boxAt n l) j i v
+  module _ (j i : ℕ) (v : ℤ) (e : newUpper j i v ≡ nextMove ks (boxAt n l)) where
+    lowers : Lowers ks (boxAt n l) j i v
     lowers = chosen (newUpper j i v) e
 
     lower-places : (j < m + keptCuts made) × (i < n)
-    lower-places = (omega (arith, lowers .constraint, length-tab (rowAt n rows) 0 (m + keptCuts made)), omega (arith, lowers .variable, length-box n (l .lower) (l .upper)))
+    lower-places = (omega (arith, lowers .constraint, long), omega (arith, lowers .variable, length-box n (l .lower) (l .upper)))
 
     lowered-level : levelOf n (lowered l i v (numberFor m made j)) ≡ model.lowerUpper i v (model.constraint (numberFor m made j)) (levelOf n l)
     lowered-level =
         level-lowered n l (r .whole) (r .few) i v (numberFor m made j) (lower-places .1) ∙ rw (number-reason m made j (r .inputs) (r .cuts) (lower-places .0))
 
-    lowered-answer : answer n m made rows l ≡ answer n m made rows (lowered l i v (numberFor m made j))
+    lowered-answer : answer ks n m made l ≡ answer ks n m made (lowered l i v (numberFor m made j))
     unfolding propagateBy answer
-    lowered-answer = follows (newUpper j i v) e ∙ ap (propagation (keptRows n m made rows) (numberFor m made)) (sym lowered-level)
+    lowered-answer = follows (newUpper j i v) e ∙ ap (propagation ks (numberFor m made)) (sym lowered-level)
 
-    pub lower-next : Next n m made rows l j i (lowered l i v (numberFor m made j))
+    pub lower-next : Next ks n m made rows l j i (lowered l i v (numberFor m made j))
     lower-next =
         let w = r .whole in
         let box = boxAt n l in
@@ -174,7 +174,7 @@ module _ (n m made : ℕ) (rows : List ℤ) (l : Level) (r : Ready n m made rows
         }
 
   -- where the next move sets no bound, it is the answer
-  pub stop-answer : (found : Found) → stopOf found ≡ nextMove (keptRows n m made rows) (boxAt n l) → propagationOf n l found ≡ answer n m made rows l
+  pub stop-answer : (found : Found) → stopOf found ≡ nextMove ks (boxAt n l) → propagationOf n l found ≡ answer ks n m made l
   unfolding propagateBy propagationOf stopOf
   stop-answer (Conflict j) e = sym (follows (conflict j) e)
   stop-answer (Decide i) e = sym (follows (decide i) e)

@@ -35,7 +35,7 @@ use Rattle.layout.proofs.Rows.{length-box, coefficient-at, lower-at, upper-at, 
 use Rattle.propagate.specs.Moves.{hitAt}
 use Rattle.propagate.specs.Tracked.{ScanFits, Known, TrackedAt, Tracked, Shiftable, Shifted, FirstAbove, Told}
 use Rattle.propagate.specs.Masks.{Opens}
-use Rattle.propagate.proofs.Scans.{falsifiedFrom, improvedAt, falsified-start, falsified-hit, falsified-miss, falsified-end}
+use Rattle.propagate.proofs.Scans.{improvedAt}
 
 module _ {n kept : ℕ} {rows lower upper : List ℤ} (f : ScanFits n kept rows lower upper) where
   pub scan-row : (j : ℕ) → length rows ≡ rowsLength → j < kept → RowFits n rows (rowLength * j)
@@ -147,19 +147,6 @@ told-start n kept rows lower upper activities reaches r s a =
       here = λ h. rw (← s .at r h .same) (a .here h);
       tracked = λ e. s;
     }
-
-module _ (n kept : ℕ) (rows lower upper activities reaches : List ℤ) (r : ℕ) (t : Told n rows lower upper activities reaches kept r) where
-  from : (j : ℕ) → j ≤ r → firstFalsified 0 (tab (rowAt n rows) 0 kept) (boxOf n lower upper) ≡ falsifiedFrom n kept rows lower upper j
-  from zero h = falsified-start n kept rows lower upper
-  from (suc j) h = rw (← add-one j) (falsified-miss n kept rows lower upper _ j (from j (omega arith)) (omega (arith, t .most)) (le-ltZ (t .before j (omega arith))))
-
-  pub told-first : hitAt conflict kept r ≡ firstFalsified 0 (tab (rowAt n rows) 0 kept) (boxOf n lower upper)
-  told-first =
-      let i = from r (omega arith) in
-      ⊎-elim
-      (λ (l : r < kept). falsified-hit n kept rows lower upper _ r i l (lt-ltZ (t .here l)))
-      (λ (l : kept ≤ r). let e : r ≡ kept = omega (arith, t .most) in rw e (falsified-end n kept rows lower upper _ r i l))
-      (lt-or-le r kept)
 
 -- ---- move 2: where the slack is no less than a variable's span, the constraint improves neither of its bounds
 pub span-quiet : (n : ℕ) (rows lower upper : List ℤ) (j i : ℕ) (a : ℤ) → a ≡ activity (rowAt n rows j) (boxOf n lower upper) →

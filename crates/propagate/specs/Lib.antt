@@ -6,3 +6,4 @@ pub mod Walk
 pub mod Bounds
 pub mod Propagation
 pub mod Ready
+pub mod Divided

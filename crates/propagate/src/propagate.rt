@@ -1,6 +1,7 @@
 // Propagation: document 01's move 2, repeated at one level.
 use crate::bounds::lower_upper;
 use crate::bounds::raise_lower;
+use crate::divided::first_indivisible;
 use crate::masks::open_mask;
 use crate::scan::Move;
 use crate::scan::first_improvement;
@@ -17,8 +18,9 @@ ghost use Rattle.state.specs.View.{keptCuts, numberFor, levelOf};
 ghost use Rattle.state.specs.Change.{held};
 ghost use Rattle.propagate.specs.Moves.{stopOf};
 ghost use Rattle.propagate.specs.Propagation.{propagation, propagationOf};
-ghost use Rattle.propagate.specs.Ready.{keptRows, Ready};
-ghost use Rattle.propagate.specs.Tracked.{Tracked, Told};
+ghost use Rattle.propagate.specs.Ready.{Ready};
+ghost use Rattle.propagate.specs.Tracked.{Tracked};
+ghost use Rattle.propagate.specs.Divided.{keptOver, Apart, Columns, Warned};
 ghost use Rattle.propagate.specs.Masks.{Masked};
 
 // Where propagation stops: at a conflict in the constraint at a position, at a decision at a variable, or at the solution.
@@ -41,9 +43,13 @@ fn decide_or_finish<'a>(lower: &'a [i64; 32], upper: &'a [i64; 32], n: usize) ->
 }
 
 // Move 2, repeated on the level in hand until the next move is a conflict, a decision or the end. `told` is the position of the first constraint that
-// the level falsifies. What is kept of each constraint follows the level; at a conflict it is stale.
+// the level falsifies. What is kept of each inequality follows the level; at a conflict it is stale. A divisor constraint is tested where a bound of one
+// of its variables is set: `columns` has those that mention each variable.
 pub fn propagate<'a>(
     rows: &'a [i64; 4224],
+    lines: &'a [i64; 4224],
+    divisors: &'a [i64; 64],
+    columns: &'a [usize; 32],
     n: usize,
     m: usize,
     made: usize,
@@ -58,8 +64,9 @@ pub fn propagate<'a>(
     reaches: &mut [i64; 128],
 ) -> Found
     requires { ⌜ Ready n m made (now rows) (held (now lower) (now upper) (now below) (now above) 0) ⌝ }
-    requires { ⌜ Told n (now rows) (now lower) (now upper) (now activities) (now reaches) (m + keptCuts made) told × Masked n m (m + keptCuts made) (now rows) (now inputs) (now cuts) ⌝ }
-    ensures { λ r. ⌜ ((d : ℕ) → propagationOf n (held (now (lower .exit)) (now (upper .exit)) (now (below .exit)) (now (above .exit)) d) r ≡ propagation (keptRows n m made (now (rows .entry))) (numberFor m made) (levelOf n (held (now (lower .entry)) (now (upper .entry)) (now (below .entry)) (now (above .entry)) d))) ⌝ }
+    requires { ⌜ Warned (keptOver n m made (now rows) (now lines) (now divisors)) n (now rows) (now lower) (now upper) (now activities) (now reaches) (m + keptCuts made) told × Masked n m (m + keptCuts made) (now rows) (now inputs) (now cuts) ⌝ }
+    requires { ⌜ Apart n m (now rows) (now lines) (now divisors) × Columns n m (now lines) (now divisors) (now columns) ⌝ }
+    ensures { λ r. ⌜ ((d : ℕ) → propagationOf n (held (now (lower .exit)) (now (upper .exit)) (now (below .exit)) (now (above .exit)) d) r ≡ propagation (keptOver n m made (now (rows .entry)) (now (lines .entry)) (now (divisors .entry))) (numberFor m made) (levelOf n (held (now (lower .entry)) (now (upper .entry)) (now (below .entry)) (now (above .entry)) d))) ⌝ }
     ensures { λ r. ⌜ Ready n m made (now (rows .entry)) (held (now (lower .exit)) (now (upper .exit)) (now (below .exit)) (now (above .exit)) 0) ⌝ }
     ensures { λ r. ⌜ (Tracked n (now (rows .entry)) (now (lower .exit)) (now (upper .exit)) (now (activities .exit)) (now (reaches .exit)) 0) × ((i : ℕ) → r ≡ Found.Decide i → Tracked n (now (rows .entry)) (now (lower .exit)) (now (upper .exit)) (now (activities .exit)) (now (reaches .exit)) (m + keptCuts made)) ⌝ }
 {
@@ -83,11 +90,15 @@ pub fn propagate<'a>(
         match better {
             Move::Lower(j, i, v) => {
                 let number = number_of(m, made, j);
-                falsified = raise_lower(rows, i, v, number, kept, lower, below, activities);
+                let first = raise_lower(rows, i, v, number, kept, lower, below, activities);
+                let due = columns[i];
+                falsified = first_indivisible(lines, divisors, due, lower, upper, n, m, first);
             }
             Move::Upper(j, i, v) => {
                 let number = number_of(m, made, j);
-                falsified = lower_upper(rows, i, v, number, kept, upper, above, activities);
+                let first = lower_upper(rows, i, v, number, kept, upper, above, activities);
+                let due = columns[i];
+                falsified = first_indivisible(lines, divisors, due, lower, upper, n, m, first);
             }
             Move::Nothing => {
                 return decide_or_finish(lower, upper, n);

@@ -131,7 +131,7 @@ pub fn ends_line(out: &mut [u8], at: usize, count: usize) -> usize
     put_last(out, at, b"ends ", count)
 }
 
-// `refused 4`: an error's number in document 01's table.
+// `refused 4`: an error's number in the documents' tables.
 pub fn refused_line(out: &mut [u8], at: usize, error: usize) -> usize
     requires { ⌜ at + longestLine ≤ length (now out) ⌝ }
     ensures { λ r. ⌜ Ends longestLine at r ⌝ }

@@ -11,7 +11,7 @@ use Rattle.model.specs.Trace.{Trace, withBlocks, lastStep, advanced, advance, j
 use Rattle.validity.proofs.States.{core-fits, sizes-fit, depth-fits}
 use Rattle.validity.specs.Valid.{Valid}
 use Rattle.validity.proofs.Steps.{step-valid, impossible}
-use Rattle.state.specs.View.{levelsFrom, coreWith, coreOf, statusOf, view}
+use Rattle.state.specs.View.{levelsFrom, coreOver, coreWith, coreOf, statusOf, view}
 use Rattle.state.specs.declared.Search.{Search}
 use Rattle.state.specs.declared.Status.{Status}
 use Rattle.state.specs.declared.Status.the-variants.{Infeasible, Solved}
@@ -43,11 +43,11 @@ pub record SizesFit (s : Search) : Type 0 where
   pub limited : s .budget ≤ 1000000000
 
 pub sizes : (s : Search) → Valid (view s) → SizesFit s
-unfolding view coreOf coreWith
+unfolding view coreOf coreOver
 sizes s v =
     let z = sizes-fit (view s) (v .tests) in
     let d : length (levelsFrom (s .n) (s .levels) (s .depth)) ≤ s .n =
-    unfold view model.depth coreOf coreWith in depth-fits (view s .core) (core-fits (view s) (v .shape) (v .tests)) in
+    unfold view model.depth coreOf coreOver in depth-fits (view s .core) (core-fits (view s) (v .shape) (v .tests)) in
     record { few = z .few; shallow = omega (arith, d, z .few, length-levels (s .n) (s .levels) (s .depth)); afford = z .conflicts; limited = z .budget }
 
 pub after-sizes : {s : model.Search} {limit : ℕ} {keep : Bool} {a : Advanced} {old now : List ℕ} → Valid s → Advances s limit keep a old now → SizesFit (a .state)

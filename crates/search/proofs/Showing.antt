@@ -20,7 +20,7 @@ use Rattle.layout.specs.Rows.{numberIn, boundsAt, boxOf}
 use Rattle.lists.proofs.Bools.{T-of}
 use Rattle.lists.proofs.Tab.{length-tab, tab-map}
 use Rattle.fields.specs.Fields.{zeros, filled}
-use Rattle.state.specs.View.{noLevel, levelOf, levelAt, coreWith, coreOf, view}
+use Rattle.state.specs.View.{noLevel, levelOf, levelAt, coreOver, coreWith, coreOf, view}
 use Rattle.state.specs.declared.Level.{Level}
 use Rattle.state.specs.declared.Search.{Search}
 use Rattle.state.proofs.Shape.{view-shaped}
@@ -45,7 +45,7 @@ unfolding levelOf boxOf lowers
 lowers-are n l = tab-map (λ (b : Bounds). b .lower) (boundsAt (l .lower) (l .upper)) 0 n ∙ (unfold boundsAt in refl)
 
 view-lowers : (s : Search) → lowers (view s .core .deepest .box) ≡ tab (numberIn (getD (s .levels) (s .depth) noLevel .lower)) 0 (s .n)
-unfolding view coreOf coreWith levelAt
+unfolding view coreOf coreOver levelAt
 view-lowers s = lowers-are (s .n) (getD (s .levels) (s .depth) noLevel)
 
 verdict-shown : (e : Ending) (s : Search) → verdictOf (caseOf e) (take (s .n) (valuesAt e s)) ≡ ok (modelVerdictOf e (view s))

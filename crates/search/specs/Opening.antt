@@ -28,6 +28,7 @@ blank =
       depth = 0;
       status = Undecided;
       rows = zeros 4224;
+      divisors = zeros 64;
       numbers = replicate 64 0;
       levels = replicate 33 blankLevel;
     }

@@ -41,6 +41,7 @@ pub fn blank() -> Search
         depth: 0,
         status: Status::Undecided,
         rows: [0; 4224],
+        divisors: [0; 64],
         numbers: [0; 64],
         levels: [level; 33],
     }

@@ -17,12 +17,13 @@ use Rattle.model.specs.Points.{points}
 use Rattle.model.specs.Step.{goOn, Outcome, step, runFor, withoutBlock, run}
 use Rattle.model.specs.Demand.{stateAfter, answerAt, Listed, withBudget, verdictWith, Steps, SameSolutions, Accepted, Demand3}
 use Rattle.format.proofs.AcceptedShape as Small
-use Rattle.format.proofs.AcceptedShape.{tests, sizes, accepted-domain, accepted-constraints, problem-shaped}
+use Rattle.format.proofs.AcceptedShape.{tests, sizes, accepted-domain, accepted-constraints, accepted-divisors, problem-shaped}
 use Rattle.integer.specs.Tests.{and-left, and-right}
 use Rattle.lists.proofs.Bools.{true-of}
 use Rattle.soundness.proofs.Sizes.{size, points-size, points-every, points-once}
 use Rattle.validity.proofs.States.{Every, Sizes, fits-shaped, fits-valid}
 use Rattle.validity.specs.Valid.{Valid}
+use Rattle.soundness.proofs.Opened.{meets-inequalities}
 use Rattle.soundness.proofs.OneStep.{Open}
 use Rattle.soundness.proofs.Runs.{ProblemFits, opened-fits, opened-open}
 use Rattle.soundness.proofs.Verdicts.{decides-with, same-verdict}
@@ -39,7 +40,12 @@ coefficients n (k ∷ ks) t =
 
 fits-of : (f : List ℕ) → Accepted f → ProblemFits (problemIn f)
 fits-of f a =
-    record { domain = accepted-domain f (a .fine); constraints = accepted-constraints f (a .fine); sizes = coefficients (variables (problemIn f)) (problemIn f .constraints) (problem-shaped f) }
+    record {
+      domain = accepted-domain f (a .fine);
+      constraints = accepted-constraints f (a .fine);
+      divisors = accepted-divisors f (a .fine);
+      sizes = coefficients (variables (problemIn f)) (problemIn f .constraints) (problem-shaped f);
+    }
 
 module _ (p : Problem) (z : Small.Sizes p) (f : ProblemFits p) where
   opened-valid : Valid (openProblem p)
@@ -90,7 +96,7 @@ module _ (p : Problem) (z : Small.Sizes p) (f : ProblemFits p) where
         counted = λ k. omega (arith, list-counted p k s v (still o), opened-conflicts);
         carried = λ k. omega (arith, list-conflicts p k s v (still o), opened-conflicts);
         bounded = λ k. omega (arith, list-few p k s v (still o), points-size (p .domain));
-        cuts = λ k x q. list-cuts p k s (z .few-variables) v (still o) x q;
+        cuts = λ k x q. list-cuts p k s (z .few-variables) v (still o) x (meets-inequalities x (p .constraints) (q .meets));
         last = e .last;
         before = e .before;
         reached = reached;

@@ -19,7 +19,9 @@ use Rattle.model.specs.Demand.{MeetsCuts}
 use Rattle.format.proofs.RecordCut.{cut-in-record}
 use Rattle.soundness.proofs.Sizes.{size}
 use Rattle.validity.proofs.Moves.{Falsifies, Finishes}
+use Rattle.validity.proofs.Constraints.{inequality-divisor}
 use Rattle.validity.proofs.States.{CoreFits}
+use Rattle.validity.proofs.Conflicts.{MeetsInequalities}
 use Rattle.validity.proofs.Descent.{EndsAt, Ended}
 use Rattle.validity.proofs.Steps.{Settled, conflict-settled, spent-or-counted}
 use Rattle.soundness.proofs.Opened.{Implied, Sound, descend-sound, finish-first, cut-implied, Backed, After, conflict-after}
@@ -44,7 +46,7 @@ pub record StepSays (p : Problem) (s : Search) (o : Outcome) : Type 0 where
   pub count : o .count ≡ o .state .conflicts
   pub few : o .state .conflicts ≤ size (p .domain)
   pub blocks : length (blockIn (o .block)) + s .conflicts ≡ o .state .conflicts
-  pub cuts : variables p ≤ maxVariables → (x : Point) → Solution p x → MeetsCuts (variables p) x (blockIn (o .block))
+  pub cuts : variables p ≤ maxVariables → (x : Point) → MeetsInequalities x (p .constraints) → MeetsCuts (variables p) x (blockIn (o .block))
   pub says : Says p s o (o .verdict)
 
 module _ (p : Problem) where
@@ -79,8 +81,8 @@ module _ (p : Problem) where
         blocks = omega arith;
         cuts = λ m y q. (
           subst (λ (k : Constraint). Meets y k)
-              (sym (cut-in-record (variables p) r m (unfold recordOf in z .learned .fits .size ∙ d .variables) (unfold recordOf in z .learned .fits .range)))
-              (unfold recordOf in cut-implied p room c j d f y (q .meets)),
+              (sym (cut-in-record (variables p) r m (unfold recordOf in z .cut .size ∙ d .variables) (unfold recordOf in z .cut .range) (unfold recordOf in inequality-divisor (x .cut) (z .inequality))))
+              (unfold recordOf in cut-implied p room c j d f y q),
           tt,
         );
         says = after-says (x .back) s (counted s x) room a refl refl refl t b h;

@@ -6,45 +6,61 @@ use mathlib.Core.Logic.{_⊎_, inl, inr, ⊎-elim}
 use mathlib.Core.Option.{Option, none, some}
 use mathlib.Core.Path.{_≡_, refl, sym, ap, subst, _∙_}
 use lib.Dec.{T}
-use lib.IntN.{ℤ}
-use lib.ListN.{getD, length, drop, length-drop}
+use lib.IntN.{ℤ, pos, zero-*ℤ}
+use lib.ListN.{getD, length, drop, replicate, length-drop}
 use native.Mathlib.Nat.{sub-zero}
-use Rattle.model.specs.Constraint.{Constraint, Box, falsified, rounded}
+use Rattle.model.specs.Constraint.{Constraint, Box, modulus, falsified, rounded}
 use Rattle.model.specs.File.{noConstraint}
 use Rattle.model.specs.Problem.{Problem, variables}
 use Rattle.model.specs.Search.{constraint, Level, Core, Status, undecided, infeasible, solved, Search, depth, levels, withLevels, withDeepest, kept, numberAt, raiseLower, lowerUpper, decideAt}
 use Rattle.model.specs.Move.{Stop, descend}
-use Rattle.model.specs.Conflict.{Conflict, analyze, numbered, backjumpLevel, backFrom, backUp, settled, conflictOf, atConflict}
-use Rattle.model.specs.Points.{Point, Inside, Meets, MeetsAll, Solution, Before, First}
+use Rattle.model.specs.Conflict.{Conflict, analyze, numbered, backjumpLevel, backFrom, backUp, settled, conflictOf, learning, nothingLearned, noLearning, conflictBy, atConflict}
+use Rattle.model.specs.Points.{Point, Inside, dot, value, Meets, MeetsAll, Solution, Before, First}
 use Rattle.model.specs.Step.{lowers}
 use Rattle.validity.proofs.Boxes.{Fixed, Ordered, Nested, nested-refl, nested-inside, set-lower-nested, set-upper-nested, set-lower-ordered, set-upper-ordered, set-lower-inside, set-upper-inside, lowers-inside, fixed-only}
 use Rattle.soundness.proofs.Sizes.{size, size-nested}
-use Rattle.validity.proofs.Constraints.{rounded-meets, fixed-meets}
+use Rattle.validity.proofs.Constraints.{Inequality, rounded-meets, fixed-meets}
 use Rattle.validity.proofs.Moves.{Clear, Falsifies, Finishes, Raises, Lowers, Decides}
 use Rattle.validity.proofs.States.{Every, CoreFits, raise-fits, lower-fits, decide-fits, deepest-ordered}
-use Rattle.validity.proofs.Conflicts.{analyze-meets, Keeps, numbered-keeps, numbered-every, Back}
+use Rattle.validity.proofs.Elements.{every-right, every-append, every-map, every-getD}
+use Rattle.validity.proofs.Conflicts.{analyze-learned, MeetsInequalities, analyze-meets, Keeps, keeps-all, numbered-keeps, numbered-every, Back, backjump-back}
 use Rattle.soundness.proofs.Remaining.{Chain, Remains, remaining, chain-ordered, chain-domain, chain-smaller, remains-smaller, remaining-smaller, chain-decided, remains-decided, remaining-decided, FalsifiedTo, RemainsAfter, remainingAfter, ChainAfter, remains-back, remaining-back, chain-back, falsified-to, remains-later}
 use Rattle.validity.proofs.Descent.{EndsAt, Ended, descend-keeps}
 use Rattle.validity.proofs.Steps.{Settled}
 
--- met by every point that meets the problem's constraints, inside the limits or not
+-- met by every point that meets the problem's inequalities, inside the limits or not
 abbrev pub Implied : Problem → Constraint → Type 0
-Implied p k = (x : Point) → MeetsAll x (p .constraints) → Meets x k
+Implied p k = (x : Point) → MeetsInequalities x (p .constraints) → Meets x k
 
 -- the state of a search from an opening of p, with at most `room` points left
 pub record Sound (p : Problem) (room : ℕ) (c : Core) : Type 0 where
   pub fits : CoreFits c
   pub variables : c .variables ≡ variables p
   pub inputs : c .inputs ≡ map rounded (p .constraints)
-  pub implied : Every (Implied p) (kept c)
+  pub implied : Every (λ k. Inequality k → Implied p k) (kept c)
   pub chain : Chain (p .domain) (c .deepest) (c .outer)
   pub cover : (x : Point) → Solution p x → Remains x (c .deepest) (c .outer)
   pub left : remaining (c .deepest) (c .outer) ≤ room
 
-pub every-at : {A : Type 0} (q : A → Type 0) (xs : List A) (j : ℕ) (d : A) → Every q xs → j < length xs → q (getD xs j d)
-every-at q [] j d e h = let z : ⊥ = omega arith in absurd z
-every-at q (x ∷ xs) zero d e h = e .0
-every-at q (x ∷ xs) (suc j) d e h = every-at q xs j d (e .1) (omega arith)
+-- ---- a solution meets what is kept: the inputs as it does the problem's constraints, the cuts as they follow from them
+pub meets-inequalities : (x : Point) (ks : List Constraint) → MeetsAll x ks → MeetsInequalities x ks
+meets-inequalities x [] m = tt
+meets-inequalities x (k ∷ ks) m = (λ e. m .0, meets-inequalities x ks (m .1))
+
+rounded-met : (x : Point) (ks : List Constraint) → MeetsAll x ks → Every (Meets x) (map rounded ks)
+rounded-met x [] m = tt
+rounded-met x (k ∷ ks) m = (rounded-meets k x .1 (m .0), rounded-met x ks (m .1))
+
+cuts-met : (p : Problem) (x : Point) (ks : List Constraint) → MeetsInequalities x (p .constraints) → Every Inequality ks → Every (λ k. Inequality k → Implied p k) ks → Every (Meets x) ks
+cuts-met p x [] m e i = tt
+cuts-met p x (k ∷ ks) m e i = (i .0 (e .0) x m, cuts-met p x ks m (e .1) (i .1))
+
+kept-met : (p : Problem) (room : ℕ) (c : Core) (x : Point) → Sound p room c → Solution p x → Every (Meets x) (kept c)
+unfolding kept
+kept-met p room c x s z =
+    every-append (Meets x) (c .inputs) (c .cuts) (rw (s .inputs) (rounded-met x (p .constraints) (z .meets)))
+    (cuts-met p x (c .cuts) (meets-inequalities x (p .constraints) (z .meets)) (s .fits .inequalities)
+    (every-right (λ k. Inequality k → Implied p k) (c .inputs) (c .cuts) (unfold kept in s .implied)))
 
 module _ (p : Problem) (room : ℕ) where
   -- a smaller box that keeps the solutions
@@ -68,7 +84,7 @@ module _ (p : Problem) (room : ℕ) where
       smaller c (raiseLower i v (constraint (numberAt c j)) (c .deepest)) s (raise-fits c j i v (s .fits) m) (unfold raiseLower in refl)
       (unfold raiseLower in set-lower-ordered i v box (chain-ordered (p .domain) (c .deepest) (c .outer) (s .chain)) (m .fits))
       (unfold raiseLower in set-lower-nested i v box (omega (arith, m .better)))
-      (λ x z q. unfold raiseLower in set-lower-inside i v box x q (m .implied x q (every-at (Implied p) (kept c) j noConstraint (s .implied) (m .constraint) x (z .meets))))
+      (λ x z q. unfold raiseLower in set-lower-inside i v box x q (m .implied x q (every-getD (Meets x) (kept c) j noConstraint (m .constraint) (kept-met p room c x s z))))
 
   sound-lower : (c : Core) (j i : ℕ) (v : ℤ) → Sound p room c → Lowers (kept c) (c .deepest .box) j i v → Sound p room (withDeepest c (lowerUpper i v (constraint (numberAt c j)) (c .deepest)))
   sound-lower c j i v s m =
@@ -76,7 +92,7 @@ module _ (p : Problem) (room : ℕ) where
       smaller c (lowerUpper i v (constraint (numberAt c j)) (c .deepest)) s (lower-fits c j i v (s .fits) m) (unfold lowerUpper in refl)
       (unfold lowerUpper in set-upper-ordered i v box (chain-ordered (p .domain) (c .deepest) (c .outer) (s .chain)) (m .fits))
       (unfold lowerUpper in set-upper-nested i v box (omega (arith, m .better)))
-      (λ x z q. unfold lowerUpper in set-upper-inside i v box x q (m .implied x q (every-at (Implied p) (kept c) j noConstraint (s .implied) (m .constraint) x (z .meets))))
+      (λ x z q. unfold lowerUpper in set-upper-inside i v box x q (m .implied x q (every-getD (Meets x) (kept c) j noConstraint (m .constraint) (kept-met p room c x s z))))
 
   sound-decide : (c : Core) (i : ℕ) → Sound p room c → Decides (kept c) (c .deepest .box) i → Sound p room (withLevels c (decideAt i (c .deepest)) (levels c))
   unfolding withLevels kept levels
@@ -96,9 +112,9 @@ module _ (p : Problem) (room : ℕ) where
   descend-sound c s = descend-keeps (Sound p room) (λ d h. deepest-ordered d (h .fits)) sound-raise sound-lower sound-decide c s
 
 -- ---- the solution
-clear-meets : (ks : List Constraint) (box : Box) → Fixed box → Ordered box → Clear ks box → Every (Meets (lowers box)) ks
-clear-meets [] box f o c = tt
-clear-meets (k ∷ ks) box f o c = (fixed-meets k box f o (c .0), clear-meets ks box f o (c .1))
+clear-meets : (ks : List Constraint) (box : Box) → Fixed box → Clear ks box → Every (Meets (lowers box)) ks
+clear-meets [] box f c = tt
+clear-meets (k ∷ ks) box f c = (fixed-meets k box f (c .0), clear-meets ks box f (c .1))
 
 -- what meets the rounded inputs meets the problem's own constraints
 inputs-met : (x : Point) (ks rest : List Constraint) → Every (Meets x) (map rounded ks ++ rest) → MeetsAll x ks
@@ -111,7 +127,7 @@ finish-first p room c s f =
     let box = c .deepest .box in
     let o = chain-ordered (p .domain) (c .deepest) (c .outer) (s .chain) in
     let here = lowers-inside box o in
-    let met = clear-meets (c .inputs ++ c .cuts) box (f .fixed) o (f .clear) in
+    let met = clear-meets (c .inputs ++ c .cuts) box (f .fixed) (f .clear) in
     record {
       solves = record {
         inside = nested-inside (lowers box) box (p .domain) (chain-domain (p .domain) (c .deepest) (c .outer) (s .chain)) here;
@@ -123,15 +139,27 @@ finish-first p room c s f =
     }
 
 -- ---- a conflict
-every-map : {A : Type 0} (q r : A → Type 0) (xs : List A) → ((x : A) → q x → r x) → Every q xs → Every r xs
-every-map q r [] f e = tt
-every-map q r (x ∷ xs) f e = (f x (e .0), every-map q r xs f (e .1))
+-- the cut follows from the problem's inequalities alone: the zero cut of a divisor constraint is met by every point
+zeros-dot : (n : ℕ) (x : Point) → dot (replicate n (pos 0)) x ≡ pos 0
+unfolding dot
+zeros-dot zero x = refl
+zeros-dot (suc n) [] = refl
+zeros-dot (suc n) (y ∷ x) = rw (zero-*ℤ y, zeros-dot n x)
 
--- the cut follows from the problem's constraints alone
+nothing-met : (n : ℕ) (x : Point) → Meets x (nothingLearned n .cut)
+unfolding nothingLearned modulus value
+nothing-met n x = rw (zeros-dot n x) (record { le = tt })
+
+cut-by : (q : ℕ) (p : Problem) (room : ℕ) (c : Core) (j : ℕ) → modulus (getD (kept c) j noConstraint) ≡ q → Sound p room c → Falsifies (kept c) (c .deepest .box) j →
+    Implied p (conflictBy q c j (getD (kept c) j noConstraint) .cut)
+unfolding conflictBy learning noLearning conflictOf
+cut-by zero p room c j e s f x m =
+    analyze-meets c j x (s .fits) (f .at) e (every-map (λ k. Inequality k → Implied p k) (λ k. Inequality k → Meets x k) (kept c) (λ k i own. i own x m) (s .implied))
+cut-by (suc q) p room c j e s f x m = nothing-met (c .variables) x
+
 pub cut-implied : (p : Problem) (room : ℕ) (c : Core) (j : ℕ) → Sound p room c → Falsifies (kept c) (c .deepest .box) j → Implied p (atConflict c j .cut)
-unfolding atConflict conflictOf
-cut-implied p room c j s f x m =
-    analyze-meets c j x (s .fits) (f .at) (every-map (Implied p) (Meets x) (kept c) (λ k i. i x m) (s .implied))
+unfolding atConflict
+cut-implied p room c j s f = cut-by (modulus (getD (kept c) j noConstraint)) p room c j refl s f
 
 -- what is left after the levels down to the first of `ds` are dropped
 record Leaves (p : Problem) (room : ℕ) (ds : List Level) : Type 0 where
@@ -139,7 +167,7 @@ record Leaves (p : Problem) (room : ℕ) (ds : List Level) : Type 0 where
   cover : (x : Point) → Solution p x → RemainsAfter x ds
   less : remainingAfter ds < room
 
-leaves : (p : Problem) (room : ℕ) (c : Core) (j : ℕ) (k : Constraint) (level : Level) (rest : List Level) → Sound p room c → Implied p k →
+leaves : (p : Problem) (room : ℕ) (c : Core) (j : ℕ) (k : Constraint) (level : Level) (rest : List Level) → Sound p room c → ((x : Point) → Solution p x → Meets x k) →
     drop j (levels c) ≡ level ∷ rest → T (falsified k (level .box)) → Leaves p room (drop j (levels c))
 unfolding levels
 leaves p room c j k level rest s i e f =
@@ -149,7 +177,7 @@ leaves p room c j k level rest s i e f =
     record {
       chain = chain-back (p .domain) j l ls (s .chain);
       cover = λ x z.
-          remains-back k x j l l ls (i x (z .meets)) refl (nested-refl (l .box)) (falsified-to (p .domain) k j l level ls rest (s .chain) e f) (s .cover x z);
+          remains-back k x j l l ls (i x z) refl (nested-refl (l .box)) (falsified-to (p .domain) k j l level ls rest (s .chain) e f) (s .cover x z);
       less = omega (arith, s .left, remaining-back (p .domain) j l l ls refl o (s .chain));
     }
 
@@ -165,7 +193,7 @@ pub record Backed (p : Problem) (room : ℕ) (c : Core) : Type 0 where
   pub sound : Sound p left c
 
 backed : (p : Problem) (room : ℕ) (n : Core) (ds : List Level) → 1 < length ds → Leaves p room ds → CoreFits (backFrom ds n) → n .variables ≡ variables p →
-    n .inputs ≡ map rounded (p .constraints) → Every (Implied p) (kept n) → Backed p room (backFrom ds n)
+    n .inputs ≡ map rounded (p .constraints) → Every (λ k. Inequality k → Implied p k) (kept n) → Backed p room (backFrom ds n)
 unfolding backFrom withLevels kept
 backed p room n [] h l f v i e = let z : ⊥ = omega arith in absurd z
 backed p room n (a ∷ []) h l f v i e = let z : ⊥ = omega arith in absurd z
@@ -190,25 +218,35 @@ dropped-many : (d : ℕ) (c : Core) → suc d ≤ depth c → 1 < length (drop (
 unfolding depth levels
 dropped-many d c h = simp length-drop (omega arith)
 
-after-back : (p : Problem) (room d : ℕ) (c : Core) (k : Constraint) → Sound p room c → Implied p k → Back k c d → CoreFits (settled d (numbered c k .core)) →
-    After p room d (settled d (numbered c k .core))
+after-back : (p : Problem) (room d : ℕ) (c n : Core) (k : Constraint) → Sound p room c → ((x : Point) → Solution p x → Meets x k) → Back k c d → Keeps c n →
+    Every (λ k. Inequality k → Implied p k) (kept n) → CoreFits (settled d n) → After p room d (settled d n)
 unfolding settled backUp
-after-back p room zero c k s i b f =
+after-back p room zero c n k s i b same e f =
     let l = leaves p room c (depth c - 0) k (b .level) (b .rest) s i (b .dropped) (b .false) in (
       λ x z. remains-none x (c .deepest) (c .outer) (unfold depth levels in subst (λ (j : ℕ). RemainsAfter x (drop j (c .deepest ∷ c .outer))) (sub-zero (length (c .outer))) (l .cover x z)),
       omega (arith, l .less),
     )
-after-back p room (suc d) c k s i b f =
-    let n = numbered c k .core in
-    let same = numbered-keeps c k in
-    let e = dropped-same (suc d) c n same in
-    backed p room n (drop (depth n - suc d) (levels n)) (rw e (dropped-many d c (b .reach)))
-    (subst (λ (ds : List Level). Leaves p room ds) (sym e) (leaves p room c (depth c - suc d) k (b .level) (b .rest) s i (b .dropped) (b .false))) f
-    (same .variables ∙ s .variables) (same .inputs ∙ s .inputs) (numbered-every (Implied p) c k (s .implied) i)
+after-back p room (suc d) c n k s i b same e f =
+    let drops = dropped-same (suc d) c n same in
+    backed p room n (drop (depth n - suc d) (levels n)) (rw drops (dropped-many d c (b .reach)))
+    (subst (λ (ds : List Level). Leaves p room ds) (sym drops) (leaves p room c (depth c - suc d) k (b .level) (b .rest) s i (b .dropped) (b .false))) f
+    (same .variables ∙ s .variables) (same .inputs ∙ s .inputs) e
+
+-- at an inequality d is the least depth that falsifies the cut, at a divisor constraint the least that falsifies the constraint; every solution meets both
+after-by : (q : ℕ) (p : Problem) (room : ℕ) (c : Core) (j : ℕ) → modulus (getD (kept c) j noConstraint) ≡ q → Sound p room c → Falsifies (kept c) (c .deepest .box) j →
+    CoreFits (conflictBy q c j (getD (kept c) j noConstraint) .core) →
+    After p room (conflictBy q c j (getD (kept c) j noConstraint) .back) (conflictBy q c j (getD (kept c) j noConstraint) .core)
+unfolding conflictBy learning noLearning conflictOf
+after-by zero p room c j e s f t =
+    let k = analyze c (getD (kept c) j noConstraint) .cut in
+    let i : Implied p k = unfold conflictBy learning noLearning conflictOf in cut-by zero p room c j e s f in
+    after-back p room (backjumpLevel k c) c (numbered c k .core) k s (λ x z. i x (meets-inequalities x (p .constraints) (z .meets))) (backjump-back k c (analyze-learned c j (s .fits) f e .false))
+    (numbered-keeps c k) (numbered-every (λ k. Inequality k → Implied p k) c k (s .implied) (λ own. i)) t
+after-by (suc q) p room c j e s f t =
+    let k = getD (kept c) j noConstraint in
+    after-back p room (backjumpLevel k c) c c k s (λ x z. every-getD (Meets x) (kept c) j noConstraint (f .at) (kept-met p room c x s z)) (backjump-back k c (f .false)) (keeps-all c) (s .implied) t
 
 pub conflict-after : (p : Problem) (room : ℕ) (c : Core) (j : ℕ) → Sound p room c → Falsifies (kept c) (c .deepest .box) j → Settled c (atConflict c j) →
     After p room (atConflict c j .back) (atConflict c j .core)
-unfolding atConflict conflictOf
-conflict-after p room c j s f t =
-    let k = analyze c (getD (kept c) j noConstraint) .cut in
-    after-back p room (backjumpLevel k c) c k s (unfold atConflict conflictOf in cut-implied p room c j s f) (t .back) (t .fits)
+unfolding atConflict
+conflict-after p room c j s f t = after-by (modulus (getD (kept c) j noConstraint)) p room c j refl s f (t .fits)

@@ -118,14 +118,14 @@ right (inr b) f = b
 pub remains-back : (k : Constraint) (x : Point) (j : ℕ) (l l₁ : Level) (ls : List Level) → Meets x k → l₁ .decided ≡ l .decided → Nested (l₁ .box) (l .box) →
     FalsifiedTo k j l ls → Remains x l₁ ls → RemainsAfter x (drop j (l ∷ ls))
 unfolding flipAt raiseLower highHalf
-remains-back k x zero l l₁ [] m e n f r = falsified-empty k x (l₁ .box) (falsified-nested k (l₁ .box) (l .box) n f) r m
+remains-back k x zero l l₁ [] m e n f r = falsified-empty k x (l .box) f (nested-inside x (l₁ .box) (l .box) n r) m
 remains-back k x zero l l₁ (o ∷ ls) m e n f r =
-    subst (λ (i : ℕ). Remains x (flipAt i o) ls) e (right r (λ h. falsified-empty k x (l₁ .box) (falsified-nested k (l₁ .box) (l .box) n f) h m))
-remains-back k x (suc zero) l l₁ [] m e n f r = falsified-empty k x (l₁ .box) (falsified-nested k (l₁ .box) (l .box) n f) r m
-remains-back k x (suc (suc j)) l l₁ [] m e n f r = falsified-empty k x (l₁ .box) (falsified-nested k (l₁ .box) (l .box) n f) r m
+    subst (λ (i : ℕ). Remains x (flipAt i o) ls) e (right r (λ h. falsified-empty k x (l .box) f (nested-inside x (l₁ .box) (l .box) n h) m))
+remains-back k x (suc zero) l l₁ [] m e n f r = falsified-empty k x (l .box) f (nested-inside x (l₁ .box) (l .box) n r) m
+remains-back k x (suc (suc j)) l l₁ [] m e n f r = falsified-empty k x (l .box) f (nested-inside x (l₁ .box) (l .box) n r) m
 remains-back k x (suc j) l l₁ (o ∷ ls) m e n f r =
     remains-back k x j o (flipAt (l₁ .decided) o) ls m refl (high-nested (l₁ .decided) (o .box)) (f .1)
-    (right r (λ h. falsified-empty k x (l₁ .box) (falsified-nested k (l₁ .box) (l .box) n (f .0)) h m))
+    (right r (λ h. falsified-empty k x (l .box) (f .0) (nested-inside x (l₁ .box) (l .box) n h) m))
 
 -- going back leaves fewer points
 pub remaining-back : (domain : Box) (j : ℕ) (l l₁ : Level) (ls : List Level) → l₁ .decided ≡ l .decided → Ordered (l₁ .box) → Chain domain l ls →
@@ -164,7 +164,7 @@ falsified-to domain k (suc (suc j)) l level [] rest c e f = impossible (cc)
 falsified-to domain k (suc j) l level (o ∷ ls) rest c e f =
     let r = falsified-to domain k j o level ls rest (c .3) e f in
     let n = nested-trans (l .box) (lowHalf (l .decided) (o .box)) (o .box) (c .1) (low-nested (l .decided) (o .box) (chain-ordered domain o ls (c .3))) in
-    (falsified-nested k (l .box) (o .box) n (falsified-top k j o ls r), r)
+    (falsified-nested k (l .box) (o .box) (c .0) n (falsified-top k j o ls r), r)
 
 -- ---- dictionary order
 above-later : (domain : Box) (i : ℕ) (o : Level) (ls : List Level) (u x : Point) → Chain domain o ls → FirstOpen i (o .box) → Inside u (lowHalf i (o .box)) →

@@ -5,22 +5,23 @@ use mathlib.Core.List.{List, [], _∷_, _++_, map}
 use mathlib.Core.Logic.{_⊎_, inl, inr, _↔_}
 use mathlib.Core.Path.{_≡_, refl, sym, ap, subst, _∙_}
 use lib.Dec.{T}
-use lib.IntN.{ℤ}
+use lib.IntN.{natAbs}
 use lib.ListN.{length, replicate, length-replicate}
 use Rattle.model.specs.Lists.{tab, allOf}
-use Rattle.model.specs.Constraint.{Constraint, inRange, rounded}
-use Rattle.model.specs.Problem.{Problem, variables, domainInRange, boundsInRange, constraintsInRange}
+use Rattle.model.specs.Constraint.{Constraint, modulus, inRange, divisorInRange, rounded}
+use Rattle.model.specs.Problem.{Problem, variables, domainInRange, boundsInRange, constraintsInRange, divisorsInRange}
 use Rattle.model.specs.Search.{noReasons, Reasons, Core, undecided, Search, kept, levels, levelOf, coreOf, openProblem}
 use Rattle.model.specs.Validity.{reasonValid, reasonsValid}
-use Rattle.model.specs.Points.{Point, Inside, MeetsAll, Solution, Before, First, points}
+use Rattle.model.specs.Points.{Point, Inside, Solution, Before, First, points}
 use Rattle.model.specs.Step.{Verdict, goOn, noSolution, outOfBudget, solution, Outcome, step, continue, runFor, withoutBlock, run}
 use Rattle.model.specs.Demand.{withBudget, verdictWith, Decides}
 use Rattle.integer.specs.Parts.{up, down, _⊑_, _⊏_, lt-in}
-use Rattle.integer.specs.Tests.{and-in, and-left, and-right}
+use Rattle.integer.specs.Tests.{and-left, and-right}
 use Rattle.validity.proofs.Boxes.{Ordered, Nested, nested-refl}
 use Rattle.soundness.proofs.Sizes.{size, points-size}
-use Rattle.validity.proofs.Constraints.{rounded-meets, rounded-length, rounded-in-range}
+use Rattle.validity.proofs.Constraints.{Inequality, rounded-meets, rounded-divisor, rounded-length, rounded-in-range}
 use Rattle.validity.proofs.States.{Every, ConstraintFits, LevelFits, CoreFits, level-ordered}
+use Rattle.validity.proofs.Conflicts.{MeetsInequalities}
 use Rattle.soundness.proofs.Opened.{Implied, Sound}
 use Rattle.soundness.proofs.OneStep.{Open, Says, StepSays, step-says}
 use Rattle.validity.proofs.Steps.{impossible}
@@ -29,6 +30,7 @@ use Rattle.validity.proofs.Steps.{impossible}
 pub record ProblemFits (p : Problem) : Type 0 where
   pub domain : T (domainInRange p)
   pub constraints : T (constraintsInRange p)
+  pub divisors : T (divisorsInRange p)
   pub sizes : Every (λ (k : Constraint). length (k .coefficients) ≡ variables p) (p .constraints)
 
 rounded-fit : (n : ℕ) (ks : List Constraint) → T (allOf inRange ks) → Every (λ (k : Constraint). length (k .coefficients) ≡ n) ks → Every (ConstraintFits n) (map rounded ks ++ [])
@@ -44,19 +46,26 @@ unfolding allOf reasonsValid reasonValid
 no-valid-reasons last zero = tt
 no-valid-reasons last (suc n) = no-valid-reasons last n
 
-rounded-implied : (p : Problem) (ks : List Constraint) → Every (Implied p) ks → Every (Implied p) (map rounded ks ++ [])
-rounded-implied p [] e = tt
-rounded-implied p (k ∷ ks) e = (λ x m. rounded-meets k x .1 (e .0 x m), rounded-implied p ks (e .1))
+rounded-divisors : (ks : List Constraint) → allOf divisorInRange (map rounded ks) ≡ allOf divisorInRange ks
+unfolding allOf divisorInRange
+rounded-divisors [] = refl
+rounded-divisors (k ∷ ks) = rw (rounded-divisor k, rounded-divisors ks)
 
-own-implied : (p : Problem) (ks : List Constraint) → ((x : Point) → MeetsAll x (p .constraints) → MeetsAll x ks) → Every (Implied p) ks
-own-implied p [] f = tt
-own-implied p (k ∷ ks) f = (λ x m. f x m .0, own-implied p ks (λ x m. f x m .1))
+-- rounding keeps the sort of a constraint, and each rounded inequality follows from its own
+rounded-implied : (p : Problem) (ks : List Constraint) → ((x : Point) → MeetsInequalities x (p .constraints) → MeetsInequalities x ks) →
+    Every (λ k. Inequality k → Implied p k) (map rounded ks ++ [])
+unfolding modulus
+rounded-implied p [] f = tt
+rounded-implied p (k ∷ ks) f =
+    (λ e x m. rounded-meets k x .1 (f x m .0 (ap natAbs (sym (rounded-divisor k)) ∙ e)), rounded-implied p ks (λ x m. f x m .1))
 
 pub opened-fits : (p : Problem) → ProblemFits p → CoreFits (coreOf p)
-unfolding coreOf levelOf kept levels tab variables domainInRange constraintsInRange
+unfolding coreOf levelOf kept levels tab variables domainInRange constraintsInRange divisorsInRange
 opened-fits p f =
     record {
       constraints = rounded-fit (length (p .domain)) (p .constraints) (f .constraints) (f .sizes);
+      divisors = rw (rounded-divisors (p .constraints)) (f .divisors);
+      inequalities = tt;
       cuts = omega arith;
       numbers = refl;
       levels = (record { box = refl; reasons = length-replicate (length (p .domain)) noReasons; range = f .domain; valid-reasons = no-valid-reasons (length (map rounded (p .constraints)) + 0) (length (p .domain)) }, tt);
@@ -73,7 +82,7 @@ opened-open p f =
         fits = c;
         variables = refl;
         inputs = refl;
-        implied = rounded-implied p (p .constraints) (own-implied p (p .constraints) (λ x m. m));
+        implied = rounded-implied p (p .constraints) (λ x m. m);
         chain = (level-ordered _ _ (levelOf p) (c .levels .0), nested-refl (p .domain));
         cover = λ x z. z .inside;
         left = omega arith;

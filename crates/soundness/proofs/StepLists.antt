@@ -11,11 +11,12 @@ use Rattle.model.specs.Ranges.{maxVariables}
 use Rattle.model.specs.Problem.{Problem, variables, Result, ok, error}
 use Rattle.model.specs.Search.{Status, undecided, infeasible, solved, Search}
 use Rattle.model.specs.Validity.{valid}
-use Rattle.model.specs.Points.{Point, Solution}
+use Rattle.model.specs.Points.{Point}
 use Rattle.model.specs.Step.{Verdict, goOn, noSolution, outOfBudget, solution, Outcome, blockIn, lowers, again, stepBy, step, continue, runFor, checked, stepCall}
 use Rattle.model.specs.Demand.{after, stateAfter, answerAt, blocksIn, journal, MeetsCuts}
 use Rattle.soundness.proofs.Sizes.{size}
 use Rattle.validity.specs.Valid.{Valid}
+use Rattle.validity.proofs.Conflicts.{MeetsInequalities}
 use Rattle.validity.proofs.Steps.{step-valid, impossible}
 use Rattle.soundness.proofs.OneStep.{Open, Says, StepSays, step-says}
 
@@ -109,7 +110,7 @@ pub record Stepped (p : Problem) (s : Search) : Type 0 where
   count : step s .count ≡ step s .state .conflicts
   few : step s .state .conflicts ≤ size (p .domain)
   blocks : length (blockIn (step s .block)) + s .conflicts ≡ step s .state .conflicts
-  cuts : variables p ≤ maxVariables → (x : Point) → Solution p x → MeetsCuts (variables p) x (blockIn (step s .block))
+  cuts : variables p ≤ maxVariables → (x : Point) → MeetsInequalities x (p .constraints) → MeetsCuts (variables p) x (blockIn (step s .block))
 
 pub stepped : (p : Problem) (s : Search) → Reached p s → Stepped p s
 unfolding blockIn
@@ -172,7 +173,8 @@ cuts-append : (n : ℕ) (x : Point) (a b : List (List ℕ)) → MeetsCuts n x a 
 cuts-append n x [] b h g = g
 cuts-append n x (c ∷ a) b h g = (h .0, cuts-append n x a b (h .1) g)
 
-pub list-cuts : (p : Problem) (k : ℕ) (s : Search) → variables p ≤ maxVariables → Valid s → Reached p s → (x : Point) → Solution p x → MeetsCuts (variables p) x (journal k s)
+-- every point that meets the problem's inequalities meets every cut, inside the limits or not
+pub list-cuts : (p : Problem) (k : ℕ) (s : Search) → variables p ≤ maxVariables → Valid s → Reached p s → (x : Point) → MeetsInequalities x (p .constraints) → MeetsCuts (variables p) x (journal k s)
 unfolding journal
 list-cuts p zero s m v r x z = tt
 list-cuts p (suc k) s m v r x z =

@@ -7,7 +7,7 @@ use mathlib.Core.Path.{_≡_, refl, sym, ap, subst}
 use lib.IntN.{ℤ}
 use lib.Signed.{_<ℤ_}
 use Rattle.model.specs.Constraint.{Constraint}
-use Rattle.model.specs.Problem.{Problem, variables, domainInRange, constraintsInRange}
+use Rattle.model.specs.Problem.{Problem, variables, domainInRange, constraintsInRange, divisorsInRange}
 use Rattle.model.specs.Points.{Point, Solution, Before, First, points}
 use Rattle.model.specs.Search.{openProblem}
 use Rattle.model.specs.Step.{Verdict, goOn, noSolution, outOfBudget, solution, run}
@@ -63,8 +63,8 @@ unfolding withBudget
 budget-same p b x = (λ z. record { inside = z .inside; meets = z .meets }, λ z. record { inside = z .inside; meets = z .meets })
 
 budget-fits : (p : Problem) (b : ℕ) → ProblemFits p → ProblemFits (withBudget p b)
-unfolding withBudget domainInRange constraintsInRange variables
-budget-fits p b f = record { domain = f .domain; constraints = f .constraints; sizes = f .sizes }
+unfolding withBudget domainInRange constraintsInRange divisorsInRange variables
+budget-fits p b f = record { domain = f .domain; constraints = f .constraints; divisors = f .divisors; sizes = f .sizes }
 
 budget-right : (p : Problem) (b : ℕ) → ProblemFits p → Right (withBudget p b) (verdictWith p b)
 unfolding verdictWith

@@ -11,23 +11,46 @@ use lib.Seq.{getD-set-same, getD-set-other}
 use Rattle.model.specs.Lists.{tab}
 use Rattle.model.specs.Constraint.{Constraint}
 use Rattle.model.specs.Search as model
-use Rattle.lists.proofs.Tab.{length-tab, tab-append}
-use Rattle.layout.specs.Rows.{rowAt}
-use Rattle.state.specs.View.{levelOf, noLevel, levelAt, levelsFrom, keptCuts, numberFor, coreWith}
+use borrow.Author.Tests.{lt-ltb, le-ltb}
+use Rattle.lists.proofs.Tab.{length-tab, tab-append, tab-ext, tab-ext-0}
+use Rattle.layout.specs.Rows.{constraintAt, rowAt, dividedAt, inputAt}
+use Rattle.state.specs.View.{levelOf, noLevel, levelAt, levelsFrom, keptCuts, numberFor, divisorFor, keptAt, coreOver, coreWith}
 use Rattle.state.specs.declared.Level.{Level}
 use Rattle.state.specs.declared.Search.{Search}
 
 -- the kept constraints are one table of rows
 pub kept-rows : (n m made : ℕ) (rows : List ℤ) (numbers : List ℕ) (l : model.Level) (ls : List model.Level) →
     model.kept (coreWith n m made rows numbers l ls) ≡ tab (rowAt n rows) 0 (m + keptCuts made)
-unfolding model.kept coreWith
+unfolding model.kept coreOver
 kept-rows n m made rows numbers l ls = let e : 0 + m ≡ m = omega arith in sym (tab-append (rowAt n rows) 0 m (keptCuts made) ∙ rw e)
 
 -- the numbers of the kept constraints are the model's
+pub number-over : (inputs : List Constraint) (n m made : ℕ) (rows : List ℤ) (numbers : List ℕ) (l : model.Level) (ls : List model.Level) → length inputs ≡ m →
+    model.numberAt (coreOver inputs n m made rows numbers l ls) ≡ numberFor m made
+unfolding model.numberAt model.dropped coreOver numberFor
+number-over inputs n m made rows numbers l ls e = fun-ext (λ p. rw e)
+
 pub number-at : (n m made : ℕ) (rows : List ℤ) (numbers : List ℕ) (l : model.Level) (ls : List model.Level) →
     model.numberAt (coreWith n m made rows numbers l ls) ≡ numberFor m made
-unfolding model.numberAt model.dropped coreWith numberFor
-number-at n m made rows numbers l ls = fun-ext (λ p. rw (length-tab (rowAt n rows) 0 m))
+number-at n m made rows numbers l ls = number-over (tab (rowAt n rows) 0 m) n m made rows numbers l ls (length-tab (rowAt n rows) 0 m)
+
+-- ---- the kept constraints of inputs with their divisors
+input-kept : (n m : ℕ) (rows divisors : List ℤ) (j : ℕ) → j < m → inputAt n rows divisors j ≡ keptAt n m rows divisors j
+unfolding inputAt keptAt divisorFor
+input-kept n m rows divisors j h = rw (lt-ltb j m h)
+
+pub cut-kept : (n m : ℕ) (rows divisors : List ℤ) (j : ℕ) → m ≤ j → rowAt n rows j ≡ keptAt n m rows divisors j
+unfolding rowAt constraintAt dividedAt keptAt divisorFor
+cut-kept n m rows divisors j h = rw (le-ltb j m h)
+
+pub kept-over : (n m made : ℕ) (rows divisors : List ℤ) (numbers : List ℕ) (l : model.Level) (ls : List model.Level) →
+    model.kept (coreOver (tab (inputAt n rows divisors) 0 m) n m made rows numbers l ls) ≡ tab (keptAt n m rows divisors) 0 (m + keptCuts made)
+unfolding model.kept coreOver
+kept-over n m made rows divisors numbers l ls =
+    let e : 0 + m ≡ m = omega arith in
+    ap₂ _++_ (tab-ext-0 (inputAt n rows divisors) (keptAt n m rows divisors) m (λ j h. input-kept n m rows divisors j h))
+    (tab-ext (rowAt n rows) (keptAt n m rows divisors) m (keptCuts made) (λ j h l. cut-kept n m rows divisors j h)) ∙
+    sym (tab-append (keptAt n m rows divisors) 0 m (keptCuts made) ∙ rw e)
 
 -- ---- levels by depth
 pub level-here : (n : ℕ) (levels : List Level) (d : ℕ) (l : Level) → d < length levels → levelAt n (set levels d l) d ≡ levelOf n l

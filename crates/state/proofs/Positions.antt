@@ -12,7 +12,7 @@ use Rattle.model.specs.Ranges.{maxConstraints, maxCuts}
 use Rattle.model.specs.Search.{dropped, keptNumber}
 use Rattle.lists.proofs.Tab.{length-tab}
 use Rattle.layout.specs.Rows.{rowAt}
-use Rattle.state.specs.View.{keptCuts, coreWith}
+use Rattle.state.specs.View.{keptCuts, coreOver, coreWith}
 use Rattle.state.specs.Position.{absent, constraintIn, PositionOf}
 
 -- ---- an element that may be missing
@@ -43,7 +43,7 @@ module _ (m made : ℕ) where
   position-zero = record { most = omega arith; inside = λ h. absurd (omega arith); found = λ n rows numbers l ls. sym (at-absent n rows) }
 
   pub position-input : (number : ℕ) → m ≤ maxConstraints → 0 < number → number ≤ m → PositionOf m made number (number - 1)
-  unfolding keptNumber coreWith
+  unfolding keptNumber coreOver
   position-input zero few p h = absurd (omega arith)
   position-input (suc k) few p h =
       let e : suc k - 1 ≡ k = omega arith in
@@ -55,7 +55,7 @@ module _ (m made : ℕ) where
       }
 
   pub position-dropped : (number : ℕ) → m < number → number ≤ m + (made - maxCuts) → PositionOf m made number absent
-  unfolding keptNumber coreWith dropped
+  unfolding keptNumber coreOver dropped
   position-dropped zero p h = absurd (omega arith)
   position-dropped (suc k) p h =
       record {
@@ -65,7 +65,7 @@ module _ (m made : ℕ) where
       }
 
   pub position-cut : (number : ℕ) → m ≤ maxConstraints → m + (made - maxCuts) < number → number ≤ m + made → PositionOf m made number (number - (made - maxCuts) - 1)
-  unfolding keptNumber coreWith dropped keptCuts
+  unfolding keptNumber coreOver dropped keptCuts
   position-cut zero few p h = absurd (omega arith)
   position-cut (suc k) few p h =
       let e : suc k - (made - maxCuts) - 1 ≡ m + (k - (m + (made - maxCuts))) = omega arith in
@@ -78,7 +78,7 @@ module _ (m made : ℕ) where
       }
 
   pub position-beyond : (number : ℕ) → m + made < number → PositionOf m made number absent
-  unfolding keptNumber coreWith dropped keptCuts
+  unfolding keptNumber coreOver dropped keptCuts
   position-beyond zero p = absurd (omega arith)
   position-beyond (suc k) p =
       record {

@@ -9,19 +9,19 @@ use lib.IntN.{ℤ}
 use lib.ListN.{length}
 use Rattle.model.specs.Lists.{tab, all, allOf}
 use Rattle.model.specs.Ranges.{maxCuts}
-use Rattle.model.specs.Constraint.{Constraint}
+use Rattle.model.specs.Constraint.{Constraint, modulus, isInequality}
 use Rattle.model.specs.Search as model
 use Rattle.model.specs.Validity.{levelShaped, constraintShaped, shaped}
 use Rattle.lists.proofs.Bools.{true-of, T-of, and-both}
 use Rattle.lists.proofs.Tab.{length-tab}
 use Rattle.lists.proofs.All.{all-of}
 use Rattle.lists.proofs.AllOf.{allOf-tab}
-use Rattle.layout.specs.Rows.{constraintAt, rowAt, rowLength, boxOf, boundsAt}
+use Rattle.layout.specs.Rows.{constraintAt, rowAt, dividedAt, rowLength, boxOf, boundsAt}
 use Rattle.layout.proofs.Rows.{length-box, length-coefficients}
-use Rattle.state.specs.View.{reasonsIn, levelOf, noLevel, levelAt, levelsFrom, keptCuts, coreWith, coreOf}
+use Rattle.state.specs.View.{reasonsIn, levelOf, noLevel, levelAt, levelsFrom, keptCuts, keptAt, coreOver, inputsOf, coreOf}
 use Rattle.state.specs.declared.Level.{Level}
 use Rattle.state.specs.declared.Search.{Search}
-use Rattle.state.proofs.Cores.{kept-rows}
+use Rattle.state.proofs.Cores.{kept-over}
 
 same : (m n : ℕ) → m ≡ n → eqb m n ≡ true
 same m n e = subst (λ (k : ℕ). eqb m k ≡ true) e (true-of (eqb m m) (eqb-refl m))
@@ -35,18 +35,24 @@ unfolding allOf levelsFrom levelAt
 levels-shaped n levels zero = refl
 levels-shaped n levels (suc d) = and-both (level-shaped n _) (levels-shaped n levels d)
 
-rows-shaped : (n : ℕ) (rows : List ℤ) (count : ℕ) → allOf (constraintShaped n) (tab (rowAt n rows) 0 count) ≡ true
-unfolding constraintShaped rowAt
-rows-shaped n rows count =
-    allOf-tab (constraintShaped n) (rowAt n rows) 0 count ∙
-    all-of (λ j. constraintShaped n (rowAt n rows j)) count (λ j h. same _ n (length-coefficients n rows (rowLength * j)))
+kept-shaped : (n m : ℕ) (rows divisors : List ℤ) (count : ℕ) → allOf (constraintShaped n) (tab (keptAt n m rows divisors) 0 count) ≡ true
+unfolding constraintShaped keptAt dividedAt
+kept-shaped n m rows divisors count =
+    allOf-tab (constraintShaped n) (keptAt n m rows divisors) 0 count ∙
+    all-of (λ j. constraintShaped n (keptAt n m rows divisors j)) count (λ j h. same _ n (unfold constraintAt in length-coefficients n rows (rowLength * j)))
+
+rows-plain : (n : ℕ) (rows : List ℤ) (i count : ℕ) → allOf isInequality (tab (rowAt n rows) i count) ≡ true
+unfolding allOf tab isInequality modulus rowAt constraintAt
+rows-plain n rows i zero = refl
+rows-plain n rows i (suc count) = rows-plain n rows (suc i) count
 
 pub view-shaped : (s : Search) → T (shaped (coreOf s))
-unfolding shaped coreOf coreWith all
+unfolding shaped coreOf coreOver all
 view-shaped s =
     let n = s .n in
     let c = coreOf s in
-    let levels : allOf (levelShaped n) (model.levels c) ≡ true = unfold coreOf coreWith model.levels allOf levelAt in and-both (level-shaped n _) (levels-shaped n (s .levels) (s .depth)) in
-    let constraints : allOf (constraintShaped n) (model.kept c) ≡ true = unfold coreOf in rw kept-rows (rows-shaped n (s .rows) (s .m + keptCuts (s .made))) in
-    let cuts : eqb (length (c .cuts)) (min (c .made) maxCuts) ≡ true = unfold coreOf coreWith keptCuts in same _ _ (length-tab (rowAt n (s .rows)) (s .m) (min (s .made) maxCuts)) in
-    T-of (and-both levels (and-both constraints (and-both cuts refl)))
+    let levels : allOf (levelShaped n) (model.levels c) ≡ true = unfold coreOf coreOver model.levels allOf levelAt in and-both (level-shaped n _) (levels-shaped n (s .levels) (s .depth)) in
+    let constraints : allOf (constraintShaped n) (model.kept c) ≡ true = unfold coreOf inputsOf in rw kept-over (kept-shaped n (s .m) (s .rows) (s .divisors) (s .m + keptCuts (s .made))) in
+    let plain : allOf isInequality (c .cuts) ≡ true = unfold coreOf coreOver in rows-plain n (s .rows) (s .m) (keptCuts (s .made)) in
+    let cuts : eqb (length (c .cuts)) (min (c .made) maxCuts) ≡ true = unfold coreOf coreOver keptCuts in same _ _ (length-tab (rowAt n (s .rows)) (s .m) (min (s .made) maxCuts)) in
+    T-of (and-both levels (and-both constraints (and-both plain (and-both cuts refl))))

@@ -1,15 +1,16 @@
 -- The view of a search state: what the model's definitions say of it. It drops what stands past n, m, the kept cuts and the depth, and keeps the
 -- sizes as they are, so that a made-up m of 1000 is seen as such.
-use Prim.Native.Nat.{ℕ, zero, suc, _+_, _-_, _^_, min}
+use Prim.Native.Nat.{ℕ, zero, suc, _+_, _*_, _-_, _^_, min}
 use mathlib.Core.Bool.{cond}
 use mathlib.Core.List.{List, [], _∷_}
 use lib.Dec.{eqb, ltb}
-use lib.IntN.{ℤ}
+use lib.IntN.{ℤ, pos}
 use lib.ListN.{getD}
 use Rattle.model.specs.Lists.{tab}
 use Rattle.model.specs.Ranges.{maxCuts}
+use Rattle.model.specs.Constraint.{Constraint}
 use Rattle.model.specs.Search as model
-use Rattle.layout.specs.Rows.{rowAt, boxOf}
+use Rattle.layout.specs.Rows.{rowLength, numberIn, rowAt, dividedAt, inputAt, boxOf}
 use Rattle.state.specs.declared.Level.{Level}
 use Rattle.state.specs.declared.Search.{Search}
 use Rattle.state.specs.declared.Status.{Status}
@@ -63,15 +64,23 @@ droppedCuts made = made - maxCuts
 unfoldable pub numberFor : ℕ → ℕ → ℕ → ℕ
 numberFor m made p = cond (ltb p m) (suc p) (suc (p + droppedCuts made))
 
+-- the divisor of the kept constraint at position p
+unfoldable pub divisorFor : ℕ → List ℤ → ℕ → ℤ
+divisorFor m divisors p = cond (ltb p m) (numberIn divisors p) (pos 0)
+
+-- the kept constraint at position p
+unfoldable pub keptAt : ℕ → ℕ → List ℤ → List ℤ → ℕ → Constraint
+keptAt n m rows divisors p = dividedAt n rows (rowLength * p) (divisorFor m divisors p)
+
 unfoldable pub storedNumber : List ℕ → ℕ → ℕ
 storedNumber numbers p = getD numbers p 0
 
--- a state's core from its parts: sizes, rows, stored numbers, the deepest level and those above it
-unfoldable pub coreWith : ℕ → ℕ → ℕ → List ℤ → List ℕ → model.Level → List model.Level → model.Core
-coreWith n m made rows numbers deepest outer =
+-- a state's core from its parts: the inputs, sizes, the rows of the cuts, stored numbers, the deepest level and those above it
+unfoldable pub coreOver : List Constraint → ℕ → ℕ → ℕ → List ℤ → List ℕ → model.Level → List model.Level → model.Core
+coreOver inputs n m made rows numbers deepest outer =
     record {
       variables = n;
-      inputs = tab (rowAt n rows) 0 m;
+      inputs = inputs;
       cuts = tab (rowAt n rows) m (keptCuts made);
       numbers = tab (storedNumber numbers) 0 (keptCuts made);
       made = made;
@@ -79,8 +88,15 @@ coreWith n m made rows numbers deepest outer =
       outer = outer;
     }
 
+-- where no input carries a divisor
+abbrev pub coreWith : ℕ → ℕ → ℕ → List ℤ → List ℕ → model.Level → List model.Level → model.Core
+coreWith n m made rows numbers deepest outer = coreOver (tab (rowAt n rows) 0 m) n m made rows numbers deepest outer
+
+unfoldable pub inputsOf : Search → List Constraint
+inputsOf s = tab (inputAt (s .n) (s .rows) (s .divisors)) 0 (s .m)
+
 unfoldable pub coreOf : Search → model.Core
-coreOf s = coreWith (s .n) (s .m) (s .made) (s .rows) (s .numbers) (levelAt (s .n) (s .levels) (s .depth)) (levelsFrom (s .n) (s .levels) (s .depth))
+coreOf s = coreOver (inputsOf s) (s .n) (s .m) (s .made) (s .rows) (s .numbers) (levelAt (s .n) (s .levels) (s .depth)) (levelsFrom (s .n) (s .levels) (s .depth))
 
 unfoldable pub view : Search → model.Search
 view s = record { core = coreOf s; budget = s .budget; conflicts = s .conflicts; status = statusOf (s .status) }

@@ -5,7 +5,7 @@ ghost use mathlib.Core.Path.{_≡_};
 ghost use Prim.Native.Nat.{_+_, _≤_, _<_};
 ghost use Rattle.model.specs.Ranges.{maxConstraints, maxCuts, maxBudget};
 ghost use Rattle.layout.specs.Rows.{maxRows};
-ghost use Rattle.state.specs.View.{keptCuts, droppedCuts, numberFor};
+ghost use Rattle.state.specs.View.{keptCuts, droppedCuts, divisorFor, numberFor};
 ghost use Rattle.state.specs.Position.{PositionOf};
 
 // The position of a constraint that is not kept: there are fewer rows.
@@ -37,6 +37,17 @@ pub fn dropped(made: usize) -> usize
         return 0;
     }
     made - MAX_CUTS
+}
+
+// The divisor of the kept constraint at position j: a cut has none.
+pub fn divisor_of(divisors: &[i64; 64], m: usize, j: usize) -> i64
+    requires { ⌜ m ≤ maxConstraints ⌝ }
+    ensures { λ r. ⌜ r ≡ divisorFor m (now (divisors .entry)) j ⌝ }
+{
+    if j < m {
+        return divisors[j];
+    }
+    0
 }
 
 // The number of the kept constraint at position j.

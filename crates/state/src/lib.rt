@@ -27,8 +27,8 @@ pub enum Status {
     Solved,
 }
 
-// The search state. A row of `rows` is 33 numbers, the constant first; rows 0 to m - 1 are the input constraints, and the kept cuts follow, oldest
-// first, with their numbers in `numbers`. What stands past n, m, the kept cuts and the depth is not read.
+// The search state. A row of `rows` is 33 numbers, the constant first; rows 0 to m - 1 are the input constraints, whose divisors stand in `divisors`, 0
+// for an inequality; the kept cuts follow, oldest first, with their numbers in `numbers`. What stands past n, m, the kept cuts and the depth is not read.
 pub struct Search {
     pub n: usize,
     pub m: usize,
@@ -38,6 +38,7 @@ pub struct Search {
     pub depth: usize,
     pub status: Status,
     pub rows: [i64; 4224],
+    pub divisors: [i64; 64],
     pub numbers: [usize; 64],
     pub levels: [Level; 33],
 }

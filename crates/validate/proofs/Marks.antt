@@ -11,18 +11,18 @@ use mir.Val.{SFits}
 use mir.Facts.{toZ-ofZ}
 use Rattle.model.specs.Lists.{tab, anyOf}
 use Rattle.model.specs.Search as model
-use Rattle.model.specs.Constraint.{Constraint, Box}
-use Rattle.model.specs.Validity.{isOpen, falsifies, anyFalsified, outermost, statusValid}
-use Rattle.layout.specs.Rows.{numberIn, rowAt, boundsAt, boxOf}
-use Rattle.state.specs.View.{levelOf, noLevel, levelAt, levelsFrom, statusOf, keptCuts, coreWith, coreOf}
+use Rattle.model.specs.Constraint.{Constraint, Box, isOpen}
+use Rattle.model.specs.Validity.{falsifies, anyFalsified, outermost, statusValid}
+use Rattle.layout.specs.Rows.{numberIn, boundsAt, boxOf}
+use Rattle.state.specs.View.{levelOf, noLevel, levelAt, levelsFrom, statusOf, keptCuts, keptAt, coreOver, coreOf}
 use Rattle.state.specs.declared.Level.{Level}
 use Rattle.state.specs.declared.Search.{Search}
 use Rattle.state.specs.declared.Status.{Status}
 use Rattle.state.specs.declared.Status.the-variants.{Undecided, Infeasible, Solved}
-use Rattle.state.proofs.Cores.{kept-rows}
 use Rattle.validate.specs.Marks.{markValid}
 use Rattle.lists.proofs.Loops.{some-none, some-more, some-end, some-found}
 use Rattle.layout.proofs.Elements.{back}
+use Rattle.validate.proofs.Views.{kept-view}
 
 -- ---- open variables
 module _ (lower upper : List ℤ) where
@@ -70,23 +70,23 @@ outermost-is n levels zero = refl
 outermost-is n levels (suc d) = outermost-is n levels d
 
 module _ (s : Search) (count : ℕ) (k : count ≡ s .m + keptCuts (s .made)) where
-  falsified-in : (l : Level) → anyFalsified (coreOf s) (levelOf (s .n) l) ≡ anyOf (falsifies (boxOf (s .n) (l .lower) (l .upper))) (tab (rowAt (s .n) (s .rows)) 0 count)
-  unfolding anyFalsified levelOf coreOf
-  falsified-in l = rw (kept-rows (s .n) (s .m) (s .made) (s .rows) (s .numbers) (levelAt (s .n) (s .levels) (s .depth)) (levelsFrom (s .n) (s .levels) (s .depth)), k)
+  falsified-in : (l : Level) → anyFalsified (coreOf s) (levelOf (s .n) l) ≡ anyOf (falsifies (boxOf (s .n) (l .lower) (l .upper))) (tab (keptAt (s .n) (s .m) (s .rows) (s .divisors)) 0 count)
+  unfolding anyFalsified levelOf
+  falsified-in l = rw (kept-view s, k)
 
   module _ (o l : Level) (v : o ≡ getD (s .levels) 0 noLevel) (w : l ≡ getD (s .levels) (s .depth) noLevel) where
     outer-is : outermost (coreOf s .deepest) (coreOf s .outer) ≡ levelOf (s .n) o
-    unfolding coreOf coreWith levelAt
+    unfolding coreOf coreOver levelAt
     outer-is = outermost-is (s .n) (s .levels) (s .depth) ∙ ap (levelOf (s .n)) (sym v)
 
     deepest-is : coreOf s .deepest ≡ levelOf (s .n) l
-    unfolding coreOf coreWith levelAt
+    unfolding coreOf coreOver levelAt
     deepest-is = ap (levelOf (s .n)) (sym w)
 
     solved-in : model.Level → Bool
     solved-in d = not (anyOf isOpen (d .box)) && not (anyFalsified (coreOf s) d)
 
-    pub mark-view : (m : model.Status) → statusValid (coreOf s) m ≡ markValid m (tab (rowAt (s .n) (s .rows)) 0 count) (boxOf (s .n) (o .lower) (o .upper)) (boxOf (s .n) (l .lower) (l .upper))
+    pub mark-view : (m : model.Status) → statusValid (coreOf s) m ≡ markValid m (tab (keptAt (s .n) (s .m) (s .rows) (s .divisors)) 0 count) (boxOf (s .n) (o .lower) (o .upper)) (boxOf (s .n) (l .lower) (l .upper))
     unfolding statusValid markValid solved-in
     mark-view model.undecided = refl
     mark-view model.infeasible = ap (anyFalsified (coreOf s)) outer-is ∙ falsified-in o

@@ -7,13 +7,13 @@ use lib.ListN.{getD}
 use borrow.Author.Tests.{not-true, not-false}
 use Rattle.model.specs.Lists.{tab, all, allOf}
 use Rattle.model.specs.Ranges.{maxCuts}
-use Rattle.model.specs.Constraint.{inRange}
+use Rattle.model.specs.Constraint.{inRange, divisorInRange}
 use Rattle.model.specs.Validity.{levelValid, statusValid, valid}
 use Rattle.lists.proofs.Bools.{said-yes}
 use Rattle.layout.specs.Rows.{rowAt, boxOf}
 use Rattle.linear.specs.Ranges.{BoxFits}
 use Rattle.state.specs.Change.{Whole}
-use Rattle.state.specs.View.{levelOf, noLevel, keptCuts, statusOf, coreOf, view}
+use Rattle.state.specs.View.{levelOf, noLevel, keptCuts, keptAt, statusOf, inputsOf, coreOf, view}
 use Rattle.state.specs.declared.Level.{Level}
 use Rattle.state.specs.declared.Search.{Search}
 use Rattle.validate.specs.Sizes.{sizesValid}
@@ -23,7 +23,7 @@ use Rattle.validate.proofs.Sizes.{Sized, sized}
 use Rattle.validate.proofs.Numbers.{numbersTo}
 use Rattle.validate.proofs.LevelLoops.{level-fits, levelsTo, levels-none, levels-more, levels-fail, nestedTo, nested-none, nested-more, nested-fail}
 use Rattle.validate.proofs.Marks.{mark-view}
-use Rattle.validate.proofs.Views.{sizes-view, constraints-view, numbers-view, levels-view, nested-view}
+use Rattle.validate.proofs.Views.{sizes-view, constraints-view, divisors-view, numbers-view, levels-view, nested-view}
 
 sizesOf : Search → Bool
 sizesOf s = sizesValid (s .n) (s .m) (s .budget) (s .conflicts) (s .made) (s .depth)
@@ -37,12 +37,12 @@ tests : Search → Bool
 tests s =
     sizesOf s &&
     (allOf inRange (tab (rowAt (s .n) (s .rows)) 0 (s .m + keptCuts (s .made))) &&
-    (numbersTo (s .numbers) (s .m + (s .made - maxCuts) + 1) (keptCuts (s .made)) && levelTests s))
+    (allOf divisorInRange (inputsOf s) && (numbersTo (s .numbers) (s .m + (s .made - maxCuts) + 1) (keptCuts (s .made)) && levelTests s)))
 
 tests-view : (s : Search) → valid (view s) ≡ tests s
 unfolding valid all view tests sizesOf levelTests
 tests-view s =
-    rw (sizes-view s, constraints-view s, numbers-view s, levels-view s, nested-view s, and-one (statusValid (coreOf s) (statusOf (s .status))))
+    rw (sizes-view s, constraints-view s, divisors-view s, numbers-view s, levels-view s, nested-view s, and-one (statusValid (coreOf s) (statusOf (s .status))))
 
 module _ (s : Search) (r₁ : Bool) (t₁ : r₁ ≡ sizesValid (s .n) (s .m) (s .budget) (s .conflicts) (s .made) (s .depth)) where
   pub refuse-sizes : not r₁ ≡ true → false ≡ valid (view s)
@@ -58,14 +58,19 @@ module _ (s : Search) (r₁ : Bool) (t₁ : r₁ ≡ sizesValid (s .n) (s .m) (s
       unfolding tests sizesOf
       refuse-constraints h = rw (tests-view s, ← t₁, not-false r₁ h₁, ← e, ← t₂, not-true r₂ h)
 
-      module _ (h₂ : not r₂ ≡ false) (d : ℕ) (f : d ≡ s .made - maxCuts) (r₃ : Bool) (t₃ : r₃ ≡ numbersTo (s .numbers) (s .m + d + 1) k) where
-        pub refuse-numbers : not r₃ ≡ true → false ≡ valid (view s)
+      module _ (h₂ : not r₂ ≡ false) (r₃ : Bool) (t₃ : r₃ ≡ allOf divisorInRange (inputsOf s)) where
+        pub refuse-divisors : not r₃ ≡ true → false ≡ valid (view s)
         unfolding tests sizesOf
-        refuse-numbers h = rw (tests-view s, ← t₁, not-false r₁ h₁, ← e, ← t₂, not-false r₂ h₂, ← f, ← t₃, not-true r₃ h)
+        refuse-divisors h = rw (tests-view s, ← t₁, not-false r₁ h₁, ← e, ← t₂, not-false r₂ h₂, ← t₃, not-true r₃ h)
 
-        pub rows-passed : not r₃ ≡ false → valid (view s) ≡ levelTests s
-        unfolding tests sizesOf
-        rows-passed h = rw (tests-view s, ← t₁, not-false r₁ h₁, ← e, ← t₂, not-false r₂ h₂, ← f, ← t₃, not-false r₃ h)
+        module _ (h₃ : not r₃ ≡ false) (d : ℕ) (f : d ≡ s .made - maxCuts) (r₄ : Bool) (t₄ : r₄ ≡ numbersTo (s .numbers) (s .m + d + 1) k) where
+          pub refuse-numbers : not r₄ ≡ true → false ≡ valid (view s)
+          unfolding tests sizesOf
+          refuse-numbers h = rw (tests-view s, ← t₁, not-false r₁ h₁, ← e, ← t₂, not-false r₂ h₂, ← t₃, not-false r₃ h₃, ← f, ← t₄, not-true r₄ h)
+
+          pub rows-passed : not r₄ ≡ false → valid (view s) ≡ levelTests s
+          unfolding tests sizesOf
+          rows-passed h = rw (tests-view s, ← t₁, not-false r₁ h₁, ← e, ← t₂, not-false r₂ h₂, ← t₃, not-false r₃ h₃, ← f, ← t₄, not-false r₄ h)
 
 -- ---- the levels down to d have passed, and what came before them
 pub record Reached (s : Search) (deepest : Level) (d : ℕ) : Type 0 where
@@ -123,7 +128,7 @@ module _ (s : Search) (o : Level) (d : ℕ) (at : Reached s o d) (below : d < s 
 
 -- all levels have passed, and the mark is left
 pub last-status : (s : Search) (o : Level) → o ≡ getD (s .levels) 0 noLevel → (l : Level) (d : ℕ) → Reached s l d → s .depth ≤ d → (count : ℕ) → count ≡ s .m + keptCuts (s .made) → (r : Bool) →
-    r ≡ markValid (statusOf (s .status)) (tab (rowAt (s .n) (s .rows)) 0 count) (boxOf (s .n) (o .lower) (o .upper)) (boxOf (s .n) (l .lower) (l .upper)) → r ≡ valid (view s)
+    r ≡ markValid (statusOf (s .status)) (tab (keptAt (s .n) (s .m) (s .rows) (s .divisors)) 0 count) (boxOf (s .n) (o .lower) (o .upper)) (boxOf (s .n) (l .lower) (l .upper)) → r ≡ valid (view s)
 unfolding levelTests
 last-status s o v l d at end count k r t =
     let inside = at .inside in

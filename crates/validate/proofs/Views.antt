@@ -3,21 +3,22 @@ use Prim.Native.Nat.{ℕ, _+_, _-_}
 use native.Mathlib.Omega.{arith}
 use native.Mathlib.Numerals.{add-one}
 use mathlib.Core.Bool.{Bool, true, false, _&&_}
-use mathlib.Core.Path.{_≡_, refl, ap, ap₂, _∙_}
+use mathlib.Core.Path.{_≡_, refl, sym, ap, ap₂, _∙_}
 use mathlib.Core.List.{[], _∷_}
 use lib.Dec.{leb, eqb}
 use lib.ListN.{length}
 use Rattle.model.specs.Lists.{tab, all, allOf, allPairs}
 use Rattle.model.specs.Ranges.{maxVariables, maxConstraints, maxCuts, maxBudget}
-use Rattle.model.specs.Constraint.{inRange}
+use Rattle.model.specs.Constraint.{inRange, divisorInRange}
 use Rattle.model.specs.Search as model
-use Rattle.model.specs.Validity.{scalarsValid, constraintsValid, cutNumber, numbersValid, levelsValid, nestedValid}
+use Rattle.model.specs.Validity.{scalarsValid, constraintsValid, divisorsValid, cutNumber, numbersValid, levelsValid, nestedValid}
 use Rattle.lists.proofs.Tab.{length-tab, tab-ext-0}
-use Rattle.layout.specs.Rows.{rowAt}
+use Rattle.lists.proofs.AllOf.{allOf-tab}
+use Rattle.layout.specs.Rows.{constraintAt, dividedAt, rowAt, inputAt}
 use Rattle.layout.specs.Sizes.{sizesFit}
-use Rattle.state.specs.View.{levelsFrom, keptCuts, storedNumber, coreWith, coreOf, view}
+use Rattle.state.specs.View.{levelsFrom, keptCuts, keptAt, storedNumber, coreOver, inputsOf, coreOf, view}
 use Rattle.state.specs.declared.Search.{Search}
-use Rattle.state.proofs.Cores.{kept-rows, length-levels}
+use Rattle.state.proofs.Cores.{kept-over, length-levels}
 use Rattle.validate.specs.Sizes.{sizesValid, numberFrom}
 use Rattle.validate.proofs.Numbers.{numbersTo}
 use Rattle.validate.proofs.LevelLoops.{levelsTo, nestedTo}
@@ -31,26 +32,41 @@ regrouped true true true true e = refl
 
 module _ (s : Search) where
   cuts-length : length (coreOf s .cuts) ≡ keptCuts (s .made)
-  unfolding coreOf coreWith
+  unfolding coreOf coreOver
   cuts-length = length-tab (rowAt (s .n) (s .rows)) (s .m) (keptCuts (s .made))
 
+  inputs-length : length (inputsOf s) ≡ s .m
+  unfolding inputsOf
+  inputs-length = length-tab (inputAt (s .n) (s .rows) (s .divisors)) 0 (s .m)
+
+  -- the kept constraints with their divisors
+  pub kept-view : model.kept (coreOf s) ≡ tab (keptAt (s .n) (s .m) (s .rows) (s .divisors)) 0 (s .m + keptCuts (s .made))
+  unfolding coreOf inputsOf
+  kept-view = kept-over _ _ _ _ _ _ _ _
+
   stored : coreOf s .numbers ≡ tab (storedNumber (s .numbers)) 0 (keptCuts (s .made))
-  unfolding coreOf coreWith
+  unfolding coreOf coreOver
   stored = refl
 
   pub sizes-view : scalarsValid (view s) ≡ sizesValid (s .n) (s .m) (s .budget) (s .conflicts) (s .made) (s .depth)
-  unfolding scalarsValid sizesValid sizesFit all view model.depth coreOf coreWith
+  unfolding scalarsValid sizesValid sizesFit all view model.depth coreOf coreOver
   sizes-view =
-      rw (length-tab (rowAt (s .n) (s .rows)) 0 (s .m), length-levels (s .n) (s .levels) (s .depth))
+      rw (inputs-length, length-levels (s .n) (s .levels) (s .depth))
       (regrouped (leb 1 (s .n)) (leb (s .n) maxVariables) (leb (s .m) maxConstraints) (leb (s .budget) maxBudget) (all (leb (s .depth) (s .n) ∷ leb (s .conflicts) (s .budget) ∷ leb (s .made) (s .conflicts) ∷ [])))
 
   pub constraints-view : constraintsValid (coreOf s) ≡ allOf inRange (tab (rowAt (s .n) (s .rows)) 0 (s .m + keptCuts (s .made)))
-  unfolding constraintsValid coreOf
-  constraints-view = ap (allOf inRange) (kept-rows _ _ _ _ _ _ _)
+  unfolding constraintsValid inRange keptAt dividedAt rowAt constraintAt
+  constraints-view =
+      let count = s .m + keptCuts (s .made) in
+      ap (allOf inRange) kept-view ∙ allOf-tab inRange (keptAt (s .n) (s .m) (s .rows) (s .divisors)) 0 count ∙ sym (allOf-tab inRange (rowAt (s .n) (s .rows)) 0 count)
+
+  pub divisors-view : divisorsValid (coreOf s) ≡ allOf divisorInRange (inputsOf s)
+  unfolding divisorsValid coreOf coreOver
+  divisors-view = refl
 
   number-here : (p : ℕ) → cutNumber (coreOf s) p ≡ numberFrom (s .m + (s .made - maxCuts) + 1) p
-  unfolding cutNumber numberFrom model.dropped coreOf coreWith
-  number-here p = rw (length-tab (rowAt (s .n) (s .rows)) 0 (s .m)) (omega arith)
+  unfolding cutNumber numberFrom model.dropped coreOf coreOver
+  number-here p = rw inputs-length (omega arith)
 
   pub numbers-view : numbersValid (coreOf s) ≡ numbersTo (s .numbers) (s .m + (s .made - maxCuts) + 1) (keptCuts (s .made))
   unfolding numbersValid numbersTo
@@ -59,9 +75,9 @@ module _ (s : Search) where
       (ap (tab (cutNumber (coreOf s)) 0) cuts-length ∙ tab-ext-0 (cutNumber (coreOf s)) _ (keptCuts (s .made)) (λ p h. number-here p))
 
   pub levels-view : levelsValid (coreOf s) ≡ levelsTo (s .n) (s .m + s .made) (s .levels) (s .depth + 1)
-  unfolding levelsValid levelsTo model.levels levelsFrom coreOf coreWith
-  levels-view = rw (length-tab (rowAt (s .n) (s .rows)) 0 (s .m), add-one (s .depth))
+  unfolding levelsValid levelsTo model.levels levelsFrom coreOf coreOver
+  levels-view = rw (inputs-length, add-one (s .depth))
 
   pub nested-view : nestedValid (coreOf s .variables) (coreOf s .deepest) (coreOf s .outer) ≡ nestedTo (s .n) (s .levels) (s .depth)
-  unfolding nestedTo coreOf coreWith
+  unfolding nestedTo coreOf coreOver
   nested-view = refl

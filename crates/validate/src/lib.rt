@@ -25,6 +25,9 @@ pub fn is_valid(s: Search) -> bool
     if !constraints::are_constraints_valid(&s.rows, count, n) {
         return false;
     }
+    if !constraints::are_divisors_valid(&s.divisors, s.m) {
+        return false;
+    }
     let first = s.m + dropped(s.made) + 1;
     if !scalars::are_numbers_valid(&s.numbers, first, kept) {
         return false;
@@ -47,5 +50,14 @@ pub fn is_valid(s: Search) -> bool
         deepest = l;
         d += 1;
     }
-    status::is_status_valid(s.status, &s.rows, count, outermost, deepest, n)
+    status::is_status_valid(
+        s.status,
+        &s.rows,
+        &s.divisors,
+        s.m,
+        count,
+        outermost,
+        deepest,
+        n,
+    )
 }

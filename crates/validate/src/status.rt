@@ -4,12 +4,11 @@ ghost use mathlib.Core.Bool.{true};
 ghost use Prim.Native.Nat.{_*_, _≤_};
 ghost use lib.ListN.{length};
 ghost use Rattle.model.specs.Lists.{tab, allOf, anyOf};
-ghost use Rattle.model.specs.Ranges.{maxVariables};
-ghost use Rattle.model.specs.Constraint.{inRange};
-ghost use Rattle.model.specs.Validity.{isOpen};
-ghost use Rattle.layout.specs.Rows.{rowLength, rowAt, boxOf};
+ghost use Rattle.model.specs.Ranges.{maxVariables, maxConstraints};
+ghost use Rattle.model.specs.Constraint.{isOpen, inRange, divisorInRange};
+ghost use Rattle.layout.specs.Rows.{rowLength, rowAt, inputAt, boxOf};
 ghost use Rattle.linear.specs.Ranges.{BoxFits};
-ghost use Rattle.state.specs.View.{statusOf};
+ghost use Rattle.state.specs.View.{statusOf, keptAt};
 ghost use Rattle.validate.specs.Marks.{markValid};
 use crate::constraints::is_any_falsified;
 use state::Level;
@@ -31,9 +30,11 @@ fn is_any_open<'a>(lower: &'a [i64], upper: &'a [i64], n: usize) -> bool
 }
 
 // Whether the mark is one that the first `count` constraints and the bounds of the outermost and the deepest level bear out.
-pub fn is_status_valid(
+pub fn is_status_valid<'a>(
     status: Status,
-    rows: &[i64],
+    rows: &'a [i64],
+    divisors: &'a [i64; 64],
+    m: usize,
     count: usize,
     outermost: Level,
     deepest: Level,
@@ -42,18 +43,27 @@ pub fn is_status_valid(
     requires { ⌜ (n ≤ maxVariables) × (rowLength * count ≤ length (now rows)) ⌝ }
     requires { ⌜ allOf inRange (tab (rowAt n (now rows)) 0 count) ≡ true ⌝ }
     requires { ⌜ BoxFits n (outermost .lower) (outermost .upper) × BoxFits n (deepest .lower) (deepest .upper) ⌝ }
-    ensures { λ r. ⌜ r ≡ markValid (statusOf status) (tab (rowAt n (now (rows .entry))) 0 count) (boxOf n (outermost .lower) (outermost .upper)) (boxOf n (deepest .lower) (deepest .upper)) ⌝ }
+    requires { ⌜ (m ≤ maxConstraints) × (allOf divisorInRange (tab (inputAt n (now rows) (now divisors)) 0 m) ≡ true) ⌝ }
+    ensures { λ r. ⌜ r ≡ markValid (statusOf status) (tab (keptAt n m (now (rows .entry)) (now (divisors .entry))) 0 count) (boxOf n (outermost .lower) (outermost .upper)) (boxOf n (deepest .lower) (deepest .upper)) ⌝ }
 {
     match status {
         Status::Undecided => true,
         Status::Infeasible => {
-            is_any_falsified(rows, count, &outermost.lower, &outermost.upper, n)
+            is_any_falsified(
+                rows,
+                divisors,
+                m,
+                count,
+                &outermost.lower,
+                &outermost.upper,
+                n,
+            )
         }
         Status::Solved => {
             if is_any_open(&deepest.lower, &deepest.upper, n) {
                 return false;
             }
-            !is_any_falsified(rows, count, &deepest.lower, &deepest.upper, n)
+            !is_any_falsified(rows, divisors, m, count, &deepest.lower, &deepest.upper, n)
         }
     }
 }

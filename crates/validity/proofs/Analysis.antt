@@ -1,19 +1,20 @@
--- Analysis: what holds of F at the start and is kept by each resolvent that is taken holds of the cut.
+-- Analysis: what holds of F at the start and is kept by each resolvent that is taken holds of the cut. F is resolved with inequalities alone.
 use Prim.Native.Nat.{ℕ, zero, suc, _+_}
 use mathlib.Core.Bool.{Bool, true, false, _&&_, cond}
 use mathlib.Core.List.{List, _∷_}
 use mathlib.Core.Option.{Option, none, some}
 use lib.Dec.{T, ltb}
 use lib.ListN.{length}
-use Rattle.model.specs.Constraint.{Constraint, coefficientAt, falsified, resolvent, opposite, inRange}
+use Rattle.model.specs.Constraint.{Constraint, isInequality, coefficientAt, falsified, resolvent, opposite, inRange}
 use Rattle.model.specs.Search.{Reason, domain, decision, flipped, constraint, reasonsAt, Core, kept, dropped, keptNumber}
 use Rattle.model.specs.Conflict.{Resolved, unchanged, takeIf, resolveWith, resolveKept, resolveBy, usedReason, resolveAt, analyzeFrom}
+use Rattle.validity.proofs.Constraints.{Inequality, inequality-in}
 use Rattle.validity.proofs.States.{Every}
 use Rattle.validity.proofs.Elements.{every-left, every-right, Holds, holds-cond, holds-elem}
 
 -- p is what holds of F, and q what holds of the kept constraints
 module _ (c : Core) (p q : Constraint → Type 0) (given : Every q (kept c))
-    (step : (i : ℕ) (f j : Constraint) → p f → q j → T (inRange (resolvent i f j) && falsified (resolvent i f j) (c .deepest .box)) → p (resolvent i f j)) where
+    (step : (i : ℕ) (f j : Constraint) → p f → q j → Inequality j → T (inRange (resolvent i f j) && falsified (resolvent i f j) (c .deepest .box)) → p (resolvent i f j)) where
   number-holds : (k : ℕ) → Holds q (keptNumber c k)
   unfolding keptNumber kept
   number-holds zero = tt
@@ -25,15 +26,15 @@ module _ (c : Core) (p q : Constraint → Type 0) (given : Every q (kept c))
   either true r s h g = h tt
   either false r s h g = g
 
-  resolve-with : (i : ℕ) (f : Constraint) (k : ℕ) (j : Constraint) → p f → q j → p (resolveWith (c .deepest .box) i f k j .cut)
+  resolve-with : (i : ℕ) (f : Constraint) (k : ℕ) (j : Constraint) → p f → q j → Inequality j → p (resolveWith (c .deepest .box) i f k j .cut)
   unfolding resolveWith takeIf unchanged
-  resolve-with i f k j h g =
-      either (opposite (coefficientAt f i) (coefficientAt j i)) _ _ (λ o. either (inRange (resolvent i f j) && falsified (resolvent i f j) (c .deepest .box)) _ _ (step i f j h g) h) h
+  resolve-with i f k j h g e =
+      either (opposite (coefficientAt f i) (coefficientAt j i)) _ _ (λ o. either (inRange (resolvent i f j) && falsified (resolvent i f j) (c .deepest .box)) _ _ (step i f j h g e) h) h
 
   resolve-kept : (i : ℕ) (f : Constraint) (k : ℕ) (o : Option Constraint) → p f → Holds q o → p (resolveKept (c .deepest .box) i f k o .cut)
   unfolding resolveKept unchanged
   resolve-kept i f k none h g = h
-  resolve-kept i f k (some j) h g = resolve-with i f k j h g
+  resolve-kept i f k (some j) h g = either (isInequality j) _ _ (λ t. resolve-with i f k j h g (inequality-in j t)) h
 
   resolve-by : (i : ℕ) (f : Constraint) (r : Reason) → p f → p (resolveBy c i f r .cut)
   unfolding resolveBy unchanged

@@ -152,6 +152,8 @@ module _ (c : Core) (fits : CoreFits c) where
       let w : OpenAt (o .box) (l .decided) = record { at = omega arith; wide = under .wide } in
       record {
         constraints = fits .constraints;
+        divisors = fits .divisors;
+        inequalities = fits .inequalities;
         cuts = fits .cuts;
         numbers = fits .numbers;
         levels = (flip-fits (c .variables) (length (c .inputs) + c .made) (l .decided) o (h .1 .0) w, h .1 .1);

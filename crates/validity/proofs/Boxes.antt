@@ -1,7 +1,7 @@
 -- Boxes: L ≤ U in each variable, one box inside another, and what a changed bound does to the points inside.
 use Prim.Native.Nat.{ℕ, zero, suc, _+_, _<_}
 use native.Mathlib.Omega.{arith}
-use mathlib.Core.List.{[], _∷_}
+use mathlib.Core.List.{[], _∷_, map}
 use mathlib.Core.Logic.{_⊎_, inl, inr, ⊎-map}
 use mathlib.Core.Path.{_≡_, refl, ap, ap₂}
 use lib.IntN.{ℤ, pos, natAbs, _-ℤ_}
@@ -226,3 +226,26 @@ fixed-only [] (y ∷ x) f h = absurd h
 fixed-only (b ∷ box) [] f h = absurd h
 fixed-only (b ∷ box) (y ∷ x) f h =
     ap₂ (λ (z : ℤ) (w : Point). z ∷ w) (eq-out y (b .lower) (omega (arith, le-in))) (fixed-only box x (f .1) (h .2))
+
+-- ---- the box of one point
+abbrev pub alone : Point → Box
+alone x = map (λ (y : ℤ). record { lower = y; upper = y }) x
+
+pub alone-ordered : (x : Point) → Ordered (alone x)
+alone-ordered [] = tt
+alone-ordered (y ∷ x) = (omega arith, alone-ordered x)
+
+pub alone-fixed : (x : Point) → Fixed (alone x)
+alone-fixed [] = tt
+alone-fixed (y ∷ x) = (omega arith, alone-fixed x)
+
+pub alone-lowers : (x : Point) → lowers (alone x) ≡ x
+unfolding lowers
+alone-lowers [] = refl
+alone-lowers (y ∷ x) = ap (λ (w : Point). y ∷ w) (alone-lowers x)
+
+pub alone-nested : (x : Point) (box : Box) → Inside x box → Nested (alone x) box
+alone-nested [] [] h = tt
+alone-nested [] (b ∷ box) h = absurd h
+alone-nested (y ∷ x) [] h = absurd h
+alone-nested (y ∷ x) (b ∷ box) h = (le-in (b .lower) y (h .0 .le), le-in y (b .upper) (h .1 .le), alone-nested x box (h .2))

@@ -16,7 +16,7 @@ use Rattle.model.specs.Conflict.{analyze, firstEqual, numberedBy, numbered, bac
 use Rattle.model.specs.Validity.{falsifies, outermost}
 use Rattle.model.specs.Points.{Point, Meets}
 use Rattle.integer.specs.Tests.{and-left, and-right}
-use Rattle.validity.proofs.Constraints.{resolvent-length, resolvent-meets}
+use Rattle.validity.proofs.Constraints.{Inequality, resolvent-length, resolvent-meets, resolvent-inequality}
 use Rattle.validity.proofs.Moves.{Falsifies}
 use Rattle.validity.proofs.States.{Every, ConstraintFits, CoreFits}
 use Rattle.validity.proofs.Elements.{every-getD, Holds}
@@ -24,43 +24,58 @@ use Rattle.validity.proofs.Analysis.{analysis-keeps}
 use Rattle.validity.proofs.Keeping.{keep-every, keep-fits, equal-falsifies, keep-falsifies}
 use Rattle.validity.proofs.Backjump.{least-default, drop-outer, back-from}
 
--- ---- analysis
+-- ---- analysis, at an inequality
 pub record Learned (c : Core) (k : Constraint) : Type 0 where
   pub fits : ConstraintFits (c .variables) k
+  pub inequality : Inequality k
   pub false : T (falsified k (c .deepest .box))
 
-pub analyze-learned : (c : Core) (j : ℕ) → CoreFits c → Falsifies (kept c) (c .deepest .box) j → Learned c (analyze c (getD (kept c) j noConstraint) .cut)
+pub analyze-learned : (c : Core) (j : ℕ) → CoreFits c → Falsifies (kept c) (c .deepest .box) j → Inequality (getD (kept c) j noConstraint) →
+    Learned c (analyze c (getD (kept c) j noConstraint) .cut)
 unfolding analyze
-analyze-learned c j h f =
+analyze-learned c j h f own =
     analysis-keeps c (Learned c) (ConstraintFits (c .variables)) (h .constraints) step (c .variables) _ []
-    (record { fits = every-getD (ConstraintFits (c .variables)) (kept c) j noConstraint (f .at) (h .constraints); false = f .false })
+    (record { fits = every-getD (ConstraintFits (c .variables)) (kept c) j noConstraint (f .at) (h .constraints); inequality = own; false = f .false })
   where
-    step : (i : ℕ) (f j : Constraint) → Learned c f → ConstraintFits (c .variables) j → T (inRange (resolvent i f j) && falsified (resolvent i f j) (c .deepest .box)) → Learned c (resolvent i f j)
-    step i f j l g t =
+    step : (i : ℕ) (f j : Constraint) → Learned c f → ConstraintFits (c .variables) j → Inequality j → T (inRange (resolvent i f j) && falsified (resolvent i f j) (c .deepest .box)) →
+        Learned c (resolvent i f j)
+    step i f j l g e t =
         let size = resolvent-length i f j (l .fits .size ∙ sym (g .size)) ∙ l .fits .size in
         let range = inRange (resolvent i f j) in
         let false = falsified (resolvent i f j) (c .deepest .box) in
-        record { fits = record { range = and-left range false t; size = size }; false = and-right range false t }
+        record { fits = record { range = and-left range false t; size = size }; inequality = resolvent-inequality i f j; false = and-right range false t }
 
--- a constraint of the state's size that x meets
+-- the inequalities of a list are met
+abbrev pub MeetsInequalities : Point → List Constraint → Type 0
+MeetsInequalities x ks = Every (λ k. Inequality k → Meets x k) ks
+
+-- a constraint of the state's size that x meets if it is an inequality
 record Met (c : Core) (x : Point) (k : Constraint) : Type 0 where
   size : length (k .coefficients) ≡ c .variables
-  meets : Meets x k
+  meets : Inequality k → Meets x k
 
-pub analyze-meets : (c : Core) (j : ℕ) (x : Point) → CoreFits c → j < length (kept c) → Every (Meets x) (kept c) → Meets x (analyze c (getD (kept c) j noConstraint) .cut)
+-- what meets the kept inequalities meets the cut
+pub analyze-meets : (c : Core) (j : ℕ) (x : Point) → CoreFits c → j < length (kept c) → Inequality (getD (kept c) j noConstraint) → MeetsInequalities x (kept c) →
+    Meets x (analyze c (getD (kept c) j noConstraint) .cut)
 unfolding analyze
-analyze-meets c j x h l m =
-    analysis-keeps c (Met c x) (Met c x) (met-kept (kept c) (h .constraints) m) step (c .variables) _ []
-    (every-getD (Met c x) (kept c) j noConstraint l (met-kept (kept c) (h .constraints) m)) .meets
+analyze-meets c j x h l own m =
+    let r = analysis-keeps c cut (Met c x) (met-kept (kept c) (h .constraints) m) step (c .variables) _ []
+    (every-getD (Met c x) (kept c) j noConstraint l (met-kept (kept c) (h .constraints) m), own) in
+    r .0 .meets (r .1)
   where
-    met-kept : (ks : List Constraint) → Every (ConstraintFits (c .variables)) ks → Every (Meets x) ks → Every (Met c x) ks
+    cut : Constraint → Type 0
+    cut k = Met c x k × Inequality k
+
+    met-kept : (ks : List Constraint) → Every (ConstraintFits (c .variables)) ks → MeetsInequalities x ks → Every (Met c x) ks
     met-kept [] f g = tt
     met-kept (k ∷ ks) f g = (record { size = f .0 .size; meets = g .0 }, met-kept ks (f .1) (g .1))
 
-    step : (i : ℕ) (f j : Constraint) → Met c x f → Met c x j → T (inRange (resolvent i f j) && falsified (resolvent i f j) (c .deepest .box)) → Met c x (resolvent i f j)
-    step i f j a b t =
-        let e = a .size ∙ sym (b .size) in
-        record { size = resolvent-length i f j e ∙ a .size; meets = resolvent-meets i f j x e (a .meets) (b .meets) }
+    step : (i : ℕ) (f j : Constraint) → cut f → Met c x j → Inequality j → T (inRange (resolvent i f j) && falsified (resolvent i f j) (c .deepest .box)) → cut (resolvent i f j)
+    step i f j a b own t =
+        let e = a .0 .size ∙ sym (b .size) in (
+          record { size = resolvent-length i f j e ∙ a .0 .size; meets = λ z. resolvent-meets i f j x e (a .1) own (a .0 .meets (a .1)) (b .meets own) },
+          resolvent-inequality i f j,
+        )
 
 -- ---- numbering and keeping
 -- what numbering leaves as it was
@@ -71,20 +86,23 @@ pub record Keeps (c d : Core) : Type 0 where
   pub outer : d .outer ≡ c .outer
   pub made : d .made ≤ suc (c .made)
 
+pub keeps-all : (c : Core) → Keeps c c
+keeps-all c = record { variables = refl; inputs = refl; deepest = refl; outer = refl; made = omega arith }
+
 pub numbered-keeps : (c : Core) (k : Constraint) → Keeps c (numbered c k .core)
 unfolding numbered numberedBy keep
 numbered-keeps c k = go (firstEqual 0 (kept c) k)
   where
     go : (o : Option ℕ) → Keeps c (numberedBy c k o .core)
     go none = record { variables = refl; inputs = refl; deepest = refl; outer = refl; made = omega arith }
-    go (some i) = record { variables = refl; inputs = refl; deepest = refl; outer = refl; made = omega arith }
+    go (some i) = keeps-all c
 
-pub numbered-fits : (c : Core) (k : Constraint) → CoreFits c → ConstraintFits (c .variables) k → CoreFits (numbered c k .core)
+pub numbered-fits : (c : Core) (k : Constraint) → CoreFits c → ConstraintFits (c .variables) k → Inequality k → CoreFits (numbered c k .core)
 unfolding numbered numberedBy
-numbered-fits c k h g = go (firstEqual 0 (kept c) k)
+numbered-fits c k h g e = go (firstEqual 0 (kept c) k)
   where
     go : (o : Option ℕ) → CoreFits (numberedBy c k o .core)
-    go none = keep-fits c k h g
+    go none = keep-fits c k h g e
     go (some i) = h
 
 pub numbered-every : (p : Constraint → Type 0) (c : Core) (k : Constraint) → Every p (kept c) → p k → Every p (kept (numbered c k .core))

@@ -26,8 +26,13 @@ unfolding all
 all-out [] h = tt
 all-out (t ∷ ts) h = yes-and t (all ts) (h .0) (all-out ts (h .1))
 
--- ---- two tests of every element, as the property that they tell, and a test from a property
+-- ---- a test, or two, of every element as the property that they tell, and a test from a property
 module _ {A : Type 0} (p : A → Type 0) where
+  pub every-of : (t : A → Bool) → ((x : A) → T (t x) → p x) → (xs : List A) → T (allOf t xs) → Every p xs
+  unfolding allOf
+  every-of t f [] h = tt
+  every-of t f (x ∷ xs) h = let i = and-yes (t x) (allOf t xs) h in (f x (i .0), every-of t f xs (i .1))
+
   pub every-in : (t u : A → Bool) → ((x : A) → T (t x) → T (u x) → p x) → (xs : List A) → T (allOf t xs) → T (allOf u xs) → Every p xs
   unfolding allOf
   every-in t u f [] g h = tt

@@ -6,12 +6,11 @@ use mathlib.Core.List.{List, [], _∷_, _++_}
 use mathlib.Core.Option.{some}
 use mathlib.Core.Path.{_≡_, sym, ap, ap₂, _∙_}
 use lib.Dec.{T, leb, leb→le, le→leb, eqb→eq}
-use lib.IntN.{ℤ, pos, negsuc}
 use lib.ListN.{length, drop, length-append, length-drop}
 use lib.Seq.{drop-append-le}
-use Rattle.model.specs.Lists.{tab, anyOf, allPairs}
+use Rattle.model.specs.Lists.{tab, anyOf}
 use Rattle.model.specs.Ranges.{maxCuts}
-use Rattle.model.specs.Constraint.{Constraint, Box, falsified, equalℤ, equal}
+use Rattle.model.specs.Constraint.{Constraint, Box, falsified, equal}
 use Rattle.model.specs.Search.{Reason, domain, decision, flipped, constraint, Reasons, Level, Core, levels, kept, dropped, nextNumber, newest, keep}
 use Rattle.model.specs.Conflict.{firstEqual}
 use Rattle.model.specs.Validity.{cutNumber, reasonValid, reasonsValid, falsifies}
@@ -20,17 +19,18 @@ use Rattle.lists.proofs.Bools.{true-of, T-of}
 use Rattle.lists.proofs.Tab.{length-tab, tab-drop, tab-more, tab-shift}
 use Rattle.lists.proofs.AllOf.{allOf-weaker}
 use Rattle.lists.proofs.AnyOf.{anyOf-append}
-use Rattle.lists.proofs.AllPairs.{pairs-equal}
-use Rattle.validity.proofs.Tests.{equal-in}
+use Rattle.validity.proofs.Tests.{same-constraint}
+use Rattle.validity.proofs.Constraints.{Inequality}
 use Rattle.validity.proofs.States.{Every, ConstraintFits, LevelFits, CoreFits}
 use Rattle.validity.proofs.Elements.{every-left, every-right, every-append, every-drop, every-map, Holds, holds-map, holds-cond}
 
+cuts-every : (p : Constraint → Type 0) (c : Core) (k : Constraint) → Every p (c .cuts) → p k → Every p (keep k c .cuts)
+unfolding keep newest
+cuts-every p c k h g = let cuts = c .cuts ++ (k ∷ []) in every-drop p (length cuts - maxCuts) cuts (every-append p (c .cuts) (k ∷ []) h (g, tt))
+
 pub keep-every : (p : Constraint → Type 0) (c : Core) (k : Constraint) → Every p (kept c) → p k → Every p (kept (keep k c))
 unfolding kept keep newest
-keep-every p c k h g =
-    let cuts = c .cuts ++ (k ∷ []) in
-    every-append p (c .inputs) _ (every-left p (c .inputs) (c .cuts) h)
-    (every-drop p (length cuts - maxCuts) cuts (every-append p (c .cuts) (k ∷ []) (every-right p (c .inputs) (c .cuts) h) (g, tt)))
+keep-every p c k h g = every-append p (c .inputs) _ (every-left p (c .inputs) (c .cuts) h) (unfold keep newest in cuts-every p c k (every-right p (c .inputs) (c .cuts) h) g)
 
 -- the highest number grows
 reason-more : (last : ℕ) (r : Reason) → T (reasonValid last r) → T (reasonValid (suc last) r)
@@ -76,14 +76,16 @@ keep-numbers c k h =
     ap newest numbers ∙ newest-tab (cutNumber c) (n + 1) ∙
     tab-shift (cutNumber c) (cutNumber (keep k c)) (n + 1 - maxCuts) 0 (n + 1 - (n + 1 - maxCuts)) (λ j b. omega arith) ∙ ap (tab (cutNumber (keep k c)) 0) (omega arith)
 
-pub keep-fits : (c : Core) (k : Constraint) → CoreFits c → ConstraintFits (c .variables) k → CoreFits (keep k c)
+pub keep-fits : (c : Core) (k : Constraint) → CoreFits c → ConstraintFits (c .variables) k → Inequality k → CoreFits (keep k c)
 unfolding keep levels
-keep-fits c k h g =
+keep-fits c k h g i =
     let n = c .variables in
     let last = length (c .inputs) + c .made in
     let e : length (c .inputs) + suc (c .made) ≡ suc last = omega arith in
     record {
       constraints = keep-every (ConstraintFits n) c k (h .constraints) g;
+      divisors = h .divisors;
+      inequalities = unfold keep in cuts-every Inequality c k (h .inequalities) i;
       cuts = keep-cuts c k h;
       numbers = keep-numbers c k h;
       levels = rw e (every-map (LevelFits n last) (LevelFits n (suc last)) (levels c) (level-more n last) (h .levels));
@@ -91,15 +93,6 @@ keep-fits c k h g =
     }
 
 -- ---- an equal constraint
-same-constraint : (k l : Constraint) → T (equal k l) → k ≡ l
-unfolding equal
-same-constraint k l t =
-    let pairs = allPairs equalℤ (k .coefficients) (l .coefficients) in
-    let first = equalℤ (k .constant) (l .constant) in
-    let constants = equal-in (k .constant) (l .constant) (and-left first pairs t) in
-    let coefficients = pairs-equal equalℤ (λ a b e. equal-in a b (T-of e)) (k .coefficients) (l .coefficients) (true-of pairs (and-right first pairs t)) in
-    ap₂ (λ (a : ℤ) (cs : List ℤ). record { constant = a; coefficients = cs }) constants coefficients
-
 -- a position that is found shows a constraint that the box falsifies
 pub equal-falsifies : (k : Constraint) (box : Box) (p : ℕ) (ks : List Constraint) → T (falsified k box) → Holds (λ i. T (anyOf (falsifies box) ks)) (firstEqual p ks k)
 unfolding firstEqual anyOf falsifies

@@ -12,14 +12,14 @@ use lib.ListN.{getD, drop, length, length-drop}
 use lib.Seq.{drop-cons}
 use lib.Signed.{ltZ}
 use Rattle.model.specs.Lists.{orElse, withDefault}
-use Rattle.model.specs.Constraint.{Constraint, Box, noBounds, lowerAt, upperAt, term, terms, activity, falsified, impliedLower, impliedUpper}
+use Rattle.model.specs.Constraint.{Constraint, Box, modulus, noBounds, lowerAt, upperAt, term, terms, activity, falsifiedBy, falsified, impliedLower, impliedUpper}
 use Rattle.model.specs.File.{noConstraint}
-use Rattle.model.specs.Move.{Move, conflict, newLower, newUpper, decide, finish, firstFalsified, improvementAt, improvementFrom, firstImprovement, firstOpen, nextMove}
+use Rattle.model.specs.Move.{Move, conflict, newLower, newUpper, decide, finish, firstFalsified, improvementAt, improvementFrom, improvementBy, firstImprovement, firstOpen, nextMove}
 use Rattle.model.specs.Points.{Point, Inside, dot, value, Meets}
 use Rattle.integer.specs.Parts.{_⊑_, _⊏_, add-parts, sub-parts, mul-parts, neg-up, neg-down, le-in, lt-in, nlt-in}
 use Rattle.integer.specs.Rounding.{floor-max, ceil-min}
 use Rattle.validity.proofs.Boxes.{Ordered, Fixed, FirstOpen}
-use Rattle.validity.proofs.Constraints.{term-least, terms-least}
+use Rattle.validity.proofs.Constraints.{Inequality, meets-in, term-least, terms-least}
 
 -- no constraint is falsified
 abbrev pub Clear : List Constraint → Box → Type 0
@@ -105,7 +105,7 @@ terms-but (suc i) (a ∷ cs) (y ∷ x) (b ∷ box) h l m =
       terms-but i cs x box (h .2) (omega arith) (omega arith),
     )
 
-activity-but : (i : ℕ) (k : Constraint) (x : Point) (box : Box) → Inside x box → i < length (k .coefficients) → i < length box → Meets x k →
+activity-but : (i : ℕ) (k : Constraint) (x : Point) (box : Box) → Inside x box → i < length (k .coefficients) → i < length box → value k x ⊑ pos 0 →
     (activity k box -ℤ term (getD (k .coefficients) i (pos 0)) (getD box i noBounds)) +ℤ getD (k .coefficients) i (pos 0) *ℤ getD x i (pos 0) ⊑ pos 0
 unfolding activity value
 activity-but i k x box h l n m =
@@ -123,7 +123,7 @@ activity-but i k x box h l n m =
       add-parts (terms cs box) u,
       add-parts (dot cs x) t,
       terms-but i cs x box h l n,
-      le-in (c +ℤ dot cs x) (pos 0) (m .le),
+      m,
     )
 
 -- the element where a list goes on with y
@@ -198,13 +198,13 @@ module _ (ks : List Constraint) (box : Box) where
         })
         (λ t. nothing tt)
 
-    improved-from : (j : ℕ) → j < length ks → activity (getD ks j noConstraint) box ⊑ pos 0 → (i : ℕ) (cs : List ℤ) (rest : Box) →
+    improved-from : (j : ℕ) → j < length ks → Inequality (getD ks j noConstraint) → activity (getD ks j noConstraint) box ⊑ pos 0 → (i : ℕ) (cs : List ℤ) (rest : Box) →
         drop i (getD ks j noConstraint .coefficients) ≡ cs → drop i box ≡ rest →
         Found (Unit {0}) (improvementFrom j i (activity (getD ks j noConstraint) box) cs rest)
     unfolding improvementFrom
-    improved-from j hj low i [] rest e f = nothing tt
-    improved-from j hj low i (a ∷ cs) [] e f = nothing tt
-    improved-from j hj low i (a ∷ cs) (b ∷ rest) e f =
+    improved-from j hj own low i [] rest e f = nothing tt
+    improved-from j hj own low i (a ∷ cs) [] e f = nothing tt
+    improved-from j hj own low i (a ∷ cs) (b ∷ rest) e f =
         let k = getD ks j noConstraint in
         let here = drop-here (k .coefficients) i (pos 0) e in
         let there = drop-here box i noBounds f in
@@ -213,9 +213,16 @@ module _ (ks : List Constraint) (box : Box) where
         let t = term c (getD box i noBounds) in
         let found =
         improved-at j i (w -ℤ t) c hj (there .0) (omega (arith, add-parts (w -ℤ t) t, sub-parts w t))
-        (λ x h m. activity-but i k x box h (here .0) (there .0) m) in
+        (λ x h m. activity-but i k x box h (here .0) (there .0) (meets-in x k own m)) in
         or-found {q = Unit {0}} (rw (← here .1, ← there .1) found)
-        (λ u. improved-from j hj low (suc i) cs rest (here .2) (there .2))
+        (λ u. improved-from j hj own low (suc i) cs rest (here .2) (there .2))
+
+    -- a divisor constraint implies no bound
+    improved-by : (q j : ℕ) → j < length ks → modulus (getD ks j noConstraint) ≡ q → T (not (falsifiedBy q (getD ks j noConstraint) box)) →
+        Found (Unit {0}) (improvementBy q j (getD ks j noConstraint) box)
+    unfolding improvementBy falsifiedBy
+    improved-by zero j hj own c = improved-from j hj own (nlt-in (pos 0) (activity (getD ks j noConstraint) box) c) 0 _ box refl refl
+    improved-by (suc q) j hj own c = nothing tt
 
     improved-found : (j : ℕ) (rest : List Constraint) → drop j ks ≡ rest → Clear rest box → Found (Unit {0}) (firstImprovement j rest box)
     unfolding firstImprovement falsified
@@ -223,7 +230,7 @@ module _ (ks : List Constraint) (box : Box) where
     improved-found j (k ∷ rest) e c =
         let here = drop-here ks j noConstraint e in
         or-found {q = Unit {0}}
-        (rw (← here .1) (improved-from j (here .0) (rw (here .1) (nlt-in (pos 0) (activity k box) (c .0))) 0 _ box refl refl))
+        (rw (← here .1) (improved-by _ j (here .0) refl (rw (here .1) (c .0))))
         (λ u. improved-found (suc j) rest (here .2) (c .1))
 
     open-found : (i : ℕ) (rest : Box) → ((n : ℕ) → FirstOpen n rest → FirstOpen (i + n) box) → (Fixed rest → Fixed box) →

@@ -11,16 +11,17 @@ use lib.Seq.{getD-set-same}
 use mir.Facts.{and-yes, yes-and}
 use Rattle.model.specs.Lists.{tab, allOf}
 use Rattle.model.specs.Ranges.{maxVariables, maxConstraints, maxCuts, maxBudget}
-use Rattle.model.specs.Constraint.{Constraint, Bounds, Box, noBounds, lowerAt, upperAt, setLower, setUpper, inRange}
+use Rattle.model.specs.Constraint.{Constraint, Bounds, Box, noBounds, lowerAt, upperAt, setLower, setUpper, isInequality, inRange, divisorInRange}
 use Rattle.model.specs.Problem.{boundsInRange}
 use Rattle.model.specs.Search.{constraint, Reasons, Level, Core, Search, reasonsAt, setLowerReason, setUpperReason, depth, levels, withLevels, withDeepest, kept, dropped, numberAt, raiseLower, lowerUpper, decideAt}
-use Rattle.model.specs.Validity.{scalarsValid, constraintsValid, cutNumber, numbersValid, reasonValid, reasonsValid, levelValid, levelsValid, boxInside, decisionValid, nestedValid, statusValid, valid, levelShaped, constraintShaped, shaped}
+use Rattle.model.specs.Validity.{scalarsValid, constraintsValid, divisorsValid, cutNumber, numbersValid, reasonValid, reasonsValid, levelValid, levelsValid, boxInside, decisionValid, nestedValid, statusValid, valid, levelShaped, constraintShaped, shaped}
 use Rattle.integer.specs.Parts.{_⊏_, lt-in, lt-out, eq-in}
 use Rattle.lists.proofs.Bools.{true-of, T-of}
 use Rattle.lists.proofs.AllOf.{allOf-set}
 use Rattle.validity.proofs.Boxes.{Ordered, Nested, first-open, nested-length, nested-trans, set-lower-nested, set-lower-ordered, set-upper-nested, set-upper-ordered, lowHalf, low-nested, low-ordered}
+use Rattle.validity.proofs.Constraints.{Inequality, inequality-in, inequality-out}
 use Rattle.validity.proofs.Moves.{Raises, Lowers, Decides}
-use Rattle.validity.proofs.Every.{_&_, all-in, all-out, every-in, every-out}
+use Rattle.validity.proofs.Every.{_&_, all-in, all-out, every-of, every-in, every-out}
 use Rattle.validity.proofs.Tests.{equal-in, equal-refl, eqb-out, numbers-in, numbers-out, nested-in, nested-out, range-ordered, range-nested, fixed-nested, valid-reasons-at, number-valid}
 use Rattle.validity.proofs.Depth.{opens, opens-few, opens-decided}
 pub use Rattle.validity.proofs.Every.{Every}
@@ -50,6 +51,8 @@ Stacked n l (o ∷ ls) = Under n l o × Stacked n o ls
 
 pub record CoreFits (c : Core) : Type 0 where
   pub constraints : Every (ConstraintFits (c .variables)) (kept c)
+  pub divisors : T (allOf divisorInRange (c .inputs))
+  pub inequalities : Every Inequality (c .cuts)
   pub cuts : length (c .cuts) ≡ min (c .made) maxCuts
   pub numbers : c .numbers ≡ tab (cutNumber c) 0 (length (c .cuts))
   pub levels : Every (LevelFits (c .variables) (length (c .inputs) + c .made)) (levels c)
@@ -127,7 +130,7 @@ constraint-shaped n k f = eqb-out _ _ (f .size)
 
 -- ---- from the tests to the facts, and back
 pub core-fits : (s : Search) → T (shaped (s .core)) → T (valid s) → CoreFits (s .core)
-unfolding shaped valid constraintsValid numbersValid levelsValid
+unfolding shaped valid constraintsValid divisorsValid numbersValid levelsValid
 core-fits s f t =
     let c = s .core in
     let n = c .variables in
@@ -136,10 +139,12 @@ core-fits s f t =
     let h = all-in _ t in
     record {
       constraints = every-in (ConstraintFits n) inRange (constraintShaped n) (constraint-in n) (kept c) (h .1 .0) (g .1 .0);
-      cuts = eqb→eq (length (c .cuts)) (min (c .made) maxCuts) (g .1 .1 .0);
-      numbers = numbers-in (c .numbers) (tab (cutNumber c) 0 (length (c .cuts))) (h .1 .1 .0);
-      levels = every-in (LevelFits n last) (levelShaped n) (levelValid last) (level-in n last) (levels c) (g .0) (h .1 .1 .1 .0);
-      stacked = stacked-in n (c .deepest) (c .outer) (h .1 .1 .1 .1 .0);
+      divisors = h .1 .1 .0;
+      inequalities = every-of Inequality isInequality inequality-in (c .cuts) (g .1 .1 .0);
+      cuts = eqb→eq (length (c .cuts)) (min (c .made) maxCuts) (g .1 .1 .1 .0);
+      numbers = numbers-in (c .numbers) (tab (cutNumber c) 0 (length (c .cuts))) (h .1 .1 .1 .0);
+      levels = every-in (LevelFits n last) (levelShaped n) (levelValid last) (level-in n last) (levels c) (g .0) (h .1 .1 .1 .1 .0);
+      stacked = stacked-in n (c .deepest) (c .outer) (h .1 .1 .1 .1 .1 .0);
     }
 
 pub sizes-fit : (s : Search) → T (valid s) → Sizes s
@@ -163,6 +168,7 @@ fits-shaped c f =
     all-out _ (
     every-out (LevelFits n last) (levelShaped n) (level-shaped n last) (levels c) (f .levels) &
     every-out (ConstraintFits n) (constraintShaped n) (constraint-shaped n) (kept c) (f .constraints) &
+    every-out Inequality isInequality inequality-out (c .cuts) (f .inequalities) &
     eqb-out _ _ (f .cuts) &
     tt)
 
@@ -193,7 +199,7 @@ scalars-valid s f z =
     tt)
 
 pub fits-valid : (s : Search) → CoreFits (s .core) → Sizes s → T (statusValid (s .core) (s .status)) → T (valid s)
-unfolding valid constraintsValid numbersValid levelsValid
+unfolding valid constraintsValid divisorsValid numbersValid levelsValid
 fits-valid s f z m =
     let c = s .core in
     let n = c .variables in
@@ -201,6 +207,7 @@ fits-valid s f z m =
     all-out _ (
     scalars-valid s f z &
     every-out (ConstraintFits n) inRange (λ k h. h .range) (kept c) (f .constraints) &
+    f .divisors &
     numbers-out _ _ (f .numbers) &
     every-out (LevelFits n last) (levelValid last) (level-valid n last) (levels c) (f .levels) &
     stacked-out n (c .deepest) (c .outer) (f .stacked) &
@@ -241,7 +248,16 @@ stacked-nested n l (o ∷ ls) box rs s r k =
 pub levels-fit : (c : Core) (l : Level) (ls : List Level) → CoreFits c → Every (LevelFits (c .variables) (length (c .inputs) + c .made)) (l ∷ ls) →
     Stacked (c .variables) l ls → CoreFits (withLevels c l ls)
 unfolding withLevels levels kept cutNumber dropped
-levels-fit c l ls f h s = record { constraints = f .constraints; cuts = f .cuts; numbers = f .numbers; levels = h; stacked = s }
+levels-fit c l ls f h s =
+    record {
+      constraints = f .constraints;
+      divisors = f .divisors;
+      inequalities = f .inequalities;
+      cuts = f .cuts;
+      numbers = f .numbers;
+      levels = h;
+      stacked = s;
+    }
 
 pub deepest-nested : (c : Core) (i : ℕ) (box : Box) (r : Reasons) → CoreFits c → Ordered box → Nested box (c .deepest .box) →
     T (reasonValid (length (c .inputs) + c .made) (r .lower)) → T (reasonValid (length (c .inputs) + c .made) (r .upper)) →

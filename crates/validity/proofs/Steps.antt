@@ -6,24 +6,28 @@ use mathlib.Core.List.{List, [], _∷_, _++_}
 use mathlib.Core.Option.{Option, none, some}
 use mathlib.Core.Path.{_≡_, refl, sym, ap, subst, _∙_}
 use lib.Dec.{T, eqb, eqb→eq, eqb-refl}
-use lib.IntN.{ℤ}
-use lib.ListN.{getD, length, drop}
+use lib.IntN.{ℤ, pos}
+use lib.ListN.{getD, length, drop, replicate, length-replicate}
 use lib.Signed.{ltZ}
-use Rattle.model.specs.Lists.{anyOf}
-use Rattle.model.specs.Constraint.{Constraint, Box, falsified}
+use Rattle.model.specs.Lists.{allOf, anyOf}
+use Rattle.model.specs.Ranges.{within, maxCoefficient}
+use Rattle.model.specs.Constraint.{Constraint, Box, modulus, isOpen, falsified, inRange}
 use Rattle.model.specs.File.{noConstraint}
 use Rattle.model.specs.Search.{constraint, Level, Core, Status, undecided, infeasible, solved, Search, depth, levels, withLevels, withDeepest, kept, numberAt, raiseLower, lowerUpper, decideAt}
 use Rattle.model.specs.Move.{nextMove, Stop, follow, descend}
-use Rattle.model.specs.Conflict.{Analysis, Numbered, Conflict, analyze, numbered, backjumpLevel, backFrom, backUp, settled, conflictOf, atConflict}
-use Rattle.model.specs.Validity.{isOpen, falsifies, anyFalsified, outermost, statusValid}
+use Rattle.model.specs.Conflict.{Analysis, Numbered, Conflict, analyze, numbered, backjumpLevel, backFrom, backUp, settled, conflictOf, learning, nothingLearned, noLearning, conflictBy, atConflict}
+use Rattle.model.specs.Validity.{falsifies, anyFalsified, outermost, statusValid}
 use Rattle.model.specs.Step.{Verdict, goOn, noSolution, outOfBudget, solution, Outcome, withStatus, solvedBy, budgetSpent, verdictAt, statusAt, counted, onConflict, endedAt, ended, again, stepBy, step, continue, runFor, withoutBlock, run}
 use Rattle.integer.specs.Parts.{_⊑_, nlt-out}
-use Rattle.integer.specs.Tests.{and-in, not-out}
+use Rattle.integer.specs.Tests.{and-in}
+use Rattle.lists.proofs.Bools.{true-of, T-of}
+use Rattle.lists.proofs.AnyOf.{anyOf-getD}
 use Rattle.validity.specs.Valid.{Valid}
 use Rattle.validity.proofs.Boxes.{Fixed}
+use Rattle.validity.proofs.Constraints.{Inequality}
 use Rattle.validity.proofs.Moves.{Clear, Falsifies, Finishes, Raises, Lowers, Decides}
-use Rattle.validity.proofs.States.{CoreFits, Sizes, core-fits, sizes-fit, fits-shaped, fits-valid, deepest-ordered, raise-fits, lower-fits, decide-fits}
-use Rattle.validity.proofs.Conflicts.{Learned, analyze-learned, Keeps, numbered-keeps, numbered-fits, numbered-falsifies, Back, backjump-back, back-outermost, back-fits}
+use Rattle.validity.proofs.States.{ConstraintFits, CoreFits, Sizes, core-fits, sizes-fit, fits-shaped, fits-valid, deepest-ordered, raise-fits, lower-fits, decide-fits}
+use Rattle.validity.proofs.Conflicts.{analyze-learned, Keeps, keeps-all, numbered-keeps, numbered-fits, numbered-falsifies, Back, backjump-back, back-outermost, back-fits}
 use Rattle.validity.proofs.Descent.{EndsAt, Ended, descend-keeps, descend-next}
 
 -- ---- moves 2 and 3: the state stays valid, with the same sizes
@@ -49,8 +53,8 @@ descent-next c f = descend-next CoreFits deepest-ordered raise-fits lower-fits d
 -- what a conflict in position j gives
 pub record Settled (c : Core) (x : Conflict) : Type 0 where
   pub fits : CoreFits (x .core)
-  pub learned : Learned c (x .cut)
-  pub back : Back (x .cut) c (x .back)
+  pub cut : ConstraintFits (c .variables) (x .cut)
+  pub inequality : Inequality (x .cut)
   pub variables : x .core .variables ≡ c .variables
   pub inputs : x .core .inputs ≡ c .inputs
   pub made : x .core .made ≤ suc (c .made)
@@ -78,31 +82,53 @@ unfolding settled depth
 settled-fits zero c n k f h = f
 settled-fits (suc d) c n k f h = back-fits d n f (unfold depth in rw (k .outer) h)
 
-settled-status : (d : ℕ) (c : Core) (k : Constraint) → Back k c d → T (statusValid (settled d (numbered c k .core)) (statusAt d))
-unfolding settled statusAt statusValid anyFalsified
-settled-status zero c k b =
-    let n = numbered-keeps c k in
-    rw (n .deepest, n .outer) (numbered-falsifies c k (outermost (c .deepest) (c .outer) .box) (back-outermost k c b))
-settled-status (suc d) c k b = tt
+settled-status : (d : ℕ) (c n : Core) (k : Constraint) → Keeps c n → Back k c d → ((box : Box) → T (falsified k box) → T (anyOf (falsifies box) (kept n))) →
+    T (statusValid (settled d n) (statusAt d))
+unfolding settled statusAt statusValid anyFalsified kept
+settled-status zero c n k e b f = rw (e .deepest, e .outer) (f (outermost (c .deepest) (c .outer) .box) (back-outermost k c b))
+settled-status (suc d) c n k e b f = tt
+
+-- d is the least depth that falsifies k, which the deepest level falsifies, and whatever falsifies k falsifies a constraint that is kept afterwards
+settled-of : (c : Core) (j : ℕ) (a : Analysis) (n : Numbered) (k : Constraint) → CoreFits (n .core) → Keeps c (n .core) → ConstraintFits (c .variables) (a .cut) → Inequality (a .cut) →
+    T (falsified k (c .deepest .box)) → ((box : Box) → T (falsified k box) → T (anyOf (falsifies box) (kept (n .core)))) → Settled c (conflictOf c j a n (backjumpLevel k c))
+unfolding conflictOf
+settled-of c j a n k f e cut own t any =
+    let b = backjump-back k c t in
+    let d = backjumpLevel k c in
+    let z = settled-sized d (n .core) in
+    record {
+      fits = settled-fits d c (n .core) e f (b .reach);
+      cut = cut;
+      inequality = own;
+      variables = z .variables ∙ e .variables;
+      inputs = z .inputs ∙ e .inputs;
+      made = omega (arith, z .made, e .made);
+      status = settled-status d c (n .core) k e b any;
+    }
+
+-- the zero cut is in range
+nothing-fits : (n : ℕ) → ConstraintFits n (nothingLearned n .cut)
+unfolding nothingLearned inRange allOf within
+nothing-fits n = record { range = zeros n; size = length-replicate n (pos 0) }
+  where
+    zeros : (n : ℕ) → T (allOf (within maxCoefficient) (replicate n (pos 0)))
+    zeros zero = tt
+    zeros (suc n) = zeros n
+
+conflict-by : (q : ℕ) (c : Core) (j : ℕ) → modulus (getD (kept c) j noConstraint) ≡ q → CoreFits c → Falsifies (kept c) (c .deepest .box) j → Settled c (conflictBy q c j (getD (kept c) j noConstraint))
+unfolding conflictBy learning noLearning
+conflict-by zero c j e f h =
+    let a = analyze c (getD (kept c) j noConstraint) in
+    let l = analyze-learned c j f h e in
+    settled-of c j a (numbered c (a .cut)) (a .cut) (numbered-fits c (a .cut) f (l .fits) (l .inequality)) (numbered-keeps c (a .cut)) (l .fits) (l .inequality) (l .false)
+    (λ box t. numbered-falsifies c (a .cut) box t)
+conflict-by (suc q) c j e f h =
+    settled-of c j (nothingLearned (c .variables)) (record { number = 0; core = c }) (getD (kept c) j noConstraint) f (keeps-all c) (nothing-fits (c .variables)) (unfold modulus nothingLearned in refl) (h .false)
+    (λ box t. T-of (anyOf-getD (falsifies box) (kept c) j noConstraint (h .at) (true-of _ (unfold falsifies in t))))
 
 pub conflict-settled : (c : Core) (j : ℕ) → CoreFits c → Falsifies (kept c) (c .deepest .box) j → Settled c (atConflict c j)
-unfolding atConflict conflictOf
-conflict-settled c j f h =
-    let k = analyze c (getD (kept c) j noConstraint) .cut in
-    let l = analyze-learned c j f h in
-    let b = backjump-back k c (l .false) in
-    let d = backjumpLevel k c in
-    let n = numbered-keeps c k in
-    let z = settled-sized d (numbered c k .core) in
-    record {
-      fits = settled-fits d c (numbered c k .core) n (numbered-fits c k f (l .fits)) (b .reach);
-      learned = l;
-      back = b;
-      variables = z .variables ∙ n .variables;
-      inputs = z .inputs ∙ n .inputs;
-      made = omega (arith, z .made, n .made);
-      status = settled-status d c k b;
-    }
+unfolding atConflict
+conflict-settled c j f h = conflict-by (modulus (getD (kept c) j noConstraint)) c j refl f h
 
 -- ---- the marks
 neither : (s t : Bool) → T (not s) → T (not t) → T (not (s || t))

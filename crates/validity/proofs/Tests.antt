@@ -1,7 +1,7 @@
 -- Validity's tests of numbers, boxes and reasons, as facts and back.
 use Prim.Native.Nat.{ℕ, zero, suc, _+_, _-_, _≤_, _<_, min}
 use native.Mathlib.Omega.{arith}
-use mathlib.Core.Bool.{Bool, true, false, cond}
+use mathlib.Core.Bool.{Bool, true, false, _&&_, cond}
 use mathlib.Core.List.{List, [], _∷_}
 use mathlib.Core.Path.{_≡_, refl, ap}
 use lib.Dec.{T, leb, ltb, eqb, le→leb, ltb→lt, eqb→eq, eqb-refl}
@@ -11,7 +11,7 @@ use lib.ListN.{length, length-append}
 use mir.Facts.{and-yes, yes-and}
 use Rattle.model.specs.Lists.{allOf, allPairs}
 use Rattle.model.specs.Ranges.{maxCuts, maxBound, within}
-use Rattle.model.specs.Constraint.{Box, lowerAt, upperAt, equalℤ}
+use Rattle.model.specs.Constraint.{Constraint, Box, lowerAt, upperAt, equalℤ, equal}
 use Rattle.model.specs.Problem.{boundsInRange}
 use Rattle.model.specs.Search.{constraint, Reasons, reasonsAt, Core, kept, dropped, numberAt}
 use Rattle.model.specs.Validity.{reasonValid, reasonsValid, inside, boxInside}
@@ -33,6 +33,18 @@ pub equal-refl : (a : ℤ) → T (equalℤ a a)
 unfolding equalℤ
 equal-refl (pos a) = eqb-refl a
 equal-refl (negsuc a) = eqb-refl a
+
+pub same-constraint : (k l : Constraint) → T (equal k l) → k ≡ l
+unfolding equal
+same-constraint k l t =
+    let pairs = allPairs equalℤ (k .coefficients) (l .coefficients) in
+    let constant = equalℤ (k .constant) (l .constant) in
+    let h = and-yes (equalℤ (k .divisor) (l .divisor)) (constant && pairs) t in
+    let i = and-yes constant pairs (h .1) in
+    let divisors = equal-in (k .divisor) (l .divisor) (h .0) in
+    let constants = equal-in (k .constant) (l .constant) (i .0) in
+    let coefficients = pairs-equal equalℤ (λ a b e. equal-in a b (T-of e)) (k .coefficients) (l .coefficients) (true-of pairs (i .1)) in
+    rw (constants, coefficients, divisors)
 
 pub eqb-out : (a b : ℕ) → a ≡ b → T (eqb a b)
 eqb-out a b e = rw e (eqb-refl b)

@@ -10,8 +10,8 @@ Inv-loop kind f tried₀ i₀ tried i = i ≤ 100
 abbrev μ-loop : tie.MeasureT-loop
 μ-loop kind f tried₀ i₀ tried i = 100 - i
 
-of-requires : tie.Need-of-requires Inv-loop μ-loop
-of-requires c κs = search needs
+changed-family-requires : tie.Need-changed-family-requires Inv-loop μ-loop
+changed-family-requires c κs = search needs
 
 loop-holds : tie.Need-loop-holds Inv-loop μ-loop
 loop-holds c = search needs
@@ -46,7 +46,7 @@ try-kind-spec =
     (tie.spec
     Inv-loop
     μ-loop
-    of-requires
+    changed-family-requires
     loop-holds
     number-of-requires
     problem-of-requires

@@ -12,18 +12,18 @@ use Rattle.opening.proofs.rounded_rows.Statement.{statement}
 use Rattle.opening.proofs.rounded_rows.Tie as tie
 
 abbrev Inv-loop : tie.InvT-loop
-Inv-loop p n m rows₀ j₀ rows j = (j ≤ p .m) × RowsRounded (p .n) (p .constraints) j rows
+Inv-loop p n m rows₀ j₀ rows j = (j ≤ p .m) × RowsRounded (p .n) (p .constraints) (p .divisors) j rows
 
 abbrev μ-loop : tie.MeasureT-loop
 μ-loop p n m rows₀ j₀ rows j = p .m - j
 
 loop-holds : tie.Need-loop-holds Inv-loop μ-loop
-loop-holds c = (omega arith, round-none _ _ (replicate rowsLength (pos 0)) (length-replicate rowsLength (pos 0)))
+loop-holds c = (omega arith, round-none _ _ _ (replicate rowsLength (pos 0)) (length-replicate rowsLength (pos 0)))
 
 round-row-requires : tie.Need-round-row-requires Inv-loop μ-loop
 round-row-requires c κs =
-    let l = c .before .before .before .before .loop in
-    let s = c .before .before .before .before .before in
+    let l = c .before .before .before .before .before .loop in
+    let s = c .before .before .before .before .before .before in
     (s .pre .few-variables, (omega arith, (row-in-range (s .args .t1) (l .j) (s .pre) (omega arith), l .inv .1)))
 
 add-j : tie.Need-add-j Inv-loop μ-loop

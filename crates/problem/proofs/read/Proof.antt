@@ -1,6 +1,6 @@
 use borrow.Author.Needs.{needs}
 use Rattle.lists.proofs.Bools.{said-yes}
-use Rattle.problem.proofs.ReadCascade.{truncated, has-head, bad-checksum, bad-magic, size-range, blocks, domain-range, coefficient-range, nonzero-padding, accepted}
+use Rattle.problem.proofs.ReadCascade.{truncated, has-head, bad-checksum, bad-magic, size-range, blocks, domain-range, coefficient-range, divisor-range, nonzero-padding, accepted}
 use Rattle.problem.proofs.read.Statement.{statement}
 use Rattle.problem.proofs.read.Tie as tie
 
@@ -61,29 +61,39 @@ refused-requires-6 c κs = search needs
 returns-6 : tie.Need-returns-6
 returns-6 c = search (coefficient-range, said-yes)
 
-padding-zero-requires : tie.Need-padding-zero-requires
-padding-zero-requires c κs = blocks _ (said-yes (c .before .before .before .before .before .before .sizes-match .ensures) (c .before .before .before .before .before .if4 .left))
+divisors-in-range-requires : tie.Need-divisors-in-range-requires
+divisors-in-range-requires c κs = search needs
 
 refused-requires-7 : tie.Need-refused-requires-7
 refused-requires-7 c κs = search needs
 
 returns-7 : tie.Need-returns-7
-returns-7 c = search (nonzero-padding, said-yes)
+returns-7 c = search (divisor-range, said-yes)
+
+padding-zero-requires : tie.Need-padding-zero-requires
+padding-zero-requires c κs = blocks _ (said-yes (c .before .before .before .before .before .before .before .before .sizes-match .ensures) (c .before .before .before .before .before .before .before .if4 .left))
+
+refused-requires-8 : tie.Need-refused-requires-8
+refused-requires-8 c κs = search needs
 
 returns-8 : tie.Need-returns-8
-returns-8 c =
+returns-8 c = search (nonzero-padding, said-yes)
+
+returns-9 : tie.Need-returns-9
+returns-9 c =
     accepted _
-    (said-yes (c .before .before .before .before .before .before .before .before .sizes-match .ensures) (c .before .before .before .before .before .before .before .if4 .left))
+    (said-yes (c .before .before .before .before .before .before .before .before .before .before .sizes-match .ensures) (c .before .before .before .before .before .before .before .before .before .if4 .left))
     _
-    (c .before .before .before .before .before .before .problem-in .ensures .0)
-    (said-yes (c .before .before .before .before .before .before .before .before .before .before .before .before .before .before .is-whole .ensures) (c .before .before .before .before .before .before .before .before .before .before .before .before .before .if1 .left))
-    (said-yes (c .before .before .before .before .before .before .before .before .before .before .before .before .checks-match .ensures) (c .before .before .before .before .before .before .before .before .before .before .before .if2 .left))
-    (said-yes (c .before .before .before .before .before .before .before .before .before .before .magic-matches .ensures) (c .before .before .before .before .before .before .before .before .before .if3 .left))
-    (said-yes (c .before .before .before .before .before .domain-in-range .ensures) (c .before .before .before .before .if5 .left))
-    (said-yes (c .before .before .before .constraints-in-range .ensures) (c .before .before .if6 .left))
+    (c .before .before .before .before .before .before .before .before .problem-in .ensures .0)
+    (said-yes (c .before .before .before .before .before .before .before .before .before .before .before .before .before .before .before .before .is-whole .ensures) (c .before .before .before .before .before .before .before .before .before .before .before .before .before .before .before .if1 .left))
+    (said-yes (c .before .before .before .before .before .before .before .before .before .before .before .before .before .before .checks-match .ensures) (c .before .before .before .before .before .before .before .before .before .before .before .before .before .if2 .left))
+    (said-yes (c .before .before .before .before .before .before .before .before .before .before .before .before .magic-matches .ensures) (c .before .before .before .before .before .before .before .before .before .before .before .if3 .left))
+    (said-yes (c .before .before .before .before .before .before .before .domain-in-range .ensures) (c .before .before .before .before .before .before .if5 .left))
+    (said-yes (c .before .before .before .before .before .constraints-in-range .ensures) (c .before .before .before .before .if6 .left))
+    (said-yes (c .before .before .before .divisors-in-range .ensures) (c .before .before .if7 .left))
     _
     (c .before .padding-zero .ensures)
-    (c .if7 .left)
+    (c .if8 .left)
 
 pub read-spec : {M : Type 1} → statement M
 read-spec =
@@ -108,7 +118,10 @@ read-spec =
     constraints-in-range-requires
     refused-requires-6
     returns-6
-    padding-zero-requires
+    divisors-in-range-requires
     refused-requires-7
     returns-7
-    returns-8)
+    padding-zero-requires
+    refused-requires-8
+    returns-8
+    returns-9)

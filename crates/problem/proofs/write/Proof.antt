@@ -1,6 +1,6 @@
 use borrow.Author.Needs.{needs}
 use Rattle.lists.proofs.Bools.{said-yes}
-use Rattle.problem.proofs.WriteCascade.{sized, variables-few, constraints-few, size-range, domain-range, coefficient-range, short-buffer, writable, done}
+use Rattle.problem.proofs.WriteCascade.{sized, variables-few, constraints-few, size-range, domain-range, coefficient-range, divisor-range, short-buffer, writable, done}
 use Rattle.problem.proofs.write.Statement.{statement}
 use Rattle.problem.proofs.write.Tie as tie
 
@@ -22,23 +22,30 @@ constraints-in-range-requires c κs = search (needs, variables-few, constraints-
 returns-3 : tie.Need-returns-3
 returns-3 c = search (coefficient-range, sized, said-yes)
 
+divisors-in-range-requires : tie.Need-divisors-in-range-requires
+divisors-in-range-requires c κs = search (needs, constraints-few, sized)
+
 returns-4 : tie.Need-returns-4
-returns-4 c = search (short-buffer, sized, said-yes)
+returns-4 c = search (divisor-range, sized, said-yes)
+
+returns-5 : tie.Need-returns-5
+returns-5 c = search (short-buffer, sized, said-yes)
 
 write-blocks-requires : tie.Need-write-blocks-requires
 write-blocks-requires c κs =
     writable _
-    (sized _ _ (c .before .before .before .before .before .before .before .sizes-in-range .ensures) (c .before .before .before .before .before .before .if1 .left))
+    (sized _ _ (c .before .before .before .before .before .before .before .before .before .sizes-in-range .ensures) (c .before .before .before .before .before .before .before .before .if1 .left))
     _
-    (said-yes (c .before .before .before .before .before .domain-in-range .ensures) (c .before .before .before .before .if2 .left))
-    (said-yes (c .before .before .before .constraints-in-range .ensures) (c .before .before .if3 .left))
-    (c .before .if4 .left)
+    (said-yes (c .before .before .before .before .before .before .before .domain-in-range .ensures) (c .before .before .before .before .before .before .if2 .left))
+    (said-yes (c .before .before .before .before .before .constraints-in-range .ensures) (c .before .before .before .before .if3 .left))
+    (said-yes (c .before .before .before .divisors-in-range .ensures) (c .before .before .if4 .left))
+    (c .before .if5 .left)
 
 same-length : tie.Need-same-length
 same-length c = search needs
 
-returns-5 : tie.Need-returns-5
-returns-5 c = search (done, sized, said-yes)
+returns-6 : tie.Need-returns-6
+returns-6 c = search (done, sized, said-yes)
 
 pub write-spec : {M : Type 1} → statement M
 write-spec =
@@ -50,7 +57,9 @@ write-spec =
     returns-2
     constraints-in-range-requires
     returns-3
+    divisors-in-range-requires
     returns-4
+    returns-5
     write-blocks-requires
     same-length
-    returns-5)
+    returns-6)

@@ -9,7 +9,7 @@ use Rattle.model.specs.Constraint.{Constraint, coefficientAt, opposite}
 use Rattle.model.specs.Conflict.{Resolved}
 use Rattle.lists.proofs.Bools.{true-of, said-no, said-yes}
 use Rattle.layout.specs.Rows.{rowLength, constraintAt, rowAt}
-use Rattle.layout.proofs.Rows.{coefficient-at}
+use Rattle.layout.proofs.Rows.{coefficient-at, row-plain}
 use Rattle.layout.proofs.Elements.{cell-read}
 use Rattle.linear.proofs.Ranges.{row-fits, box-fits}
 use Rattle.analyze.specs.Analyzed.{ResolvedAs}
@@ -100,7 +100,7 @@ unfolding rowAt
 returns-2 c =
     let a = c .before .before .before in
     let h = c .before .is-holding .ensures (c .if2 .taken) in
-    (untouched (signed a) (with-combined _ _ _ _ _ _ (opposite-signs a) (a .combine-at .ensures .outcome) (h .0) (h .1)), a .combine-at .ensures .size)
+    (untouched (signed a) (with-combined _ _ _ _ _ _ (opposite-signs a) (a .combine-at .ensures .outcome) (row-plain _ _ _) (h .0) (h .1)), a .combine-at .ensures .size)
 
 round-into-range-requires : tie.Need-round-into-range-requires
 round-into-range-requires c κs =

@@ -1,4 +1,4 @@
--- `backtrack::mirror::backjump_level` meets its contract: every level passed falsifies the cut. Assumes nothing.
+-- `backtrack::mirror::backjump_level` meets its contract: every level passed falsifies the constraint. Assumes nothing.
 use Prim.Native.Nat.{ℕ, _+_, _*_, _-_, _≤_, _<_}
 use native.Mathlib.Omega.{arith}
 use mathlib.Core.Bool.{true, false}
@@ -11,23 +11,27 @@ use mathlib.Core.Logic.{⊎-elim}
 use lib.IntN.{ℤ}
 use lib.ListN.{length, drop, take, length-drop}
 use lib.Seq.{take-all}
+use mir.Syntax.{w64}
+use mir.Val.{toZ}
+use mir.Facts.{toZ-ofZ}
+use Rattle.layout.proofs.Elements.{back}
 use Rattle.model.specs.Ranges.{maxVariables}
 use borrow.Author.Tests.{not-true, not-false}
 use Rattle.model.specs.Constraint.{falsified}
-use Rattle.layout.specs.Rows.{constraintAt, boxOf}
+use Rattle.layout.specs.Rows.{dividedAt, boxOf}
 use Rattle.backtrack.specs.Mirror.{boxIn}
 use Rattle.backtrack.proofs.mirror.backjump_level.Statement.{statement}
 use Rattle.backtrack.proofs.mirror.backjump_level.Tie as tie
 use Rattle.backtrack.proofs.mirror.backjump_level.Reads as reads
 use Rattle.backtrack.proofs.mirror.backjump_level.Lts as lts
-use Rattle.linear.proofs.activity.is_falsified.Reads as is-falsified-reads
+use Rattle.linear.proofs.divisibility.is_falsified.Reads as is-falsified-reads
 
 abbrev Inv-loop : tie.InvT-loop
-Inv-loop cut n depth lowers uppers back₀ back =
-    (back ≤ depth) × ((t : ℕ) → back ≤ t → t < depth → falsified (constraintAt n cut 0) (boxIn n lowers uppers t) ≡ true)
+Inv-loop cut q n depth lowers uppers back₀ back =
+    (back ≤ depth) × ((t : ℕ) → back ≤ t → t < depth → falsified (dividedAt n cut 0 (toZ w64 q)) (boxIn n lowers uppers t) ≡ true)
 
 abbrev μ-loop : tie.MeasureT-loop
-μ-loop cut n depth lowers uppers back₀ back = back
+μ-loop cut q n depth lowers uppers back₀ back = back
 
 -- the part of an array from a place on
 whole-part : (xs : List ℤ) (k : ℕ) → take (length xs - k) (drop k xs) ≡ drop k xs
@@ -70,16 +74,19 @@ is-falsified-requires : tie.Need-is-falsified-requires Inv-loop μ-loop
 is-falsified-requires c κs =
     let l = c .before .before .before .before in
     let p = l .before .pre in (
-      p .0,
-      rw (whole-part (now (l .before .args .lowers)) (maxVariables * (l .loop .back - 1)), whole-part (now (l .before .args .uppers)) (maxVariables * (l .loop .back - 1)))
-          (p .1 .1 .at (l .loop .back - 1) (omega (arith, l .loop .inv .0, c .before .before .before .loop-test .taken))),
+      rw (toZ-ofZ (l .before .fits .q)) (p .0),
+      (
+        p .1 .0,
+        rw (whole-part (now (l .before .args .lowers)) (maxVariables * (l .loop .back - 1)), whole-part (now (l .before .args .uppers)) (maxVariables * (l .loop .back - 1)))
+            (p .1 .1 .1 .at (l .loop .back - 1) (omega (arith, l .loop .inv .0, c .before .before .before .loop-test .taken))),
+      ),
     )
 
 -- what the test of the level at depth back − 1 told
 tested : (c : tie.After-is-falsified Inv-loop μ-loop) →
     let l = c .before .before .before .before .before in
     let a = l .before .args in
-    c .is-falsified .result ≡ falsified (constraintAt (a .n) (now (a .cut)) 0) (boxIn (a .n) (now (a .lowers)) (now (a .uppers)) (l .loop .back - 1))
+    c .is-falsified .result ≡ falsified (dividedAt (a .n) (now (a .cut)) 0 (back (a .q))) (boxIn (a .n) (now (a .lowers)) (now (a .uppers)) (l .loop .back - 1))
 unfolding boxIn
 tested c =
     let l = c .before .before .before .before .before in
@@ -89,11 +96,11 @@ returns : tie.Need-returns Inv-loop μ-loop
 returns c =
     let l = c .before .before .before .before .before .before in
     let t = l .loop .back - 1 in
-    record {
+    rw (← toZ-ofZ (l .before .fits .q)) (record {
       most = l .loop .inv .0;
       falsifies = l .loop .inv .1;
       stops = λ t e. let q : t ≡ l .loop .back - 1 = omega arith in rw q (sym (tested (c .before)) ∙ not-true _ (c .if1 .taken));
-    }
+    })
 
 sub-back : tie.Need-sub-back Inv-loop μ-loop
 sub-back c = search needs
@@ -115,7 +122,7 @@ loop-again c =
 returns-2 : tie.Need-returns-2 Inv-loop μ-loop
 returns-2 c =
     let l = c .before in
-    record { most = l .loop .inv .0; falsifies = l .loop .inv .1; stops = λ t e. absurd (omega (arith, c .loop-test .left)) }
+    rw (← toZ-ofZ (l .before .fits .q)) (record { most = l .loop .inv .0; falsifies = l .loop .inv .1; stops = λ t e. absurd (omega (arith, c .loop-test .left)) })
 
 pub backjump-level-spec : {M : Type 1} → statement M
 backjump-level-spec =

@@ -51,6 +51,9 @@ loop-less c = search needs
 loop-again : tie.Need-loop-again Inv-loop μ-loop
 loop-again c = (search needs, simp length-set (search needs), simp length-set (search needs))
 
+divisors-of-requires : tie.Need-divisors-of-requires Inv-loop μ-loop
+divisors-of-requires c κs = search needs
+
 rows-of-requires : tie.Need-rows-of-requires Inv-loop μ-loop
 rows-of-requires c κs = search needs
 
@@ -76,5 +79,6 @@ problem-of-spec =
     add-i
     loop-less
     loop-again
+    divisors-of-requires
     rows-of-requires
     returns)

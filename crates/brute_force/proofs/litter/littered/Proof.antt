@@ -8,16 +8,22 @@ use Rattle.brute_force.proofs.litter.littered.Statement.{statement}
 use Rattle.brute_force.proofs.litter.littered.Tie as tie
 
 abbrev Inv-loop : tie.InvT-loop
-Inv-loop s t₀ cut d₀ t d = (d ≤ 33) × (length (t .levels) ≡ 33)
+Inv-loop s t₀ past cut d₀ t d = (d ≤ 33) × (length (t .levels) ≡ 33)
 
 abbrev μ-loop : tie.MeasureT-loop
-μ-loop s t₀ cut d₀ t d = 33 - d
+μ-loop s t₀ past cut d₀ t d = 33 - d
 
 rows-littered-requires : tie.Need-rows-littered-requires Inv-loop μ-loop
 rows-littered-requires c κs = search needs
 
 mul-t : tie.Need-mul-t Inv-loop μ-loop
 mul-t c = search needs
+
+element-set-of-t : tie.Need-element-set-of-t Inv-loop μ-loop
+element-set-of-t c = search needs
+
+mul-t-2 : tie.Need-mul-t-2 Inv-loop μ-loop
+mul-t-2 c = search needs
 
 element-write-t : tie.Need-element-write-t Inv-loop μ-loop
 element-write-t c = search needs
@@ -54,6 +60,8 @@ littered-spec =
     μ-loop
     rows-littered-requires
     mul-t
+    element-set-of-t
+    mul-t-2
     element-write-t
     loop-holds
     level-of-requires

@@ -5,16 +5,22 @@ use Rattle.brute_force.proofs.opened.are_rounded.Statement.{statement}
 use Rattle.brute_force.proofs.opened.are_rounded.Tie as tie
 
 abbrev Inv-loop : tie.InvT-loop
-Inv-loop rows given m j₀ j = j ≤ 6
+Inv-loop rows given divisors m j₀ j = j ≤ 6
 
 abbrev μ-loop : tie.MeasureT-loop
-μ-loop rows given m j₀ j = 6 - j
+μ-loop rows given divisors m j₀ j = 6 - j
 
 loop-holds : tie.Need-loop-holds Inv-loop μ-loop
 loop-holds c = search needs
 
 mul-is-rounded : tie.Need-mul-is-rounded Inv-loop μ-loop
 mul-is-rounded c = search needs
+
+mul-is-rounded-2 : tie.Need-mul-is-rounded-2 Inv-loop μ-loop
+mul-is-rounded-2 c = search needs
+
+element-copy-out-is-rounded : tie.Need-element-copy-out-is-rounded Inv-loop μ-loop
+element-copy-out-is-rounded c = search needs
 
 is-rounded-requires : tie.Need-is-rounded-requires Inv-loop μ-loop
 is-rounded-requires c κs = search needs
@@ -42,6 +48,8 @@ are-rounded-spec =
     μ-loop
     loop-holds
     mul-is-rounded
+    mul-is-rounded-2
+    element-copy-out-is-rounded
     is-rounded-requires
     returns
     add-j

@@ -5,10 +5,10 @@ use Rattle.brute_force.proofs.opened.is_rounded.Statement.{statement}
 use Rattle.brute_force.proofs.opened.is_rounded.Tie as tie
 
 abbrev Inv-loop : tie.InvT-loop
-Inv-loop rows given start h most₀ i₀ most i = i ≤ 7
+Inv-loop rows given start q h most₀ i₀ most i = i ≤ 7
 
 abbrev μ-loop : tie.MeasureT-loop
-μ-loop rows given start h most₀ i₀ most i = 7 - i
+μ-loop rows given start q h most₀ i₀ most i = 7 - i
 
 divisor-requires : tie.Need-divisor-requires Inv-loop μ-loop
 divisor-requires c κs = search needs

@@ -5,10 +5,10 @@ use Rattle.brute_force.proofs.points.is_solution.Statement.{statement}
 use Rattle.brute_force.proofs.points.is_solution.Tie as tie
 
 abbrev Inv-loop : tie.InvT-loop
-Inv-loop rows m x j₀ j = j ≤ 6
+Inv-loop rows divisors m x j₀ j = j ≤ 6
 
 abbrev μ-loop : tie.MeasureT-loop
-μ-loop rows m x j₀ j = 6 - j
+μ-loop rows divisors m x j₀ j = 6 - j
 
 loop-holds : tie.Need-loop-holds Inv-loop μ-loop
 loop-holds c = search needs
@@ -18,6 +18,15 @@ mul-value c = search needs
 
 value-requires : tie.Need-value-requires Inv-loop μ-loop
 value-requires c κs = search needs
+
+mul-is-met : tie.Need-mul-is-met Inv-loop μ-loop
+mul-is-met c = search needs
+
+element-copy-out-is-met : tie.Need-element-copy-out-is-met Inv-loop μ-loop
+element-copy-out-is-met c = search needs
+
+is-met-requires : tie.Need-is-met-requires Inv-loop μ-loop
+is-met-requires c κs = search needs
 
 returns : tie.Need-returns Inv-loop μ-loop
 returns c = search needs
@@ -43,6 +52,9 @@ is-solution-spec =
     loop-holds
     mul-value
     value-requires
+    mul-is-met
+    element-copy-out-is-met
+    is-met-requires
     returns
     add-j
     loop-less

@@ -1,9 +1,18 @@
 -- `engine::conflict::conflict` meets its contract. Assumes nothing.
-use Prim.Native.Nat.{_+_, _≤_, _<_}
 use native.Mathlib.Omega.{arith}
-use borrow.Author.Needs.{needs}
-use Rattle.state.specs.View.{keptCuts}
+use mathlib.Core.Logic.{inl}
+use mathlib.Core.Path.{_≡_, sym, ap, _∙_}
+use borrow.Author.Needs.{needs, sfits-of}
+use denote.Ref.{now}
+use lib.Dec.{lit≤}
+use lib.IntN.{pos}
+use mir.Facts.{toZ-ofZ}
+use mir.Syntax.{w64}
+use mir.Val.{toZ, ofZ}
+use Rattle.integer.specs.Tests.{same, fits-lit}
+use Rattle.state.specs.View.{keptCuts, divisorFor}
 use Rattle.engine.proofs.Learning.{cut-row, cut-fits}
+use Rattle.engine.proofs.Dismissing.{may-dismiss, dismissed, undivided}
 use Rattle.engine.proofs.conflict.conflict.Statement.{statement}
 use Rattle.engine.proofs.conflict.conflict.Tie as tie
 
@@ -13,34 +22,77 @@ number-of-requires c κs =
     let l = c .before .pre .learnable in
     (omega (arith, l .position, l .inputs), l .cuts)
 
-learn-requires : tie.Need-learn-requires
-learn-requires c κs = search needs
+divisor-of-requires : tie.Need-divisor-of-requires
+divisor-of-requires c κs = search needs
 
-backjump-level-requires : tie.Need-backjump-level-requires
-backjump-level-requires c κs =
-    let p = c .before .before .before .before .before .before .before .before .before .before .before in
-    (cut-row (p .pre .learnable .variables) (c .before .before .before .before .before .learn .ensures .0 0), (p .pre .deep, p .pre .boxes))
+-- the divisor as it comes back from its bits, and whether it is 0
+divisor-back : (c : tie.After-divisor-of) → toZ w64 (ofZ w64 (c .divisor-of .result)) ≡ c .divisor-of .result
+divisor-back c = toZ-ofZ (sfits-of (c .divisor-of .ok))
 
-emit-requires : tie.Need-emit-requires
-emit-requires c κs =
-    let p = c .before .before .before .before .before .before .before .before .before .before .before .before .before .before .before in
-    (p .pre .room, (p .pre .some, cut-fits (p .pre .learnable .variables) (c .before .before .before .before .before .before .before .before .before .learn .ensures .0 0)))
+divided : (c : tie.Then1) → c .before .divisor-of .result ≡ pos 0 → ⊥
+divided c z = c .if1 .taken (ap (ofZ w64) z)
+
+plain : (c : tie.Else1) →
+    let a = c .before .before .before .before .args in
+    divisorFor (a .m) (now (a .divisors)) (a .j) ≡ pos 0
+plain c =
+    let d = c .before .divisor-of in
+    sym (d .ensures) ∙ same (sfits-of (d .ok)) (fits-lit (pos 0) tt) (c .if1 .left)
+
+dismiss-requires : tie.Need-dismiss-requires
+dismiss-requires c κs =
+    let d = c .before .before in
+    let s = d .before .before .before in
+    rw (divisor-back d) (may-dismiss (s .pre) (d .divisor-of .result) (d .divisor-of .ensures) (divided (c .before)))
 
 same-length : tie.Need-same-length
 same-length c = search needs
 
 returns : tie.Need-returns
 returns c =
-    let l = c .before .before .before .before .before .before .before .before .before .before .before .before .learn in
+    let t = c .before .before .before .before in
+    let d = t .before in
+    let f = d .before in
+    let s = f .before .before in
+    dismissed (s .pre) (d .divisor-of .result) (d .divisor-of .ensures) (divided t) _ (f .number-of .ensures) (rw (divisor-back d) at (c .before .before .dismiss .ensures))
+
+learn-requires : tie.Need-learn-requires
+learn-requires c κs = search needs
+
+backjump-level-requires : tie.Need-backjump-level-requires
+backjump-level-requires c κs =
+    let l = c .before .before .before .before .before in
+    let p = l .before .before .before .before .before .before .before .before .pre in
+    (lit≤ tt, (cut-row (p .learnable .variables) (l .learn .ensures .0 0), (p .deep, p .boxes)))
+
+emit-requires : tie.Need-emit-requires
+emit-requires c κs =
+    let l = c .before .before .before .before .before .before .before .before .before in
+    let p = l .before .before .before .before .before .before .before .before .pre in
+    (p .room, (p .some, cut-fits (p .learnable .variables) (l .learn .ensures .0 0)))
+
+same-length-2 : tie.Need-same-length-2
+same-length-2 c = search needs
+
+returns-2 : tie.Need-returns-2
+returns-2 c =
+    let b = c .before .before .before .before .before .before in
+    let l = b .before .before .before .before .before .before in
+    let e = l .before .before .before .before in
+    let f = e .before .before in
     record {
-      cut = l .result .cut;
-      used = l .result .used;
-      number = l .result .number;
-      falsified = c .before .before .before .before .before .before .before .before .before .before .before .before .before .before .before .before .number-of .result;
-      learned = l .ensures .0;
-      marked = l .ensures .1;
-      jump = c .before .before .before .before .before .before .backjump-level .ensures;
-      numbered = c .before .before .before .before .before .before .before .before .before .before .before .before .before .before .before .before .number-of .ensures;
+      cut = l .learn .result .cut;
+      used = l .learn .result .used;
+      number = l .learn .result .number;
+      falsified = f .number-of .result;
+      concluded = inl
+          (record {
+            plain = plain e;
+            learned = l .learn .ensures .0;
+            jump = rw undivided at (b .backjump-level .ensures);
+          });
+      marked = l .learn .ensures .1;
+      numbered = f .number-of .ensures;
       written = c .before .before .emit .ensures;
     }
 
@@ -49,8 +101,12 @@ conflict-spec =
     tie.close
     (tie.spec
     number-of-requires
+    divisor-of-requires
+    dismiss-requires
+    same-length
+    returns
     learn-requires
     backjump-level-requires
     emit-requires
-    same-length
-    returns)
+    same-length-2
+    returns-2)

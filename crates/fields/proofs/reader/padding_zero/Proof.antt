@@ -52,23 +52,17 @@ mul-start c = search needs
 add-end : tie.Need-add-end Inv-loop μ-loop
 add-end c = search needs
 
-sub-is-zero-from-2 : tie.Need-sub-is-zero-from-2 Inv-loop μ-loop
-sub-is-zero-from-2 c = search needs
+sub-is-padded : tie.Need-sub-is-padded Inv-loop μ-loop
+sub-is-padded c = search needs
 
-part-is-zero-from-start-2 : tie.Need-part-is-zero-from-start-2 Inv-loop μ-loop
-part-is-zero-from-start-2 c = search needs
+part-is-padded-start : tie.Need-part-is-padded-start Inv-loop μ-loop
+part-is-padded-start c = search needs
 
-part-is-zero-from-end-2 : tie.Need-part-is-zero-from-end-2 Inv-loop μ-loop
-part-is-zero-from-end-2 c = search needs
+part-is-padded-end : tie.Need-part-is-padded-end Inv-loop μ-loop
+part-is-padded-end c = search needs
 
-add-number-offset : tie.Need-add-number-offset Inv-loop μ-loop
-add-number-offset c = search needs
-
-number-offset-requires : tie.Need-number-offset-requires Inv-loop μ-loop
-number-offset-requires c κs = search needs
-
-is-zero-from-requires-2 : tie.Need-is-zero-from-requires-2 Inv-loop μ-loop
-is-zero-from-requires-2 c κs = search needs
+is-padded-requires : tie.Need-is-padded-requires Inv-loop μ-loop
+is-padded-requires c κs = search needs
 
 returns-2 : tie.Need-returns-2 Inv-loop μ-loop
 returns-2 c = search (needs, padding-nonzero)
@@ -103,12 +97,10 @@ padding-zero-spec =
     add-start
     mul-start
     add-end
-    sub-is-zero-from-2
-    part-is-zero-from-start-2
-    part-is-zero-from-end-2
-    add-number-offset
-    number-offset-requires
-    is-zero-from-requires-2
+    sub-is-padded
+    part-is-padded-start
+    part-is-padded-end
+    is-padded-requires
     returns-2
     add-j
     loop-less

@@ -7,7 +7,7 @@ use mathlib.Core.Path.{_≡_, ap, _∙_}
 use borrow.Author.Needs.{needs}
 use lib.IntN.{natAbs}
 use Rattle.model.specs.Lists.{tab}
-use Rattle.model.specs.Constraint.{divisor}
+use Rattle.model.specs.Constraint.{commonDivisor}
 use Rattle.integer.specs.Divisor.{Above}
 use Rattle.layout.specs.Rows.{cell, constraintAt}
 use Rattle.layout.proofs.Elements.{cell-read}
@@ -16,7 +16,7 @@ use Rattle.linear.proofs.rounding.divisor.Statement.{statement}
 use Rattle.linear.proofs.rounding.divisor.Tie as tie
 
 abbrev Inv-loop : tie.InvT-loop
-Inv-loop c n least g₀ i₀ g i = (i ≤ n) × Above least (divisor (tab (cell c 0) i (n - i))) g
+Inv-loop c n least g₀ i₀ g i = (i ≤ n) × Above least (commonDivisor (tab (cell c 0) i (n - i))) g
 
 abbrev μ-loop : tie.MeasureT-loop
 μ-loop c n least g₀ i₀ g i = i

@@ -3,6 +3,7 @@ use native.Mathlib.Omega.{arith}
 use mathlib.Core.Path.{sym, _∙_}
 use borrow.Author.Needs.{needs}
 use Rattle.integer.specs.Divisor.{above-none}
+use Rattle.layout.proofs.Rows.{row-plain}
 use Rattle.linear.proofs.Sizes.{divisor-sized}
 use Rattle.linear.proofs.RoundingLaws.{rounded-none, rounded-one, rounded-by}
 use Rattle.linear.proofs.rounding.round.Statement.{statement}
@@ -12,10 +13,10 @@ divisor-requires : tie.Need-divisor-requires
 divisor-requires c κs = search needs
 
 returns : tie.Need-returns
-returns c = rounded-none _ (sym (above-none (c .before .divisor .ensures)) ∙ c .if1 .taken)
+returns c = rounded-none _ (row-plain _ _ _) (sym (above-none (c .before .divisor .ensures)) ∙ c .if1 .taken)
 
 returns-2 : tie.Need-returns-2
-returns-2 c = rounded-one _ (sym (above-none (c .before .before .divisor .ensures)) ∙ c .if2 .taken)
+returns-2 c = rounded-one _ (row-plain _ _ _) (sym (above-none (c .before .before .divisor .ensures)) ∙ c .if2 .taken)
 
 divided-requires : tie.Need-divided-requires
 divided-requires c κs =
@@ -23,7 +24,7 @@ divided-requires c κs =
     (s .pre .0, omega (arith, above-none (c .before .before .divisor .ensures), divisor-sized _ (s .pre .1)))
 
 returns-3 : tie.Need-returns-3
-returns-3 c = c .divided .ensures ∙ rounded-by _ _ (above-none (c .before .before .before .divisor .ensures))
+returns-3 c = c .divided .ensures ∙ rounded-by _ _ (row-plain _ _ _) (above-none (c .before .before .before .divisor .ensures))
 
 pub round-spec : {M : Type 1} → statement M
 round-spec = tie.close (tie.spec divisor-requires returns returns-2 divided-requires returns-3)

@@ -3,8 +3,9 @@ use native.Mathlib.Omega.{arith}
 use mathlib.Core.Logic.{inl}
 use mathlib.Core.Path.{_≡_, _∙_}
 use borrow.Author.Needs.{needs}
-use Rattle.model.specs.Constraint.{divisor}
+use Rattle.model.specs.Constraint.{commonDivisor}
 use Rattle.layout.specs.Rows.{constraintAt}
+use Rattle.layout.proofs.Rows.{row-plain}
 use Rattle.linear.proofs.Sizes.{divisor-sized}
 use Rattle.linear.proofs.RoundingLaws.{left-none, left-one, above-is, rounded-by}
 use Rattle.linear.proofs.rounding.round_into_range.Statement.{statement}
@@ -17,14 +18,14 @@ divisor-requires : tie.Need-divisor-requires
 divisor-requires c κs = search needs
 
 returns : tie.Need-returns
-returns c = record { size = search needs; same = left-none _ _ _ (c .before .before .before .excess .ensures) (c .before .divisor .ensures) (c .if1 .taken) }
+returns c = record { size = search needs; same = left-none _ _ _ (row-plain _ _ _) (c .before .before .before .excess .ensures) (c .before .divisor .ensures) (c .if1 .taken) }
 
 returns-2 : tie.Need-returns-2
-returns-2 c = record { size = search needs; same = left-one _ _ _ (c .before .before .before .before .excess .ensures) (c .before .before .divisor .ensures) (c .if2 .taken) }
+returns-2 c = record { size = search needs; same = left-one _ _ _ (row-plain _ _ _) (c .before .before .before .before .excess .ensures) (c .before .before .divisor .ensures) (c .if2 .taken) }
 
 -- ---- past the two tests it is the divisor
-divisor-is : (c : tie.Else2) → let s = c .before .before .before .before .before .before in c .before .before .divisor .result ≡ divisor (constraintAt (s .args .n) (s .args .c .now) 0 .coefficients)
-divisor-is c = above-is _ _ _ (c .before .before .before .before .excess .ensures) (c .before .before .divisor .ensures) (c .if2 .left)
+divisor-is : (c : tie.Else2) → let s = c .before .before .before .before .before .before in c .before .before .divisor .result ≡ commonDivisor (constraintAt (s .args .n) (s .args .c .now) 0 .coefficients)
+divisor-is c = above-is _ _ _ (row-plain _ _ _) (c .before .before .before .before .excess .ensures) (c .before .before .divisor .ensures) (c .if2 .left)
 
 divided-requires : tie.Need-divided-requires
 divided-requires c κs =
@@ -32,7 +33,7 @@ divided-requires c κs =
     (s .pre .0, omega (arith, c .before .before .if1 .left, divisor-is (c .before), divisor-sized _ (s .pre .1 .1)))
 
 returns-3 : tie.Need-returns-3
-returns-3 c = record { size = search needs; same = inl (c .divided .ensures ∙ rounded-by _ _ (divisor-is (c .before .before))) }
+returns-3 c = record { size = search needs; same = inl (c .divided .ensures ∙ rounded-by _ _ (row-plain _ _ _) (divisor-is (c .before .before))) }
 
 pub round-into-range-spec : {M : Type 1} → statement M
 round-into-range-spec =

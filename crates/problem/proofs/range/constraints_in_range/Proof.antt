@@ -6,7 +6,7 @@ use Rattle.model.specs.Lists.{tab, allOf}
 use Rattle.model.specs.Constraint.{inRange}
 use Rattle.model.specs.Problem.{constraintsInRange}
 use Rattle.layout.specs.Rows.{rowAt}
-use Rattle.layout.proofs.Ranges.{range-none, range-more, range-fails, range-end}
+use Rattle.layout.proofs.Ranges.{range-none, range-more, range-fails, range-end, inputs-range}
 use Rattle.problem.specs.View.{problemOf}
 use Rattle.problem.proofs.range.constraints_in_range.Statement.{statement}
 use Rattle.problem.proofs.range.constraints_in_range.Tie as tie
@@ -29,7 +29,7 @@ is-in-range-requires c κs = search needs
 
 returns : tie.Need-returns Inv-loop μ-loop
 unfolding constraintsInRange problemOf
-returns c = search (needs, range-fails)
+returns c = search (needs, range-fails, inputs-range)
 
 add-j : tie.Need-add-j Inv-loop μ-loop
 add-j c = search needs
@@ -42,7 +42,7 @@ loop-again c = search (needs, range-more)
 
 returns-2 : tie.Need-returns-2 Inv-loop μ-loop
 unfolding constraintsInRange problemOf
-returns-2 c = search (needs, range-end)
+returns-2 c = search (needs, range-end, inputs-range)
 
 pub constraints-in-range-spec : {M : Type 1} → statement M
 constraints-in-range-spec =

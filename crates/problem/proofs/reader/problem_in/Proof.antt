@@ -21,6 +21,9 @@ bounds-in-requires-2 c κs = search needs
 rows-in-requires : tie.Need-rows-in-requires
 rows-in-requires c κs = search needs
 
+divisors-in-requires : tie.Need-divisors-in-requires
+divisors-in-requires c κs = search needs
+
 returns : tie.Need-returns
 returns c = search (needs, problem-is)
 
@@ -34,4 +37,5 @@ problem-in-spec =
     bounds-in-requires
     bounds-in-requires-2
     rows-in-requires
+    divisors-in-requires
     returns)

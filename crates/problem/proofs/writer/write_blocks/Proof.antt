@@ -2,13 +2,13 @@ use Prim.Native.Nat.{_+_, _*_, _-_, _≤_}
 use native.Mathlib.Omega.{arith}
 use mathlib.Core.Path.{_≡_, _∙_}
 use lib.ListN.{length}
-use borrow.Author.Needs.{needs}
+use borrow.Author.Needs.{sfits-of, needs}
 use Rattle.model.specs.Bytes.{blockLength}
 use Rattle.model.specs.File.{blockOf}
 use Rattle.model.specs.Lists.{parts}
 use Rattle.block.specs.Placed.{Placed}
 use Rattle.problem.specs.View.{problemOf}
-use Rattle.problem.proofs.Writing.{no-blocks, head-placed, row-passes, blocks-more, file-written}
+use Rattle.problem.proofs.Writing.{no-blocks, head-placed, row-passes, divisor-passes, blocks-more, file-written}
 use Rattle.problem.proofs.writer.write_blocks.Statement.{statement}
 use Rattle.problem.proofs.writer.write_blocks.Tie as tie
 
@@ -46,6 +46,12 @@ mul-start c = search needs
 add-end : tie.Need-add-end Inv-loop μ-loop
 add-end c = search needs
 
+mul-q : tie.Need-mul-q Inv-loop μ-loop
+mul-q c = search needs
+
+element-copy-out-q : tie.Need-element-copy-out-q Inv-loop μ-loop
+element-copy-out-q c = search needs
+
 mul-write-constraint : tie.Need-mul-write-constraint Inv-loop μ-loop
 mul-write-constraint c = search needs
 
@@ -62,7 +68,10 @@ part-write-constraint-end : tie.Need-part-write-constraint-end Inv-loop μ-loop
 part-write-constraint-end c = search needs
 
 write-constraint-requires : tie.Need-write-constraint-requires Inv-loop μ-loop
-write-constraint-requires c κs = (search needs, search needs, row-passes _ _ (c .before .before .before .before .loop-test .taken) (c .before .before .before .before .before .before .before .before .before .before .before .pre .coefficient-range), search needs)
+write-constraint-requires c κs =
+    let l = c .before .before .before .before .before .loop-test .taken in
+    let h = c .before .before .before .before .before .before .before .before .before .before .before .before .pre in
+    ((search needs, search needs, row-passes _ _ l (h .coefficient-range), search needs), divisor-passes _ _ l (sfits-of (c .before .before .before .before .q .given)) (h .divisor-range))
 
 add-j : tie.Need-add-j Inv-loop μ-loop
 add-j c = search needs
@@ -74,12 +83,13 @@ loop-again : tie.Need-loop-again Inv-loop μ-loop
 loop-again c =
     let x =
     blocks-more _ _
-    (c .before .before .before .before .before .before .before .loop-test .taken)
-    (c .before .before .before .before .before .before .before .before .loop .inv .1)
-    (c .before .before .write-constraint .kept .1 .1 .1 .1 .0)
+    (c .before .before .before .before .before .before .before .before .loop-test .taken)
+    (sfits-of (c .before .before .before .before .before .before .before .q .given))
+    (c .before .before .before .before .before .before .before .before .before .loop .inv .1)
+    (c .before .before .write-constraint .kept .1 .1 .1 .1 .1 .0)
     (c .before .before .write-constraint .ensures)
-    (c .before .before .before .before .before .before .before .before .loop .inv .3) in
-    (search needs, omega (arith, x .0, c .before .before .before .before .before .before .before .before .loop .inv .1), x .0 ∙ c .before .before .before .before .before .before .before .before .loop .inv .2, x .1)
+    (c .before .before .before .before .before .before .before .before .before .loop .inv .3) in
+    (search needs, omega (arith, x .0, c .before .before .before .before .before .before .before .before .before .loop .inv .1), x .0 ∙ c .before .before .before .before .before .before .before .before .before .loop .inv .2, x .1)
 
 same-length : tie.Need-same-length Inv-loop μ-loop
 same-length c =
@@ -109,6 +119,8 @@ write-blocks-spec =
     add-start
     mul-start
     add-end
+    mul-q
+    element-copy-out-q
     mul-write-constraint
     add-write-constraint
     sub-write-constraint

@@ -8,19 +8,22 @@ use borrow.Author.Needs.{needs}
 use denote.Ref.{now}
 use Rattle.model.specs.Move.{Move, newLower, newUpper, conflict, firstImprovement, nextMove, slack}
 use Rattle.layout.specs.Rows.{boxOf}
+use Rattle.layout.proofs.Rows.{box-lower, box-upper}
 use Rattle.state.specs.View.{keptCuts, numberFor}
 use Rattle.propagate.proofs.Looping.{Loop, ready-at, loop-set}
 use Rattle.propagate.proofs.Scans.{next-conflict, next-improvement, next-open}
 use Rattle.propagate.proofs.Steps.{answer, Next, scan-fits, stop-answer, raise-next, raise-better, raise-rise, raise-settable, lower-next, lower-better, lower-fall, lower-settable}
-use Rattle.propagate.proofs.Tracking.{shiftable, tracked-some, told-first, raised-closes, lowered-closes}
+use Rattle.propagate.proofs.Tracking.{scan-box, shiftable, tracked-some, raised-closes, lowered-closes}
+use Rattle.propagate.proofs.Warning.{length-over, warned-first, improvement-over, row-low, testable, warned, all-clear, raise-spared, lower-spared}
 use mir.Facts.{toZ-ofZ}
+use lib.ListN.{length}
 use mir.Syntax.{w64}
 use mir.Val.{SFits}
 use mathlib.Core.Option.{some}
 use Rattle.propagate.specs.Moves.{foundOf, stopOf}
 use Rattle.propagate.specs.declared.propagate.Found.the-variants.{Conflict, Decide}
 use Rattle.propagate.specs.Propagation.{propagationOf}
-use Rattle.propagate.specs.Ready.{keptRows}
+use Rattle.propagate.specs.Divided.{keptOver, Unmentioned, Warned}
 use Rattle.propagate.specs.Tracked.{Tracked}
 use Rattle.state.specs.Change.{held, raised, lowered}
 use Rattle.propagate.proofs.propagate.propagate.Statement.{statement}
@@ -29,16 +32,17 @@ use Rattle.propagate.proofs.propagate.propagate.Reads as reads
 use Rattle.propagate.proofs.propagate.propagate.Lts as lts
 use Rattle.propagate.proofs.bounds.lower_upper.Reads as lower-upper-reads
 use Rattle.propagate.proofs.bounds.raise_lower.Reads as raise-lower-reads
+use Rattle.propagate.proofs.divided.first_indivisible.Reads as first-indivisible-reads
 use Rattle.propagate.proofs.masks.open_mask.Reads as open-mask-reads
 use Rattle.propagate.proofs.propagate.decide_or_finish.Reads as decide-or-finish-reads
 use Rattle.propagate.proofs.scan.first_improvement.Reads as first-improvement-reads
 
 abbrev Inv-loop : tie.InvT-loop
-Inv-loop rows n m made inputs cuts told lower₀ upper₀ below₀ above₀ activities₀ reaches₀ kept «open» falsified₀ lower upper below above activities reaches falsified =
-    Loop n m made rows «open» lower₀ upper₀ below₀ above₀ lower upper below above activities reaches falsified
+Inv-loop rows lines divisors columns n m made inputs cuts told lower₀ upper₀ below₀ above₀ activities₀ reaches₀ kept «open» falsified₀ lower upper below above activities reaches falsified =
+    Loop (keptOver n m made rows lines divisors) n m made rows «open» lower₀ upper₀ below₀ above₀ lower upper below above activities reaches falsified
 
 abbrev μ-loop : tie.MeasureT-loop
-μ-loop rows n m made inputs cuts told lower₀ upper₀ below₀ above₀ activities₀ reaches₀ kept «open» falsified₀ lower upper below above activities reaches falsified =
+μ-loop rows lines divisors columns n m made inputs cuts told lower₀ upper₀ below₀ above₀ activities₀ reaches₀ kept «open» falsified₀ lower upper below above activities reaches falsified =
     slack (boxOf n lower upper)
 
 -- where the function started, and that no constraint is falsified in the loop
@@ -59,22 +63,33 @@ open-mask-requires c κs = c .before .before .before .pre .0 .few
 loop-holds : tie.Need-loop-holds Inv-loop μ-loop
 loop-holds c =
     let p = c .before .before .before .before .pre in
-    record { ready = p .0; same = λ d. refl; told = p .1 .0; opens = c .open-mask .ensures }
+    record { ready = p .0; same = λ d. refl; told = p .1 .0 .0; opens = c .open-mask .ensures }
+
+-- nothing is falsified in the loop
+clear : (c : tie.In-loop Inv-loop μ-loop) →
+    let a = start (c .before) .args in
+    let v = c .before .loop in
+    Warned (keptOver (a .n) (a .m) (a .made) (now (a .rows)) (now (a .lines)) (now (a .divisors))) (a .n) (now (a .rows)) (v .lower) (v .upper) (v .activities) (v .reaches) (a .m + keptCuts (a .made)) (a .m + keptCuts (a .made))
+clear c = rw (here c) at (c .before .loop .inv .told)
 
 first-improvement-requires : tie.Need-first-improvement-requires Inv-loop μ-loop
 first-improvement-requires c κs =
     let l = c .before .before .before .before .before in
     let s = start l in
     let v = l .loop .inv in
-    let t = v .told .tracked (here (c .before .before .before .before)) in
-    rw (l .before .before .before .before .kept-count .ensures) ((scan-fits _ _ _ _ _ (v .ready), (t, λ j h. rw (t .at j h .same) (v .told .before j (omega (arith, h, here (c .before .before .before .before)))))), ((s .pre .1 .1, v .opens), (v .ready .inputs, unfold keptCuts in omega arith)))
+    let w = clear (c .before .before .before .before) in
+    let t = w .tracked refl in
+    rw (l .before .before .before .before .kept-count .ensures) ((scan-fits _ _ _ _ _ (v .ready), (t, λ j h. rw (t .at j h .same) (row-low _ _ _ _ _ _ _ _ _ _ (s .pre .1 .1 .0) w j h))), ((s .pre .1 .0 .1, v .opens), (v .ready .inputs, unfold keptCuts in omega arith)))
 
 -- what the scan found, and that the constraints are tracked after it
 found : (c : tie.After-first-improvement Inv-loop μ-loop) →
     let l = c .before .before .before .before .before .before in
     let a = start l .args in
-    foundOf (c .first-improvement .result) ≡ firstImprovement 0 (keptRows (a .n) (a .m) (a .made) (now (a .rows))) (boxOf (a .n) (l .loop .lower) (l .loop .upper))
-found c = rw (c .before .before .before .before .before .before .before .before .before .before .kept-count .ensures) at (c .first-improvement .ensures .0)
+    foundOf (c .first-improvement .result) ≡ firstImprovement 0 (keptOver (a .n) (a .m) (a .made) (now (a .rows)) (now (a .lines)) (now (a .divisors))) (boxOf (a .n) (l .loop .lower) (l .loop .upper))
+found c =
+    let l = c .before .before .before .before .before .before in
+    let p = start l .pre .1 .1 .0 in
+    (rw (l .before .before .before .before .kept-count .ensures) at (c .first-improvement .ensures .0)) ∙ sym (improvement-over _ _ _ _ _ p _ _)
 
 tracked : (c : tie.After-first-improvement Inv-loop μ-loop) →
     let l = c .before .before .before .before .before .before in
@@ -86,11 +101,9 @@ tracked c = rw (c .before .before .before .before .before .before .before .befor
 chosen : (c : tie.After-first-improvement Inv-loop μ-loop) (move : Move) → some move ≡ foundOf (c .first-improvement .result) →
     let l = c .before .before .before .before .before .before in
     let a = start l .args in
-    move ≡ nextMove (keptRows (a .n) (a .m) (a .made) (now (a .rows))) (boxOf (a .n) (l .loop .lower) (l .loop .upper))
+    move ≡ nextMove (keptOver (a .n) (a .m) (a .made) (now (a .rows)) (now (a .lines)) (now (a .divisors))) (boxOf (a .n) (l .loop .lower) (l .loop .upper))
 chosen c move e =
-    let l = c .before .before .before .before .before .before in
-    let t = l .loop .inv .told in
-    next-improvement _ _ _ _ (told-first _ _ _ _ _ _ _ _ t) (omega (arith, here (c .before .before .before .before .before))) move (e ∙ found c)
+    next-improvement _ _ _ _ (warned-first _ _ _ _ _ _ _ _ _ (length-over _ _ _ _ _ _) (clear (c .before .before .before .before .before))) (omega arith) move (e ∙ found c)
 
 enum-known-better : tie.Need-enum-known-better Inv-loop μ-loop
 enum-known-better c = search needs
@@ -100,7 +113,7 @@ raise-move : (c : tie.After-known-told Inv-loop μ-loop) →
     let l = c .before .before .before .before .before .before .before .before .before in
     let a = start l .args in
     let g = c .before .better .given .0 in
-    newLower (g .0) (g .1 .0) (g .1 .1 .0) ≡ nextMove (keptRows (a .n) (a .m) (a .made) (now (a .rows))) (boxOf (a .n) (l .loop .lower) (l .loop .upper))
+    newLower (g .0) (g .1 .0) (g .1 .1 .0) ≡ nextMove (keptOver (a .n) (a .m) (a .made) (now (a .rows)) (now (a .lines)) (now (a .divisors))) (boxOf (a .n) (l .loop .lower) (l .loop .upper))
 unfolding foundOf
 raise-move c = chosen (c .before .before .before) _ (sym (ap foundOf (c .before .better .given .1)))
 
@@ -109,10 +122,10 @@ raise-level : (c : tie.After-known-told Inv-loop μ-loop) (d : ℕ) →
     let a = start l .args in
     let g = c .before .better .given .0 in
     let k = held (l .loop .lower) (l .loop .upper) (l .loop .below) (l .loop .above) d in
-    Next (a .n) (a .m) (a .made) (now (a .rows)) k (g .0) (g .1 .0) (raised k (g .1 .0) (g .1 .1 .0) (numberFor (a .m) (a .made) (g .0)))
+    Next (keptOver (a .n) (a .m) (a .made) (now (a .rows)) (now (a .lines)) (now (a .divisors))) (a .n) (a .m) (a .made) (now (a .rows)) k (g .0) (g .1 .0) (raised k (g .1 .0) (g .1 .1 .0) (numberFor (a .m) (a .made) (g .0)))
 raise-level c d =
     let l = c .before .before .before .before .before .before .before .before .before in
-    raise-next _ _ _ _ (held (l .loop .lower) (l .loop .upper) (l .loop .below) (l .loop .above) d) (ready-at d (l .loop .inv .ready)) _ _ _ (raise-move c)
+    raise-next _ _ _ _ _ (length-over _ _ _ _ _ _) (held (l .loop .lower) (l .loop .upper) (l .loop .below) (l .loop .above) d) (ready-at d (l .loop .inv .ready)) _ _ _ (raise-move c)
 
 number-of-requires : tie.Need-number-of-requires Inv-loop μ-loop
 number-of-requires c κs =
@@ -126,25 +139,49 @@ raise-lower-requires c κs =
     let k = held (l .loop .lower) (l .loop .upper) (l .loop .below) (l .loop .above) 0 in
     let v : SFits w64 (t .before .better .given .0 .1 .1 .0) = search needs in
     rw (toZ-ofZ v, l .before .before .before .before .kept-count .ensures)
-    (raise-settable _ _ _ _ k (l .loop .inv .ready) _ _ _ (raise-move t), shiftable _ _ _ _ _ _ _ _ _ _ (scan-fits _ _ _ _ k (l .loop .inv .ready)) (tracked (t .before .before .before)) (raise-level t 0 .variable) (raise-rise _ _ _ _ k (l .loop .inv .ready) _ _ _ (raise-move t)) (record { within = omega arith }))
+    (raise-settable _ _ _ _ _ (length-over _ _ _ _ _ _) k (l .loop .inv .ready) _ _ _ (raise-move t), shiftable _ _ _ _ _ _ _ _ _ _ (scan-fits _ _ _ _ k (l .loop .inv .ready)) (tracked (t .before .before .before)) (raise-level t 0 .variable) (raise-rise _ _ _ _ _ (length-over _ _ _ _ _ _) k (l .loop .inv .ready) _ _ _ (raise-move t)) (record { within = omega arith }))
+
+mul-due : tie.Need-mul-due Inv-loop μ-loop
+mul-due c = omega (arith, raise-level (c .before .before .before .before .before) 0 .variable, raise-level (c .before .before .before .before .before) 0 .ready .few)
+
+element-copy-out-due : tie.Need-element-copy-out-due Inv-loop μ-loop
+element-copy-out-due c = omega (arith, raise-level (c .before .before .before .before .before) 0 .variable, raise-level (c .before .before .before .before .before) 0 .ready .few)
+
+first-indivisible-requires : tie.Need-first-indivisible-requires Inv-loop μ-loop
+first-indivisible-requires c κs =
+    let r = c .before .before .before in
+    let t = r .before .before .before .before .before in
+    let l = t .before .before .before .before .before .before .before .before .before in
+    let v : SFits w64 (t .before .better .given .0 .1 .1 .0) = search needs in
+    let k = raise-level t 0 in
+    let q = start l .pre .1 .1 in
+    rw (r .raise-lower .ensures .0 .bound, toZ-ofZ v)
+    (testable _ _ _ _ _ _ _ _ (q .0) (k .ready .few) (k .ready .inputs) (scan-box (scan-fits _ _ _ _ _ (k .ready)) (k .ready .whole .lower) (k .ready .whole .upper)) (q .1 .at _ (k .variable) .few))
 
 loop-less : tie.Need-loop-less Inv-loop μ-loop
 loop-less c =
-    let t = c .before .before .before .before .before in
+    let r = c .before .before .before .before in
+    let t = r .before .before .before .before .before in
     let v : SFits w64 (t .before .better .given .0 .1 .1 .0) = search needs in
-    rw (c .raise-lower .ensures .0 .bound, toZ-ofZ v) (raise-level t 0 .less)
+    rw (r .raise-lower .ensures .0 .bound, toZ-ofZ v) (raise-level t 0 .less)
 
 loop-again : tie.Need-loop-again Inv-loop μ-loop
 loop-again c =
-    let t = c .before .before .before .before .before in
+    let r = c .before .before .before .before in
+    let t = r .before .before .before .before .before in
     let l = t .before .before .before .before .before .before .before .before .before in
     let a = start l .args in
     let g = t .before .better .given .0 in
+    let q = start l .pre .1 .1 in
     let v : SFits w64 (g .1 .1 .0) = search needs in
-    let e = rw (toZ-ofZ v, l .before .before .before .before .kept-count .ensures) at (c .raise-lower .ensures .1) in
-    rw (c .raise-lower .ensures .0 .bound, c .raise-lower .ensures .0 .why, c .before .before .before .before .number-of .ensures, toZ-ofZ v)
-    (loop-set _ _ _ _ _ _ _ _ _ _ _ _ _ _ _ _ (l .loop .inv) _ _ _ _ _ _ (g .1 .0) (g .0) _ _ _ (raise-level t) (tracked (t .before .before .before))
-    (raised-closes (a .n) _ _ _ (g .1 .0) (g .1 .1 .0) (raise-level t 0 .variable) (omega (arith, l .loop .inv .ready .few, l .loop .inv .ready .whole .lower)) (raise-better _ _ _ _ (held (l .loop .lower) (l .loop .upper) (l .loop .below) (l .loop .above) 0) (l .loop .inv .ready) _ _ _ (raise-move t))) e)
+    let room : a .n ≤ length (l .loop .lower) = omega (arith, l .loop .inv .ready .few, l .loop .inv .ready .whole .lower) in
+    let e = rw (toZ-ofZ v, l .before .before .before .before .kept-count .ensures) at (r .raise-lower .ensures .1) in
+    let f = rw (r .raise-lower .ensures .0 .bound, toZ-ofZ v) at (c .first-indivisible .ensures) in
+    rw (r .raise-lower .ensures .0 .bound, r .raise-lower .ensures .0 .why, r .before .before .before .before .number-of .ensures, toZ-ofZ v)
+    (loop-set _ _ _ _ _ _ _ _ _ _ _ _ _ _ _ _ _ (l .loop .inv) _ _ _ _ _ _ (g .1 .0) (g .0) _ _ _ _ (raise-level t) (tracked (t .before .before .before))
+    (raised-closes (a .n) _ _ _ (g .1 .0) (g .1 .1 .0) (raise-level t 0 .variable) room (raise-better _ _ _ _ _ (length-over _ _ _ _ _ _) (held (l .loop .lower) (l .loop .upper) (l .loop .below) (l .loop .above) 0) (l .loop .inv .ready) _ _ _ (raise-move t))) e
+    (λ w. warned _ _ _ _ _ _ _ _ _ _ (q .0) _ _ _ (Unmentioned (now (a .lines)) (g .1 .0)) w f (q .1 .at (g .1 .0) (raise-level t 0 .variable))
+    (λ j h z. rw (box-lower (a .n) (l .loop .lower) (l .loop .upper) (g .1 .0) (g .1 .1 .0) (raise-level t 0 .variable) (omega (arith, raise-level t 0 .variable, room))) (raise-spared _ _ _ _ _ _ (all-clear _ _ _ _ _ _ _ _ _ _ (clear (t .before .before .before .before .before .before .before .before))) (g .1 .0) (g .1 .1 .0) (raise-level t 0 .variable) j h z))))
 
 enum-known-better-2 : tie.Need-enum-known-better-2 Inv-loop μ-loop
 enum-known-better-2 c = search needs
@@ -154,7 +191,7 @@ lower-move : (c : tie.After-known-told2 Inv-loop μ-loop) →
     let l = c .before .before .before .before .before .before .before .before .before in
     let a = start l .args in
     let g = c .before .better2 .given .0 in
-    newUpper (g .0) (g .1 .0) (g .1 .1 .0) ≡ nextMove (keptRows (a .n) (a .m) (a .made) (now (a .rows))) (boxOf (a .n) (l .loop .lower) (l .loop .upper))
+    newUpper (g .0) (g .1 .0) (g .1 .1 .0) ≡ nextMove (keptOver (a .n) (a .m) (a .made) (now (a .rows)) (now (a .lines)) (now (a .divisors))) (boxOf (a .n) (l .loop .lower) (l .loop .upper))
 unfolding foundOf
 lower-move c = chosen (c .before .before .before) _ (sym (ap foundOf (c .before .better2 .given .1)))
 
@@ -163,10 +200,10 @@ lower-level : (c : tie.After-known-told2 Inv-loop μ-loop) (d : ℕ) →
     let a = start l .args in
     let g = c .before .better2 .given .0 in
     let k = held (l .loop .lower) (l .loop .upper) (l .loop .below) (l .loop .above) d in
-    Next (a .n) (a .m) (a .made) (now (a .rows)) k (g .0) (g .1 .0) (lowered k (g .1 .0) (g .1 .1 .0) (numberFor (a .m) (a .made) (g .0)))
+    Next (keptOver (a .n) (a .m) (a .made) (now (a .rows)) (now (a .lines)) (now (a .divisors))) (a .n) (a .m) (a .made) (now (a .rows)) k (g .0) (g .1 .0) (lowered k (g .1 .0) (g .1 .1 .0) (numberFor (a .m) (a .made) (g .0)))
 lower-level c d =
     let l = c .before .before .before .before .before .before .before .before .before in
-    lower-next _ _ _ _ (held (l .loop .lower) (l .loop .upper) (l .loop .below) (l .loop .above) d) (ready-at d (l .loop .inv .ready)) _ _ _ (lower-move c)
+    lower-next _ _ _ _ _ (length-over _ _ _ _ _ _) (held (l .loop .lower) (l .loop .upper) (l .loop .below) (l .loop .above) d) (ready-at d (l .loop .inv .ready)) _ _ _ (lower-move c)
 
 number-of-requires-2 : tie.Need-number-of-requires-2 Inv-loop μ-loop
 number-of-requires-2 c κs =
@@ -180,25 +217,49 @@ lower-upper-requires c κs =
     let k = held (l .loop .lower) (l .loop .upper) (l .loop .below) (l .loop .above) 0 in
     let v : SFits w64 (t .before .better2 .given .0 .1 .1 .0) = search needs in
     rw (toZ-ofZ v, l .before .before .before .before .kept-count .ensures)
-    (lower-settable _ _ _ _ k (l .loop .inv .ready) _ _ _ (lower-move t), shiftable _ _ _ _ _ _ _ _ _ _ (scan-fits _ _ _ _ k (l .loop .inv .ready)) (tracked (t .before .before .before)) (lower-level t 0 .variable) (record { within = omega arith }) (lower-fall _ _ _ _ k (l .loop .inv .ready) _ _ _ (lower-move t)))
+    (lower-settable _ _ _ _ _ (length-over _ _ _ _ _ _) k (l .loop .inv .ready) _ _ _ (lower-move t), shiftable _ _ _ _ _ _ _ _ _ _ (scan-fits _ _ _ _ k (l .loop .inv .ready)) (tracked (t .before .before .before)) (lower-level t 0 .variable) (record { within = omega arith }) (lower-fall _ _ _ _ _ (length-over _ _ _ _ _ _) k (l .loop .inv .ready) _ _ _ (lower-move t)))
+
+mul-due-2 : tie.Need-mul-due-2 Inv-loop μ-loop
+mul-due-2 c = omega (arith, lower-level (c .before .before .before .before .before) 0 .variable, lower-level (c .before .before .before .before .before) 0 .ready .few)
+
+element-copy-out-due-2 : tie.Need-element-copy-out-due-2 Inv-loop μ-loop
+element-copy-out-due-2 c = omega (arith, lower-level (c .before .before .before .before .before) 0 .variable, lower-level (c .before .before .before .before .before) 0 .ready .few)
+
+first-indivisible-requires-2 : tie.Need-first-indivisible-requires-2 Inv-loop μ-loop
+first-indivisible-requires-2 c κs =
+    let r = c .before .before .before in
+    let t = r .before .before .before .before .before in
+    let l = t .before .before .before .before .before .before .before .before .before in
+    let v : SFits w64 (t .before .better2 .given .0 .1 .1 .0) = search needs in
+    let k = lower-level t 0 in
+    let q = start l .pre .1 .1 in
+    rw (r .lower-upper .ensures .0 .bound, toZ-ofZ v)
+    (testable _ _ _ _ _ _ _ _ (q .0) (k .ready .few) (k .ready .inputs) (scan-box (scan-fits _ _ _ _ _ (k .ready)) (k .ready .whole .lower) (k .ready .whole .upper)) (q .1 .at _ (k .variable) .few))
 
 loop-less-2 : tie.Need-loop-less-2 Inv-loop μ-loop
 loop-less-2 c =
-    let t = c .before .before .before .before .before in
+    let r = c .before .before .before .before in
+    let t = r .before .before .before .before .before in
     let v : SFits w64 (t .before .better2 .given .0 .1 .1 .0) = search needs in
-    rw (c .lower-upper .ensures .0 .bound, toZ-ofZ v) (lower-level t 0 .less)
+    rw (r .lower-upper .ensures .0 .bound, toZ-ofZ v) (lower-level t 0 .less)
 
 loop-again-2 : tie.Need-loop-again-2 Inv-loop μ-loop
 loop-again-2 c =
-    let t = c .before .before .before .before .before in
+    let r = c .before .before .before .before in
+    let t = r .before .before .before .before .before in
     let l = t .before .before .before .before .before .before .before .before .before in
     let a = start l .args in
     let g = t .before .better2 .given .0 in
+    let q = start l .pre .1 .1 in
     let v : SFits w64 (g .1 .1 .0) = search needs in
-    let e = rw (toZ-ofZ v, l .before .before .before .before .kept-count .ensures) at (c .lower-upper .ensures .1) in
-    rw (c .lower-upper .ensures .0 .bound, c .lower-upper .ensures .0 .why, c .before .before .before .before .number-of2 .ensures, toZ-ofZ v)
-    (loop-set _ _ _ _ _ _ _ _ _ _ _ _ _ _ _ _ (l .loop .inv) _ _ _ _ _ _ (g .1 .0) (g .0) _ _ _ (lower-level t) (tracked (t .before .before .before))
-    (lowered-closes (a .n) _ _ _ (g .1 .0) (g .1 .1 .0) (lower-level t 0 .variable) (omega (arith, l .loop .inv .ready .few, l .loop .inv .ready .whole .upper)) (lower-better _ _ _ _ (held (l .loop .lower) (l .loop .upper) (l .loop .below) (l .loop .above) 0) (l .loop .inv .ready) _ _ _ (lower-move t))) e)
+    let room : a .n ≤ length (l .loop .upper) = omega (arith, l .loop .inv .ready .few, l .loop .inv .ready .whole .upper) in
+    let e = rw (toZ-ofZ v, l .before .before .before .before .kept-count .ensures) at (r .lower-upper .ensures .1) in
+    let f = rw (r .lower-upper .ensures .0 .bound, toZ-ofZ v) at (c .first-indivisible2 .ensures) in
+    rw (r .lower-upper .ensures .0 .bound, r .lower-upper .ensures .0 .why, r .before .before .before .before .number-of2 .ensures, toZ-ofZ v)
+    (loop-set _ _ _ _ _ _ _ _ _ _ _ _ _ _ _ _ _ (l .loop .inv) _ _ _ _ _ _ (g .1 .0) (g .0) _ _ _ _ (lower-level t) (tracked (t .before .before .before))
+    (lowered-closes (a .n) _ _ _ (g .1 .0) (g .1 .1 .0) (lower-level t 0 .variable) room (lower-better _ _ _ _ _ (length-over _ _ _ _ _ _) (held (l .loop .lower) (l .loop .upper) (l .loop .below) (l .loop .above) 0) (l .loop .inv .ready) _ _ _ (lower-move t))) e
+    (λ w. warned _ _ _ _ _ _ _ _ _ _ (q .0) _ _ _ (Unmentioned (now (a .lines)) (g .1 .0)) w f (q .1 .at (g .1 .0) (lower-level t 0 .variable))
+    (λ j h z. rw (box-upper (a .n) (l .loop .lower) (l .loop .upper) (g .1 .0) (g .1 .1 .0) (lower-level t 0 .variable) (omega (arith, lower-level t 0 .variable, room))) (lower-spared _ _ _ _ _ _ (all-clear _ _ _ _ _ _ _ _ _ _ (clear (t .before .before .before .before .before .before .before .before))) (g .1 .0) (g .1 .1 .0) (lower-level t 0 .variable) j h z))))
 
 enum-told : tie.Need-enum-told Inv-loop μ-loop
 enum-told c = search needs
@@ -212,8 +273,8 @@ returns c =
     let f = c .before .before .before .before .before in
     let l = f .before .before .before .before .before .before in
     let v = l .loop .inv in
-    let last = next-open _ _ _ _ (told-first _ _ _ _ _ _ _ _ (v .told)) (omega (arith, here (f .before .before .before .before .before))) (sym (ap foundOf (c .before .before .before .enum-told .given .1)) ∙ found f) in (
-      λ d. stop-answer _ _ _ _ (held (l .loop .lower) (l .loop .upper) (l .loop .below) (l .loop .above) d) (ready-at d (v .ready)) _ (c .decide-or-finish .ensures ∙ last) ∙ sym (v .same d),
+    let last = next-open _ _ _ _ (warned-first _ _ _ _ _ _ _ _ _ (length-over _ _ _ _ _ _) (clear (f .before .before .before .before .before))) (omega arith) (sym (ap foundOf (c .before .before .before .enum-told .given .1)) ∙ found f) in (
+      λ d. stop-answer _ _ _ _ _ (length-over _ _ _ _ _ _) (held (l .loop .lower) (l .loop .upper) (l .loop .below) (l .loop .above) d) (ready-at d (v .ready)) _ (c .decide-or-finish .ensures ∙ last) ∙ sym (v .same d),
       (v .ready, (tracked-some _ _ _ _ _ _ _ 0 (omega arith) (tracked f), λ i e. tracked f)),
     )
 
@@ -232,7 +293,7 @@ unfolding answer stopOf
 returns-2 c =
     let l = c .before in
     let v = l .loop .inv in (
-      λ d. stop-answer _ _ _ _ (held (l .loop .lower) (l .loop .upper) (l .loop .below) (l .loop .above) d) (ready-at d (v .ready)) _ (next-conflict _ _ _ _ (told-first _ _ _ _ _ _ _ _ (v .told)) (falsified c)) ∙ sym (v .same d),
+      λ d. stop-answer _ _ _ _ _ (length-over _ _ _ _ _ _) (held (l .loop .lower) (l .loop .upper) (l .loop .below) (l .loop .above) d) (ready-at d (v .ready)) _ (next-conflict _ _ _ _ (warned-first _ _ _ _ _ _ _ _ _ (length-over _ _ _ _ _ _) (v .told)) (falsified c)) ∙ sym (v .same d),
       (v .ready, (v .told .lengths, λ i e. absurd (no-decision _ i e))),
     )
 
@@ -249,11 +310,17 @@ propagate-spec =
     enum-known-better
     number-of-requires
     raise-lower-requires
+    mul-due
+    element-copy-out-due
+    first-indivisible-requires
     loop-less
     loop-again
     enum-known-better-2
     number-of-requires-2
     lower-upper-requires
+    mul-due-2
+    element-copy-out-due-2
+    first-indivisible-requires-2
     loop-less-2
     loop-again-2
     enum-told

@@ -2,7 +2,7 @@
 use Prim.Native.Nat.{_-_, _≤_}
 use Rattle.layout.specs.Rows.{boxOf}
 use Rattle.model.specs.Lists.{anyOf}
-use Rattle.model.specs.Validity.{isOpen}
+use Rattle.model.specs.Constraint.{isOpen}
 use Rattle.validate.proofs.Marks.{open-end, open-found, open-more, open-none}
 use borrow.Author.Needs.{needs}
 use mathlib.Core.Bool.{false}

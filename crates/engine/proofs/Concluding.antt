@@ -1,0 +1,234 @@
+-- A counted conflict: what the model makes of it, whether a cut is learned or a divisor constraint teaches nothing, and what it leaves of the rows.
+use Prim.Native.Nat.{ℕ, zero, suc, _+_, _-_, _*_, _≤_, _<_}
+use native.Mathlib.Nat.{eq-or-lt-of-le}
+use native.Mathlib.Numerals.{add-one}
+use native.Mathlib.Omega.{arith}
+use mathlib.Core.Bool.{Bool, true, false}
+use mathlib.Core.List.{List}
+use mathlib.Core.Logic.{⊎-elim}
+use mathlib.Core.Path.{_≡_, sym, ap, ap₂, subst, _∙_}
+use lib.Dec.{T}
+use lib.IntN.{ℤ, pos}
+use lib.ListN.{getD, set, length, drop, length-drop}
+use Rattle.model.specs.Lists.{tab}
+use Rattle.model.specs.Ranges.{maxVariables, maxCuts}
+use Rattle.model.specs.Constraint.{Constraint, modulus, falsified}
+use Rattle.model.specs.File.{noConstraint}
+use Rattle.model.specs.Search as model
+use Rattle.model.specs.Move.{conflict}
+use Rattle.model.specs.Conflict.{Analysis, analyze, numbered, backjumpLevel, nothingLearned, atConflict}
+use Rattle.model.specs.Step as step
+use Rattle.lists.proofs.Bools.{true-of}
+use Rattle.lists.proofs.Tab.{getD-tab, tab-ext-0, tab-const}
+use Rattle.layout.specs.Rows.{numberIn, cell, constraintAt, rowAt, inputAt, boxOf}
+use Rattle.layout.proofs.Rows.{row-plain, constraint-eq}
+use Rattle.linear.proofs.Ranges.{box-fits}
+use Rattle.validity.proofs.Blank.{Blanked, analyze-blanked, numbered-blanked}
+use Rattle.validity.proofs.Conflicts.{analyze-learned}
+use Rattle.validity.proofs.Tests.{range-ordered}
+use Rattle.state.specs.View.{levelOf, levelAt, levelsFrom, keptCuts, droppedCuts, divisorFor, coreOver, coreWith}
+use Rattle.state.specs.Change.{held}
+use Rattle.state.specs.declared.Level.{Level}
+use Rattle.state.proofs.Cores.{kept-rows, level-here, levels-above}
+use Rattle.backtrack.specs.Saved.{RowsMoved}
+use Rattle.backtrack.specs.Mirror.{boxIn, Mirrored, BoxesFit, BackjumpLevel}
+use Rattle.backtrack.proofs.Mirroring.{mirrored-stored}
+use Rattle.propagate.specs.Divided.{keptOver, coreApart, Apart}
+use Rattle.propagate.proofs.Warning.{plain-row, divided-input, inputs-blanked, length-over, over-input, kept-plain}
+use Rattle.backtrack.proofs.Saving.{place-less, rows-stay}
+use Rattle.engine.specs.Counting.{Countable}
+use Rattle.engine.specs.Learning.{Learnable, LearnedFrom}
+use Rattle.engine.specs.declared.learn.Learned.{Learned}
+use Rattle.engine.proofs.Learning.{learnable-at}
+use Rattle.engine.proofs.Backjumping.{Passed, passed-outward, backjump-found}
+use Rattle.engine.proofs.Running.{Running, Propagates, coreHere}
+use Rattle.engine.proofs.Conflicting.{conflictWith, learned-is, dismissed-is}
+use Rattle.engine.proofs.Rounds.{depth-small, same-length}
+use Rattle.engine.proofs.Stored.{stored-range, stored-under}
+
+-- ---- what a conflict leaves of the rows
+pub record Keeps (n m made : ℕ) (rows lines divisors cut : List ℤ) (used : List ℕ) (made₁ : ℕ) (rows₁ : List ℤ) (numbers₁ : List ℕ) : Type 0 where
+  pub apart : Apart n m rows₁ lines divisors
+  pub cutRest : (i : ℕ) → n < i → numberIn cut i ≡ pos 0
+  pub usedRest : (i : ℕ) → n ≤ i → getD used i 0 ≡ 0
+  pub rowsLong : length rows₁ ≡ 4224
+  pub numbersLong : length numbers₁ ≡ maxCuts
+  pub count : made₁ ≤ suc made
+  pub shifted : RowsMoved n m made made₁ rows rows₁
+
+-- the inputs' rows stay
+apart-moved : (n m made made₁ : ℕ) (rows rows₁ lines divisors : List ℤ) → Apart n m rows lines divisors → RowsMoved n m made made₁ rows rows₁ → Apart n m rows₁ lines divisors
+apart-moved n m made made₁ rows rows₁ lines divisors a v =
+    record {
+      linesLong = a .linesLong;
+      divisorsLong = a .divisorsLong;
+      range = a .range;
+      fits = a .fits;
+      same = λ j h e. stays j h ∙ a .same j h e;
+      blank = λ j h d. stays j h ∙ a .blank j h d;
+    }
+  where
+    stays : (j : ℕ) → j < m → rowAt n rows₁ j ≡ rowAt n rows j
+    stays j h =
+        let p = place-less m (droppedCuts made₁ - droppedCuts made) j h in
+        v .at j (omega arith) (omega (arith, p)) ∙ ap (rowAt n rows) p
+
+pub keeps-learned : (n m made : ℕ) (rows lines divisors : List ℤ) → Apart n m rows lines divisors → {numbers : List ℕ} {level : Level} {j : ℕ} {x : Learned} {rows₁ : List ℤ} {numbers₁ : List ℕ} →
+    LearnedFrom n m made rows numbers level j x rows₁ numbers₁ → Keeps n m made rows lines divisors (x .cut) (x .used) (x .made) rows₁ numbers₁
+keeps-learned n m made rows lines divisors a l =
+    record {
+      apart = apart-moved n m made _ rows _ lines divisors a (l .moved);
+      cutRest = l .cutRest;
+      usedRest = l .usedRest;
+      rowsLong = l .rowsLong;
+      numbersLong = l .numbersLong;
+      count = l .count;
+      shifted = l .moved;
+    }
+
+pub keeps-dismissed : (n m made : ℕ) (rows : List ℤ) (numbers : List ℕ) (lines divisors cut : List ℤ) (used : List ℕ) → Apart n m rows lines divisors → length rows ≡ 4224 → length numbers ≡ maxCuts →
+    ((i : ℕ) → numberIn cut i ≡ pos 0) → ((i : ℕ) → getD used i 0 ≡ 0) → Keeps n m made rows lines divisors cut used made rows numbers
+keeps-dismissed n m made rows numbers lines divisors cut used a rl nl zc zu =
+    record { apart = a; cutRest = λ i h. zc i; usedRest = λ i h. zu i; rowsLong = rl; numbersLong = nl; count = omega arith; shifted = rows-stay n m made rows }
+
+-- zeros are nothing learned
+zero-cut : (n : ℕ) (cut : List ℤ) → ((i : ℕ) → numberIn cut i ≡ pos 0) → constraintAt n cut 0 ≡ nothingLearned n .cut
+unfolding constraintAt nothingLearned
+zero-cut n cut z = constraint-eq (z 0) (tab-ext-0 (cell cut 0) (λ (k : ℕ). pos 0) n (λ k h. unfold cell in z (0 + 1 + k)) ∙ tab-const (pos 0) 0 n)
+
+zero-used : (n : ℕ) (used : List ℕ) → ((i : ℕ) → getD used i 0 ≡ 0) → tab (λ i. getD used i 0) 0 n ≡ nothingLearned n .used
+unfolding nothingLearned
+zero-used n used z = tab-ext-0 (λ (i : ℕ). getD used i 0) (λ (k : ℕ). 0) n (λ k h. z k) ∙ tab-const {A = ℕ} 0 0 n
+
+-- what is shown of a conflict, whether something was learned or not
+pub record Facts (lines divisors : List ℤ) (n m : ℕ) (rows : List ℤ) (numbers : List ℕ) (levels : List Level) (made depth : ℕ) (here : Level) (j : ℕ) (cut : List ℤ) (used : List ℕ) (number back made₁ : ℕ) (rows₁ : List ℤ) (numbers₁ : List ℕ) : Type 0 where
+  pub is : atConflict (coreHere lines divisors n m rows numbers levels made depth here) j ≡
+      conflictWith (coreHere lines divisors n m rows numbers levels made depth here) j (constraintAt n cut 0) (tab (λ i. getD used i 0) 0 n) number back (coreHere lines divisors n m rows₁ numbers₁ levels made₁ depth here)
+  pub reach : back ≤ depth
+  pub kept : Keeps n m made rows lines divisors cut used made₁ rows₁ numbers₁
+
+-- ---- the level where a conflict is met, and the levels above it as they lie in the flat arrays
+module _ {s : model.Search} {old : List ℕ} {limit : ℕ} {keep : Bool} {lines divisors : List ℤ} {n m budget : ℕ} {now : List ℕ} {rows : List ℤ} {numbers : List ℕ} {levels : List Level} {made conflicts depth : ℕ}
+    {level before : Level} {start done : ℕ} (r : Running s old limit keep lines divisors n m budget now rows numbers levels made conflicts depth level before start done)
+    (here : Level) (j : ℕ) (moved : Propagates (coreHere lines divisors n m rows numbers levels made depth level) (coreHere lines divisors n m rows numbers levels made depth here) (conflict j))
+    (lowers uppers : List ℤ) (b : Mirrored n levels lowers uppers depth) where
+  -- the levels with the deepest stored
+  abbrev all : List Level
+  all = set levels depth here
+
+  deep : depth < length levels
+  deep = omega (arith, depth-small r, r .levelsLong)
+
+  same-box : (t : ℕ) → t < depth → boxIn n lowers uppers t ≡ levelAt n all t .box
+  same-box t h = unfold levelAt levelOf in mirrored-stored n levels lowers uppers depth b depth here (omega arith) .at t h
+
+  boxes-fit : BoxesFit n depth lowers uppers
+  boxes-fit =
+      record {
+        lowersLong = b .lowersLong;
+        uppersLong = b .uppersLong;
+        at = λ t h.
+            let e : boxOf n (drop (maxVariables * t) lowers) (drop (maxVariables * t) uppers) ≡ levelAt n all t .box = unfold boxIn in same-box t h in
+            box-fits n (drop (maxVariables * t) lowers) (drop (maxVariables * t) uppers) (rw e (true-of _ (stored-range lines divisors n m rows numbers levels made depth here deep (moved .fits) t (omega arith))))
+            (omega (arith, length-drop (maxVariables * t) lowers, b .lowersLong, r .counts .few, depth-small r)) (omega (arith, length-drop (maxVariables * t) uppers, b .uppersLong, r .counts .few, depth-small r));
+      }
+
+  -- what counting it asks
+  pub countable : (d : ℕ) (masks : List ℕ) → length masks ≡ maxCuts → done < limit → Learnable n m made rows numbers here j →
+      Countable n m made j depth (conflicts + 1) done keep rows numbers (held (here .lower) (here .upper) (here .below) (here .above) d) lowers uppers lines divisors masks now
+  countable d masks e h l =
+      record { learnable = learnable-at d l; apart = r .apart; deep = depth-small r; boxes = boxes-fit; masked = e; some = omega arith; room = λ k. omega (arith, r .room k, same-length r) }
+
+  -- a constraint that the level falsifies
+  module _ (k : Constraint) (deepest-false : falsified k (levelAt n all depth .box) ≡ true) where
+    found-level : (back : ℕ) → back ≤ depth → Passed n all k back → falsified k (levelAt n all back .box) ≡ true →
+        backjumpLevel k (coreHere lines divisors n m rows numbers levels made depth here) ≡ back
+    found-level back h g q =
+        ap₂ (λ (q : model.Level) (qs : List model.Level). backjumpLevel k (coreApart n m made rows lines divisors numbers q qs))
+        (sym (level-here n levels depth here deep)) (sym (levels-above n levels depth depth here (omega arith))) ∙
+        backjump-found lines divisors n m made rows numbers all depth back k h g q
+
+    -- a level that does not falsify it ends the search for one that does
+    passed-all : (e : ℕ) → suc e ≤ depth → falsified k (levelAt n all e .box) ≡ false → Passed n all k (suc e)
+    passed-all e h f =
+        rw add-one at
+        (passed-outward n all k depth (λ t b. (range-ordered _ (stored-range lines divisors n m rows numbers levels made depth here deep (moved .fits) (suc t) b), stored-under lines divisors n m rows numbers levels made depth here deep (moved .fits) t b .inside)) e (omega arith) f)
+
+    -- the level that the search found
+    pub level-is : (back : ℕ) → BackjumpLevel k n depth lowers uppers back → backjumpLevel k (coreHere lines divisors n m rows numbers levels made depth here) ≡ back
+    level-is back q = found-level back (q .most) (passed back (q .most) (q .stops)) false-there
+      where
+        false-there : falsified k (levelAt n all back .box) ≡ true
+        false-there =
+            ⊎-elim
+            (λ (e : back ≡ depth). rw e deepest-false)
+            (λ (e : back < depth). rw (← same-box back e) (q .falsifies back (omega arith) e))
+            (eq-or-lt-of-le (q .most))
+
+        passed : (e : ℕ) → e ≤ depth → ((t : ℕ) → t + 1 ≡ e → falsified k (boxIn n lowers uppers t) ≡ false) → Passed n all k e
+        passed zero h f = λ j l. absurd (omega arith)
+        passed (suc e) h f = passed-all e h (rw (← same-box e h) (f e (omega arith)))
+
+  -- ---- what the conflict is
+  -- at an inequality
+  module _ (plain : divisorFor m divisors j ≡ pos 0) (x : Learned) {rows₁ : List ℤ} {numbers₁ : List ℕ} (l : LearnedFrom n m made rows numbers here j x rows₁ numbers₁) where
+    abbrev cut : Constraint
+    cut = constraintAt n (x .cut) 0
+
+    position : j < m + keptCuts made
+    position =
+        let at : j < length (keptOver n m made rows lines divisors) = unfold coreOver model.kept in moved .chosen .at in
+        omega (arith, length-over n m made rows lines divisors)
+
+    own : getD (keptOver n m made rows lines divisors) j noConstraint ≡ rowAt n rows j
+    own = kept-plain n m made rows lines divisors (r .apart) j position plain
+
+    inequality : modulus (getD (model.kept (coreHere lines divisors n m rows numbers levels made depth here)) j noConstraint) ≡ 0
+    inequality = unfold coreOver model.kept in ap modulus own ∙ plain-row n rows j
+
+    abbrev bare : model.Core
+    bare = coreWith n m made rows numbers (levelOf n here) (levelsFrom n levels depth)
+
+    blanked : Blanked (tab (inputAt n lines divisors) 0 m) (bare .inputs)
+    blanked = unfold coreOver in inputs-blanked n m rows lines divisors (r .apart)
+
+    analyzed : analyze (coreHere lines divisors n m rows numbers levels made depth here) (getD (model.kept (coreHere lines divisors n m rows numbers levels made depth here)) j noConstraint) ≡
+        record { cut = cut; used = tab (λ i. getD (x .used) i 0) 0 n }
+    analyzed =
+        let c = coreHere lines divisors n m rows numbers levels made depth here in
+        let here-is : getD (model.kept c) j noConstraint ≡ rowAt n rows j = unfold coreOver model.kept in own in
+        let bare-is : getD (model.kept bare) j noConstraint ≡ rowAt n rows j = rw (kept-rows n m made rows numbers (levelOf n here) (levelsFrom n levels depth)) (getD-tab (rowAt n rows) (m + keptCuts made) j noConstraint position) in
+        let same : analyze c (rowAt n rows j) ≡ analyze bare (rowAt n rows j) = unfold coreOver in analyze-blanked bare (tab (inputAt n lines divisors) 0 m) blanked (rowAt n rows j) in
+        ap (analyze c) here-is ∙ same ∙ ap (analyze bare) (sym bare-is) ∙ l .learns (levelsFrom n levels depth) .analysis
+
+    cut-false : T (falsified cut (levelOf n here .box))
+    unfolding coreOver
+    cut-false =
+        let c = coreHere lines divisors n m rows numbers levels made depth here in
+        subst (λ (a : Analysis). T (falsified (a .cut) (levelOf n here .box))) analyzed (analyze-learned c j (moved .fits) (moved .chosen) inequality .false)
+
+    numbers-it : numbered (coreHere lines divisors n m rows numbers levels made depth here) cut ≡ record { number = x .number; core = coreHere lines divisors n m rows₁ numbers₁ levels (x .made) depth here }
+    unfolding coreOver
+    numbers-it = numbered-blanked bare (tab (inputAt n lines divisors) 0 m) blanked cut (levelOf n here .box) (row-plain n (x .cut) 0) cut-false (x .number) _ (l .learns (levelsFrom n levels depth) .numbering)
+
+    pub is-learned : (back : ℕ) → BackjumpLevel cut n depth lowers uppers back →
+        atConflict (coreHere lines divisors n m rows numbers levels made depth here) j ≡
+        conflictWith (coreHere lines divisors n m rows numbers levels made depth here) j cut (tab (λ i. getD (x .used) i 0) 0 n) (x .number) back (coreHere lines divisors n m rows₁ numbers₁ levels (x .made) depth here)
+    is-learned back q =
+        learned-is (coreHere lines divisors n m rows numbers levels made depth here) j cut _ (x .number) back _ inequality analyzed numbers-it
+        (level-is cut (rw (level-here n levels depth here deep) (true-of _ cut-false)) back q)
+
+  -- at an input with a divisor
+  pub is-dismissed : (cut : List ℤ) (used : List ℕ) (back : ℕ) → j < m → (numberIn divisors j ≡ pos 0 → ⊥) → ((i : ℕ) → numberIn cut i ≡ pos 0) → ((i : ℕ) → getD used i 0 ≡ 0) →
+      BackjumpLevel (inputAt n lines divisors j) n depth lowers uppers back →
+      atConflict (coreHere lines divisors n m rows numbers levels made depth here) j ≡
+      conflictWith (coreHere lines divisors n m rows numbers levels made depth here) j (constraintAt n cut 0) (tab (λ i. getD used i 0) 0 n) 0 back (coreHere lines divisors n m rows numbers levels made depth here)
+  unfolding coreOver
+  is-dismissed cut used back h d zc zu q =
+      let c = coreHere lines divisors n m rows numbers levels made depth here in
+      let k = inputAt n lines divisors j in
+      let own : getD (model.kept c) j noConstraint ≡ k = unfold coreOver model.kept in over-input n m made rows lines divisors j h in
+      let g : T (falsified (getD (model.kept c) j noConstraint) (levelOf n here .box)) = unfold coreOver in moved .chosen .false in
+      let f : T (falsified k (levelOf n here .box)) = subst (λ (x : Constraint). T (falsified x (levelOf n here .box))) own g in
+      let x = dismissed-is c j k back own (divided-input n lines divisors j d) (level-is k (rw (level-here n levels depth here deep) (true-of _ f)) back q) in
+      rw (zero-cut n cut zc, zero-used n used zu) x

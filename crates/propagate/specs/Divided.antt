@@ -1,0 +1,82 @@
+-- The divisor constraints of a search, apart from the inequalities. `lines` holds the rows of the inputs; among the rows that the other scans read, those
+-- with a divisor are blank.
+use Prim.Native.Nat.{ℕ, _+_, _*_, _≤_, _<_, _^_}
+use mathlib.Core.Bool.{true, false}
+use mathlib.Core.List.{List, _++_}
+use mathlib.Core.Logic.{_⊎_}
+use mathlib.Core.Path.{_≡_}
+use lib.IntN.{ℤ, pos}
+use lib.ListN.{getD, length, replicate}
+use Rattle.model.specs.Lists.{tab}
+use Rattle.model.specs.Ranges.{maxVariables, maxConstraints}
+use Rattle.model.specs.Constraint.{Constraint, falsified, inRange}
+use Rattle.model.specs.File.{noConstraint}
+use Rattle.model.specs.Search.{Level, Core}
+use Rattle.linear.specs.Ranges.{BoxFits, DivisorFits}
+use Rattle.layout.specs.Rows.{rowLength, numberIn, cell, rowAt, inputAt, boxOf, rowsLength}
+use Rattle.state.specs.View.{keptCuts, coreOver}
+use Rattle.propagate.specs.Masks.{bit}
+use Rattle.propagate.specs.Tracked.{Tracked}
+
+-- the kept constraints: the inputs with their divisors, and the cuts
+abbrev pub keptOver : ℕ → ℕ → ℕ → List ℤ → List ℤ → List ℤ → List Constraint
+keptOver n m made rows lines divisors = tab (inputAt n lines divisors) 0 m ++ tab (rowAt n rows) m (keptCuts made)
+
+-- the core that they belong to
+abbrev pub coreApart : ℕ → ℕ → ℕ → List ℤ → List ℤ → List ℤ → List ℕ → Level → List Level → Core
+coreApart n m made rows lines divisors numbers deepest outer = coreOver (tab (inputAt n lines divisors) 0 m) n m made rows numbers deepest outer
+
+-- 0 ≤ 0
+abbrev pub blankRow : ℕ → Constraint
+blankRow n = record { constant = pos 0; coefficients = replicate n (pos 0); divisor = pos 0 }
+
+-- the inputs' lines and divisors, and the rows with blanks
+pub record Apart (n m : ℕ) (rows lines divisors : List ℤ) : Type 0 where
+  pub linesLong : length lines ≡ rowsLength
+  pub divisorsLong : length divisors ≡ maxConstraints
+  pub range : (j : ℕ) → j < m → inRange (rowAt n lines j) ≡ true
+  pub fits : (j : ℕ) → j < m → DivisorFits (numberIn divisors j)
+  pub same : (j : ℕ) → j < m → numberIn divisors j ≡ pos 0 → rowAt n rows j ≡ rowAt n lines j
+  pub blank : (j : ℕ) → j < m → (numberIn divisors j ≡ pos 0 → ⊥) → rowAt n rows j ≡ blankRow n
+
+-- ---- masks of inputs: each that is left out carries no divisor, or is spared
+pub record Due (m : ℕ) (divisors : List ℤ) (Spared : ℕ → Type 0) (mask : ℕ) : Type 0 where
+  pub few : mask < 2 ^ m
+  pub rest : (j : ℕ) → j < m → bit mask j ≡ 0 → (numberIn divisors j ≡ pos 0) ⊎ Spared j
+
+-- no constraint is spared
+abbrev pub Everyone : ℕ → Type 0
+Everyone j = ⊥
+
+-- those that do not mention variable i are
+abbrev pub Unmentioned : List ℤ → ℕ → ℕ → Type 0
+Unmentioned lines i j = cell lines (rowLength * j) i ≡ pos 0
+
+pub record Columns (n m : ℕ) (lines divisors : List ℤ) (columns : List ℕ) : Type 0 where
+  pub long : length columns ≡ maxVariables
+  pub at : (i : ℕ) → i < n → Due m divisors (Unmentioned lines i) (getD columns i 0)
+
+-- ---- the first of a mask that these bounds falsify
+pub record Testable (n m : ℕ) (lines divisors lower upper : List ℤ) (mask : ℕ) : Type 0 where
+  pub few : n ≤ maxVariables
+  pub most : m ≤ maxConstraints
+  pub linesLong : length lines ≡ rowsLength
+  pub divisorsLong : length divisors ≡ maxConstraints
+  pub range : (j : ℕ) → j < m → inRange (rowAt n lines j) ≡ true
+  pub fits : (j : ℕ) → j < m → DivisorFits (numberIn divisors j)
+  pub box : BoxFits n lower upper
+  pub inside : mask < 2 ^ m
+
+pub record FirstIndivisible (n m : ℕ) (lines divisors lower upper : List ℤ) (mask limit r : ℕ) : Type 0 where
+  pub most : r ≤ limit
+  pub before : (j : ℕ) → j < r → (bit mask j ≡ 0) ⊎ (falsified (inputAt n lines divisors j) (boxOf n lower upper) ≡ false)
+  pub here : r < limit → (r < m) × (falsified (inputAt n lines divisors r) (boxOf n lower upper) ≡ true)
+
+-- ---- the first of the kept constraints ks, of either sort, that the box falsifies stands at position r; r is `kept` where there is none, and then every row
+-- is tracked
+pub record Warned (ks : List Constraint) (n : ℕ) (rows lower upper activities reaches : List ℤ) (kept r : ℕ) : Type 0 where
+  pub lengths : Tracked n rows lower upper activities reaches 0
+  pub most : r ≤ kept
+  pub before : (j : ℕ) → j < r → falsified (getD ks j noConstraint) (boxOf n lower upper) ≡ false
+  pub here : r < kept → falsified (getD ks r noConstraint) (boxOf n lower upper) ≡ true
+  pub tracked : r ≡ kept → Tracked n rows lower upper activities reaches kept
