@@ -2,3 +2,4 @@
 pub mod Saving
 pub mod Moving
 pub mod Mirroring
+pub mod Nesting

@@ -2,3 +2,4 @@
 pub mod Saved
 pub mod Jumps
 pub mod Mirror
+pub mod Level

@@ -1,13 +1,11 @@
--- The bounds of the levels above the one in hand, in flat arrays: 32 numbers for each level.
-use Prim.Native.Nat.{ℕ, _+_, _-_, _*_, _≤_, _<_}
-use mathlib.Core.Bool.{true, false}
+-- The bounds of the levels in flat arrays: 32 numbers for each level.
+use Prim.Native.Nat.{ℕ, _+_, _*_, _<_}
 use mathlib.Core.List.{List}
 use mathlib.Core.Path.{_≡_}
 use lib.IntN.{ℤ}
 use lib.ListN.{getD, length, drop}
 use Rattle.model.specs.Ranges.{maxVariables}
-use Rattle.model.specs.Constraint.{Constraint, Box, falsified}
-use Rattle.linear.specs.Ranges.{BoxFits}
+use Rattle.model.specs.Constraint.{Box}
 use Rattle.layout.specs.Rows.{boxOf}
 use Rattle.state.specs.View.{noLevel}
 use Rattle.state.specs.declared.Level.{Level}
@@ -25,19 +23,8 @@ pub record BoundsKept (t : ℕ) (lower upper lowers uppers lowers₁ uppers₁ :
   pub below : Copied maxVariables (maxVariables * t) lower lowers lowers₁
   pub above : Copied maxVariables (maxVariables * t) upper uppers uppers₁
 
--- the boxes of the levels above depth
-pub record Mirrored (n : ℕ) (levels : List Level) (lowers uppers : List ℤ) (depth : ℕ) : Type 0 where
+-- the boxes of the first `count` levels
+pub record Mirrored (n : ℕ) (levels : List Level) (lowers uppers : List ℤ) (count : ℕ) : Type 0 where
   pub lowersLong : length lowers ≡ mirrorLength
   pub uppersLong : length uppers ≡ mirrorLength
-  pub at : (t : ℕ) → t < depth → boxIn n lowers uppers t ≡ boxOf n (getD levels t noLevel .lower) (getD levels t noLevel .upper)
-
-pub record BoxesFit (n depth : ℕ) (lowers uppers : List ℤ) : Type 0 where
-  pub lowersLong : length lowers ≡ mirrorLength
-  pub uppersLong : length uppers ≡ mirrorLength
-  pub at : (t : ℕ) → t < depth → BoxFits n (drop (maxVariables * t) lowers) (drop (maxVariables * t) uppers)
-
--- every level from r on falsifies the constraint, and the one before r does not
-pub record BackjumpLevel (k : Constraint) (n depth : ℕ) (lowers uppers : List ℤ) (r : ℕ) : Type 0 where
-  pub most : r ≤ depth
-  pub falsifies : (t : ℕ) → r ≤ t → t < depth → falsified k (boxIn n lowers uppers t) ≡ true
-  pub stops : (t : ℕ) → t + 1 ≡ r → falsified k (boxIn n lowers uppers t) ≡ false
+  pub at : (t : ℕ) → t < count → boxIn n lowers uppers t ≡ boxOf n (getD levels t noLevel .lower) (getD levels t noLevel .upper)

@@ -1,5 +1,6 @@
 // Decisions and backjumps: what is kept of the constraints is saved for each level that a decision leaves, and taken back when the search goes back
 // to it.
+pub mod level;
 pub mod mirror;
 
 use layout::MAX_ROWS;

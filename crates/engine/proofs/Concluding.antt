@@ -1,46 +1,40 @@
 -- A counted conflict: what the model makes of it, whether a cut is learned or a divisor constraint teaches nothing, and what it leaves of the rows.
-use Prim.Native.Nat.{ℕ, zero, suc, _+_, _-_, _*_, _≤_, _<_}
-use native.Mathlib.Nat.{eq-or-lt-of-le}
-use native.Mathlib.Numerals.{add-one}
+use Prim.Native.Nat.{ℕ, suc, _+_, _-_, _≤_, _<_}
 use native.Mathlib.Omega.{arith}
-use mathlib.Core.Bool.{Bool, true, false}
+use mathlib.Core.Bool.{Bool, false}
 use mathlib.Core.List.{List}
-use mathlib.Core.Logic.{⊎-elim}
 use mathlib.Core.Path.{_≡_, sym, ap, ap₂, subst, _∙_}
 use lib.Dec.{T}
 use lib.IntN.{ℤ, pos}
-use lib.ListN.{getD, set, length, drop, length-drop}
+use lib.ListN.{getD, set, length}
 use Rattle.model.specs.Lists.{tab}
-use Rattle.model.specs.Ranges.{maxVariables, maxCuts}
+use Rattle.model.specs.Ranges.{maxCuts}
 use Rattle.model.specs.Constraint.{Constraint, modulus, falsified}
 use Rattle.model.specs.File.{noConstraint}
 use Rattle.model.specs.Search as model
 use Rattle.model.specs.Move.{conflict}
-use Rattle.model.specs.Conflict.{Analysis, analyze, numbered, backjumpLevel, nothingLearned, atConflict}
-use Rattle.model.specs.Step as step
+use Rattle.model.specs.Conflict.{analyze, numbered, backjumpLevel, nothingLearned, atConflict}
 use Rattle.lists.proofs.Bools.{true-of}
-use Rattle.lists.proofs.Tab.{getD-tab, tab-ext-0, tab-const}
+use Rattle.lists.proofs.Tab.{tab-ext-0, tab-const}
 use Rattle.layout.specs.Rows.{numberIn, cell, constraintAt, rowAt, inputAt, boxOf}
 use Rattle.layout.proofs.Rows.{row-plain, constraint-eq}
-use Rattle.linear.proofs.Ranges.{box-fits}
 use Rattle.validity.proofs.Blank.{Blanked, analyze-blanked, numbered-blanked}
-use Rattle.validity.proofs.Conflicts.{analyze-learned}
-use Rattle.validity.proofs.Tests.{range-ordered}
+use Rattle.validity.proofs.Tests.{nested-out}
 use Rattle.state.specs.View.{levelOf, levelAt, levelsFrom, keptCuts, droppedCuts, divisorFor, coreOver, coreWith}
 use Rattle.state.specs.Change.{held}
 use Rattle.state.specs.declared.Level.{Level}
-use Rattle.state.proofs.Cores.{kept-rows, level-here, levels-above}
+use Rattle.state.proofs.Cores.{level-here, levels-above}
 use Rattle.backtrack.specs.Saved.{RowsMoved}
-use Rattle.backtrack.specs.Mirror.{boxIn, Mirrored, BoxesFit, BackjumpLevel}
-use Rattle.backtrack.proofs.Mirroring.{mirrored-stored}
+use Rattle.backtrack.specs.Mirror.{boxIn, Mirrored}
+use Rattle.backtrack.specs.Level.{LevelsNested, LeastFalsifying}
 use Rattle.propagate.specs.Divided.{keptOver, coreApart, Apart}
 use Rattle.propagate.proofs.Warning.{plain-row, divided-input, inputs-blanked, length-over, over-input, kept-plain}
 use Rattle.backtrack.proofs.Saving.{place-less, rows-stay}
 use Rattle.engine.specs.Counting.{Countable}
 use Rattle.engine.specs.Learning.{Learnable, LearnedFrom}
 use Rattle.engine.specs.declared.learn.Learned.{Learned}
-use Rattle.engine.proofs.Learning.{learnable-at}
-use Rattle.engine.proofs.Backjumping.{Passed, passed-outward, backjump-found}
+use Rattle.engine.proofs.Learning.{learnable-at, kept-row, cut-false}
+use Rattle.engine.proofs.Backjumping.{backjump-found}
 use Rattle.engine.proofs.Running.{Running, Propagates, coreHere}
 use Rattle.engine.proofs.Conflicting.{conflictWith, learned-is, dismissed-is}
 use Rattle.engine.proofs.Rounds.{depth-small, same-length}
@@ -107,11 +101,11 @@ pub record Facts (lines divisors : List ℤ) (n m : ℕ) (rows : List ℤ) (numb
   pub reach : back ≤ depth
   pub kept : Keeps n m made rows lines divisors cut used made₁ rows₁ numbers₁
 
--- ---- the level where a conflict is met, and the levels above it as they lie in the flat arrays
+-- ---- the level where a conflict is met, and all levels as they lie in the flat arrays
 module _ {s : model.Search} {old : List ℕ} {limit : ℕ} {keep : Bool} {lines divisors : List ℤ} {n m budget : ℕ} {now : List ℕ} {rows : List ℤ} {numbers : List ℕ} {levels : List Level} {made conflicts depth : ℕ}
     {level before : Level} {start done : ℕ} (r : Running s old limit keep lines divisors n m budget now rows numbers levels made conflicts depth level before start done)
     (here : Level) (j : ℕ) (moved : Propagates (coreHere lines divisors n m rows numbers levels made depth level) (coreHere lines divisors n m rows numbers levels made depth here) (conflict j))
-    (lowers uppers : List ℤ) (b : Mirrored n levels lowers uppers depth) where
+    (lowers uppers : List ℤ) (b : Mirrored n (set levels depth here) lowers uppers (depth + 1)) where
   -- the levels with the deepest stored
   abbrev all : List Level
   all = set levels depth here
@@ -119,55 +113,44 @@ module _ {s : model.Search} {old : List ℕ} {limit : ℕ} {keep : Bool} {lines 
   deep : depth < length levels
   deep = omega (arith, depth-small r, r .levelsLong)
 
-  same-box : (t : ℕ) → t < depth → boxIn n lowers uppers t ≡ levelAt n all t .box
-  same-box t h = unfold levelAt levelOf in mirrored-stored n levels lowers uppers depth b depth here (omega arith) .at t h
+  same-box : (t : ℕ) → t ≤ depth → boxIn n lowers uppers t ≡ levelAt n all t .box
+  same-box t h = unfold levelAt levelOf in b .at t (omega arith)
 
-  boxes-fit : BoxesFit n depth lowers uppers
-  boxes-fit =
+  levels-nested : LevelsNested n depth lowers uppers
+  levels-nested =
       record {
         lowersLong = b .lowersLong;
         uppersLong = b .uppersLong;
-        at = λ t h.
-            let e : boxOf n (drop (maxVariables * t) lowers) (drop (maxVariables * t) uppers) ≡ levelAt n all t .box = unfold boxIn in same-box t h in
-            box-fits n (drop (maxVariables * t) lowers) (drop (maxVariables * t) uppers) (rw e (true-of _ (stored-range lines divisors n m rows numbers levels made depth here deep (moved .fits) t (omega arith))))
-            (omega (arith, length-drop (maxVariables * t) lowers, b .lowersLong, r .counts .few, depth-small r)) (omega (arith, length-drop (maxVariables * t) uppers, b .uppersLong, r .counts .few, depth-small r));
+        range = λ t h. rw (same-box t h) (stored-range lines divisors n m rows numbers levels made depth here deep (moved .fits) t h);
+        inside = λ t h. rw (same-box (suc t) h, same-box t (omega arith)) (nested-out _ _ (stored-under lines divisors n m rows numbers levels made depth here deep (moved .fits) t h .inside));
       }
+
+  -- the constraint that is met
+  false-here : T (falsified (getD (keptOver n m made rows lines divisors) j noConstraint) (boxOf n (here .lower) (here .upper)))
+  false-here = unfold coreOver model.kept levelOf in moved .chosen .false
 
   -- what counting it asks
   pub countable : (d : ℕ) (masks : List ℕ) → length masks ≡ maxCuts → done < limit → Learnable n m made rows numbers here j →
       Countable n m made j depth (conflicts + 1) done keep rows numbers (held (here .lower) (here .upper) (here .below) (here .above) d) lowers uppers lines divisors masks now
   countable d masks e h l =
-      record { learnable = learnable-at d l; apart = r .apart; deep = depth-small r; boxes = boxes-fit; masked = e; some = omega arith; room = λ k. omega (arith, r .room k, same-length r) }
+      record {
+        learnable = learnable-at d l;
+        apart = r .apart;
+        deep = depth-small r;
+        nested = levels-nested;
+        here = same-box depth (omega arith) ∙ (unfold levelOf in ap (λ (l : model.Level). l .box) (level-here n levels depth here deep));
+        false = true-of _ false-here;
+        masked = e;
+        some = omega arith;
+        room = λ k. omega (arith, r .room k, same-length r);
+      }
 
-  -- a constraint that the level falsifies
-  module _ (k : Constraint) (deepest-false : falsified k (levelAt n all depth .box) ≡ true) where
-    found-level : (back : ℕ) → back ≤ depth → Passed n all k back → falsified k (levelAt n all back .box) ≡ true →
-        backjumpLevel k (coreHere lines divisors n m rows numbers levels made depth here) ≡ back
-    found-level back h g q =
-        ap₂ (λ (q : model.Level) (qs : List model.Level). backjumpLevel k (coreApart n m made rows lines divisors numbers q qs))
-        (sym (level-here n levels depth here deep)) (sym (levels-above n levels depth depth here (omega arith))) ∙
-        backjump-found lines divisors n m made rows numbers all depth back k h g q
-
-    -- a level that does not falsify it ends the search for one that does
-    passed-all : (e : ℕ) → suc e ≤ depth → falsified k (levelAt n all e .box) ≡ false → Passed n all k (suc e)
-    passed-all e h f =
-        rw add-one at
-        (passed-outward n all k depth (λ t b. (range-ordered _ (stored-range lines divisors n m rows numbers levels made depth here deep (moved .fits) (suc t) b), stored-under lines divisors n m rows numbers levels made depth here deep (moved .fits) t b .inside)) e (omega arith) f)
-
-    -- the level that the search found
-    pub level-is : (back : ℕ) → BackjumpLevel k n depth lowers uppers back → backjumpLevel k (coreHere lines divisors n m rows numbers levels made depth here) ≡ back
-    level-is back q = found-level back (q .most) (passed back (q .most) (q .stops)) false-there
-      where
-        false-there : falsified k (levelAt n all back .box) ≡ true
-        false-there =
-            ⊎-elim
-            (λ (e : back ≡ depth). rw e deepest-false)
-            (λ (e : back < depth). rw (← same-box back e) (q .falsifies back (omega arith) e))
-            (eq-or-lt-of-le (q .most))
-
-        passed : (e : ℕ) → e ≤ depth → ((t : ℕ) → t + 1 ≡ e → falsified k (boxIn n lowers uppers t) ≡ false) → Passed n all k e
-        passed zero h f = λ j l. absurd (omega arith)
-        passed (suc e) h f = passed-all e h (rw (← same-box e h) (f e (omega arith)))
+  -- the level that the search found
+  pub level-is : (k : Constraint) (back : ℕ) → LeastFalsifying k n depth lowers uppers back → backjumpLevel k (coreHere lines divisors n m rows numbers levels made depth here) ≡ back
+  level-is k back q =
+      ap₂ (λ (l : model.Level) (ls : List model.Level). backjumpLevel k (coreApart n m made rows lines divisors numbers l ls))
+      (sym (level-here n levels depth here deep)) (sym (levels-above n levels depth depth here (omega arith))) ∙
+      backjump-found lines divisors n m made rows numbers all depth back k (q .reach) (λ t h. rw (← same-box t (omega (arith, q .reach))) (q .least t h)) (rw (← same-box back (q .reach)) (q .falsifies))
 
   -- ---- what the conflict is
   -- at an inequality
@@ -197,30 +180,25 @@ module _ {s : model.Search} {old : List ℕ} {limit : ℕ} {keep : Bool} {lines 
     analyzed =
         let c = coreHere lines divisors n m rows numbers levels made depth here in
         let here-is : getD (model.kept c) j noConstraint ≡ rowAt n rows j = unfold coreOver model.kept in own in
-        let bare-is : getD (model.kept bare) j noConstraint ≡ rowAt n rows j = rw (kept-rows n m made rows numbers (levelOf n here) (levelsFrom n levels depth)) (getD-tab (rowAt n rows) (m + keptCuts made) j noConstraint position) in
         let same : analyze c (rowAt n rows j) ≡ analyze bare (rowAt n rows j) = unfold coreOver in analyze-blanked bare (tab (inputAt n lines divisors) 0 m) blanked (rowAt n rows j) in
-        ap (analyze c) here-is ∙ same ∙ ap (analyze bare) (sym bare-is) ∙ l .learns (levelsFrom n levels depth) .analysis
+        ap (analyze c) here-is ∙ same ∙ ap (analyze bare) (sym (kept-row n m made rows numbers here (levelsFrom n levels depth) j position)) ∙ l .learns (levelsFrom n levels depth) .analysis
 
-    cut-false : T (falsified cut (levelOf n here .box))
-    unfolding coreOver
-    cut-false =
-        let c = coreHere lines divisors n m rows numbers levels made depth here in
-        subst (λ (a : Analysis). T (falsified (a .cut) (levelOf n here .box))) analyzed (analyze-learned c j (moved .fits) (moved .chosen) inequality .false)
+    cut-falsified : T (falsified cut (levelOf n here .box))
+    cut-falsified = unfold levelOf in cut-false (r .counts .few) l position (subst (λ (k : Constraint). T (falsified k (boxOf n (here .lower) (here .upper)))) own false-here)
 
     numbers-it : numbered (coreHere lines divisors n m rows numbers levels made depth here) cut ≡ record { number = x .number; core = coreHere lines divisors n m rows₁ numbers₁ levels (x .made) depth here }
     unfolding coreOver
-    numbers-it = numbered-blanked bare (tab (inputAt n lines divisors) 0 m) blanked cut (levelOf n here .box) (row-plain n (x .cut) 0) cut-false (x .number) _ (l .learns (levelsFrom n levels depth) .numbering)
+    numbers-it = numbered-blanked bare (tab (inputAt n lines divisors) 0 m) blanked cut (levelOf n here .box) (row-plain n (x .cut) 0) cut-falsified (x .number) _ (l .learns (levelsFrom n levels depth) .numbering)
 
-    pub is-learned : (back : ℕ) → BackjumpLevel cut n depth lowers uppers back →
+    pub is-learned : (back : ℕ) → LeastFalsifying cut n depth lowers uppers back →
         atConflict (coreHere lines divisors n m rows numbers levels made depth here) j ≡
         conflictWith (coreHere lines divisors n m rows numbers levels made depth here) j cut (tab (λ i. getD (x .used) i 0) 0 n) (x .number) back (coreHere lines divisors n m rows₁ numbers₁ levels (x .made) depth here)
     is-learned back q =
-        learned-is (coreHere lines divisors n m rows numbers levels made depth here) j cut _ (x .number) back _ inequality analyzed numbers-it
-        (level-is cut (rw (level-here n levels depth here deep) (true-of _ cut-false)) back q)
+        learned-is (coreHere lines divisors n m rows numbers levels made depth here) j cut _ (x .number) back _ inequality analyzed numbers-it (level-is cut back q)
 
   -- at an input with a divisor
   pub is-dismissed : (cut : List ℤ) (used : List ℕ) (back : ℕ) → j < m → (numberIn divisors j ≡ pos 0 → ⊥) → ((i : ℕ) → numberIn cut i ≡ pos 0) → ((i : ℕ) → getD used i 0 ≡ 0) →
-      BackjumpLevel (inputAt n lines divisors j) n depth lowers uppers back →
+      LeastFalsifying (inputAt n lines divisors j) n depth lowers uppers back →
       atConflict (coreHere lines divisors n m rows numbers levels made depth here) j ≡
       conflictWith (coreHere lines divisors n m rows numbers levels made depth here) j (constraintAt n cut 0) (tab (λ i. getD used i 0) 0 n) 0 back (coreHere lines divisors n m rows numbers levels made depth here)
   unfolding coreOver
@@ -228,7 +206,5 @@ module _ {s : model.Search} {old : List ℕ} {limit : ℕ} {keep : Bool} {lines 
       let c = coreHere lines divisors n m rows numbers levels made depth here in
       let k = inputAt n lines divisors j in
       let own : getD (model.kept c) j noConstraint ≡ k = unfold coreOver model.kept in over-input n m made rows lines divisors j h in
-      let g : T (falsified (getD (model.kept c) j noConstraint) (levelOf n here .box)) = unfold coreOver in moved .chosen .false in
-      let f : T (falsified k (levelOf n here .box)) = subst (λ (x : Constraint). T (falsified x (levelOf n here .box))) own g in
-      let x = dismissed-is c j k back own (divided-input n lines divisors j d) (level-is k (rw (level-here n levels depth here deep) (true-of _ f)) back q) in
+      let x = dismissed-is c j k back own (divided-input n lines divisors j d) (level-is k back q) in
       rw (zero-cut n cut zc, zero-used n used zu) x

@@ -5,18 +5,19 @@ use borrow.Author.Tests.{lt-ltb, le-ltb}
 use mathlib.Core.Bool.{Bool, true}
 use mathlib.Core.List.{List}
 use mathlib.Core.Logic.{inr, ⊎-elim}
-use mathlib.Core.Path.{_≡_, refl, ap, _∙_}
+use mathlib.Core.Path.{_≡_, refl, sym, ap, _∙_}
 use lib.IntN.{ℤ, pos}
 use lib.ListN.{replicate}
 use Rattle.model.specs.Ranges.{maxVariables}
-use Rattle.model.specs.Constraint.{Constraint, inRange}
+use Rattle.model.specs.Constraint.{Constraint, falsified, inRange}
 use Rattle.lists.proofs.Bools.{lt-or-le}
 use Rattle.lists.proofs.Tab.{getD-const}
-use Rattle.layout.specs.Rows.{numberIn, cell, constraintAt, dividedAt, inputAt}
+use Rattle.layout.specs.Rows.{numberIn, cell, constraintAt, dividedAt, inputAt, boxOf}
 use Rattle.layout.specs.Copies.{Copied}
 use Rattle.linear.specs.Ranges.{RowFits}
 use Rattle.linear.proofs.Ranges.{row-fits}
 use Rattle.record.specs.Written.{CutFits}
+use Rattle.propagate.proofs.Warning.{over-input}
 use Rattle.state.specs.View.{numberFor, divisorFor}
 use Rattle.state.specs.declared.Level.{Level}
 use Rattle.engine.specs.Counting.{Countable, Counted, Dismissable, Dismissed}
@@ -65,7 +66,8 @@ module _ {n m made j depth count done : ℕ} {keep : Bool} {rows : List ℤ} {nu
         range = a .range j (i .0);
         fits = rw (i .1) (a .fits j (i .0));
         deep = p .deep;
-        boxes = p .boxes;
+        nested = p .nested;
+        false = rw (p .here, i .1) (unfold inputAt in (ap (λ (k : Constraint). falsified k (boxOf n (level .lower) (level .upper))) (sym (over-input n m made rows lines divisors j (i .0))) ∙ p .false));
         some = p .some;
         room = p .room;
       }

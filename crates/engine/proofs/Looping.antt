@@ -3,7 +3,7 @@ use Prim.Native.Nat.{ℕ, suc, _≤_, _<_}
 use native.Mathlib.Omega.{arith}
 use mathlib.Core.Bool.{Bool, true, false}
 use mathlib.Core.List.{List}
-use mathlib.Core.Path.{_≡_, subst}
+use mathlib.Core.Path.{_≡_}
 use lib.IntN.{ℤ, pos, _+ℤ_}
 use lib.ListN.{length, set}
 use Rattle.model.specs.Search as model
@@ -18,7 +18,7 @@ use Rattle.propagate.specs.Ready.{Ready}
 use Rattle.propagate.specs.Divided.{Apart}
 use Rattle.engine.specs.declared.Ending.{Ending}
 use Rattle.engine.specs.declared.Ending.the-variants.{GoOn}
-use Rattle.engine.proofs.Arms.{stateAt, Reaches}
+use Rattle.engine.proofs.Arms.{stateAt, Reaches, exits}
 use Rattle.engine.proofs.Carrying.{Carried}
 use Rattle.engine.proofs.Running.{Running}
 
@@ -70,7 +70,14 @@ pub flipped-level : (o k : Level) (i j : ℕ) (lower : List ℤ) (below : List �
 flipped-level o k i j lower below e f l b = rw (← e, ← f, l, b)
 
 pub running-with : {s : model.Search} {old : List ℕ} {limit : ℕ} {keep : Bool} {lines divisors : List ℤ} {n m budget : ℕ} {now : List ℕ} {rows : List ℤ} {numbers : List ℕ} {levels : List Level} {made conflicts depth : ℕ}
-    {l k : Level} {start done : ℕ} → l ≡ k → Running s old limit keep lines divisors n m budget now rows numbers levels made conflicts depth l l start done →
-    Running s old limit keep lines divisors n m budget now rows numbers levels made conflicts depth k k start done
-running-with {s} {old} {limit} {keep} {lines} {divisors} {n} {m} {budget} {now} {rows} {numbers} {levels} {made} {conflicts} {depth} {l} {k} {start} {done} e r =
-    subst (λ (x : Level). Running s old limit keep lines divisors n m budget now rows numbers levels made conflicts depth x x start done) e r
+    {l k a b : Level} {start done : ℕ} → l ≡ k → a ≡ b → Running s old limit keep lines divisors n m budget now rows numbers levels made conflicts depth l a start done →
+    Running s old limit keep lines divisors n m budget now rows numbers levels made conflicts depth k b start done
+running-with e f r = rw (← e, ← f) r
+
+-- as many turns as were asked for: the answer that the loop began with stands
+pub still-open : {s : model.Search} {old : List ℕ} {limit : ℕ} {keep : Bool} {lines divisors : List ℤ} {n m budget : ℕ} {now : List ℕ} {rows : List ℤ} {numbers : List ℕ} {levels : List Level} {made conflicts depth : ℕ}
+    {level before : Level} {start done : ℕ} {ending : Ending} {status : Status} → (ending ≡ GoOn) × (status ≡ Undecided) →
+    Running s old limit keep lines divisors n m budget now rows numbers levels made conflicts depth level before start done → limit ≤ done →
+    Reaches s limit keep ending done (stateAt lines divisors n m budget conflicts made start (statusOf status) rows numbers levels before) old now
+unfolding statusOf
+still-open e r h = rw (e .0, e .1) (exits r h)

@@ -40,13 +40,13 @@ unfolding joined
 none-written keep buffer = record { written = λ k. refl; untouched = λ k. refl }
 
 -- the state at the start, by its parts
-abbrev pub startOf : Search → List ℤ → Search
-startOf s lines =
-    record { n = s .n; m = s .m; budget = s .budget; conflicts = s .conflicts; made = s .made; depth = s .depth; status = Undecided; rows = lines; divisors = s .divisors; numbers = s .numbers; levels = s .levels }
+abbrev pub startOf : Search → Search
+startOf s =
+    record { n = s .n; m = s .m; budget = s .budget; conflicts = s .conflicts; made = s .made; depth = s .depth; status = Undecided; rows = s .rows; divisors = s .divisors; numbers = s .numbers; levels = s .levels }
 
-pub view-unmarked : (s : Search) (lines : List ℤ) → s .status ≡ Undecided → lines ≡ s .rows → view (startOf s lines) ≡ view s
+pub view-unmarked : (s : Search) → s .status ≡ Undecided → view (startOf s) ≡ view s
 unfolding view coreOf inputsOf
-view-unmarked s lines e l = rw (e, l)
+view-unmarked s e = rw e
 
 -- the state at the start, with the rows of the divisor constraints blanked
 start-step : (s : Search) (l : Level) (rows : List ℤ) → s .status ≡ Undecided → levelAt (s .n) (s .levels) (s .depth) ≡ levelOf (s .n) l →
@@ -84,12 +84,12 @@ module _ {s : Search} {limit : ℕ} {keep : Bool} {buffer : List ℕ} (i : Start
         rw (cuts-put (s .n) (s .m) (s .made) (s .divisors) _ (s .rows) rows p (start-counts .inputs))
         (subst (λ (k : model.Level). CoreFits (coreApart (s .n) (s .m) (s .made) (s .rows) (s .rows) (s .divisors) (s .numbers) k (levelsFrom (s .n) (s .levels) (s .depth)))) h (unfold coreOf inputsOf in start-fits))
 
-    pub running-starts : (lines : List ℤ) → lines ≡ s .rows → (l : Level) → l ≡ getD (s .levels) (s .depth) noLevel → Whole l → length (s .numbers) ≡ 64 → length (s .levels) ≡ 33 →
-        Running (view (startOf s lines)) buffer limit keep lines (s .divisors) (s .n) (s .m) (s .budget) buffer rows (s .numbers) (s .levels) (s .made) (s .conflicts) (s .depth) l l (s .depth) 0
-    running-starts lines same l e w nl ll =
+    pub running-starts : (l : Level) → l ≡ getD (s .levels) (s .depth) noLevel → Whole l → length (s .numbers) ≡ 64 → length (s .levels) ≡ 33 →
+        Running (view (startOf s)) buffer limit keep (s .rows) (s .divisors) (s .n) (s .m) (s .budget) buffer rows (s .numbers) (s .levels) (s .made) (s .conflicts) (s .depth) l l (s .depth) 0
+    running-starts l e w nl ll =
         let h : levelAt (s .n) (s .levels) (s .depth) ≡ levelOf (s .n) l = unfold levelAt in ap (levelOf (s .n)) (sym e) in
         let z : limit - 0 ≡ limit = omega arith in
-        rw (view-unmarked s lines (i .unmarked) same, same)
+        rw (view-unmarked s (i .unmarked))
         (record {
           counts = start-counts;
           whole = w;

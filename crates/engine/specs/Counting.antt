@@ -8,23 +8,27 @@ use lib.IntN.{ℤ, pos}
 use lib.ListN.{getD, length}
 use Rattle.model.specs.Ranges.{maxVariables, maxConstraints, maxCuts}
 use Rattle.model.specs.Bytes.{blockLength}
-use Rattle.model.specs.Constraint.{inRange}
+use Rattle.model.specs.Constraint.{falsified, inRange}
+use Rattle.model.specs.File.{noConstraint}
 use Rattle.model.specs.Journal.{recordBytes}
-use Rattle.layout.specs.Rows.{rowLength, numberIn, constraintAt, rowAt, dividedAt, inputAt, rowsLength}
+use Rattle.layout.specs.Rows.{rowLength, numberIn, constraintAt, rowAt, dividedAt, inputAt, boxOf, rowsLength}
 use Rattle.linear.specs.Ranges.{DivisorFits}
 use Rattle.state.specs.View.{keptCuts, numberFor, divisorFor}
 use Rattle.state.specs.declared.Level.{Level}
 use Rattle.record.specs.Written.{recordOf, Emitted}
 use Rattle.propagate.specs.Masks.{Masked}
-use Rattle.propagate.specs.Divided.{Apart}
-use Rattle.backtrack.specs.Mirror.{BoxesFit, BackjumpLevel}
+use Rattle.propagate.specs.Divided.{keptOver, Apart}
+use Rattle.backtrack.specs.Mirror.{boxIn}
+use Rattle.backtrack.specs.Level.{LevelsNested, LeastFalsifying}
 use Rattle.engine.specs.Learning.{Learnable, LearnedFrom}
 
 pub record Countable (n m made j depth count done : ℕ) (keep : Bool) (rows : List ℤ) (numbers : List ℕ) (level : Level) (lowers uppers lines divisors : List ℤ) (masks buffer : List ℕ) : Type 0 where
   pub learnable : Learnable n m made rows numbers level j
   pub apart : Apart n m rows lines divisors
   pub deep : depth ≤ maxVariables
-  pub boxes : BoxesFit n depth lowers uppers
+  pub nested : LevelsNested n depth lowers uppers
+  pub here : boxIn n lowers uppers depth ≡ boxOf n (level .lower) (level .upper)
+  pub false : falsified (getD (keptOver n m made rows lines divisors) j noConstraint) (boxOf n (level .lower) (level .upper)) ≡ true
   pub masked : length masks ≡ maxCuts
   pub some : 1 ≤ count
   pub room : keep ≡ true → blockLength * (done + 1) ≤ length buffer
@@ -33,7 +37,7 @@ pub record Countable (n m made j depth count done : ℕ) (keep : Bool) (rows : L
 pub record LearnedAt (n m made j depth : ℕ) (rows : List ℤ) (numbers : List ℕ) (level : ℕ → Level) (lowers uppers divisors cut : List ℤ) (used : List ℕ) (number back made₁ : ℕ) (rows₁ : List ℤ) (numbers₁ : List ℕ) : Type 0 where
   pub plain : divisorFor m divisors j ≡ pos 0
   pub learned : (d : ℕ) → LearnedFrom n m made rows numbers (level d) j (record { cut = cut; used = used; number = number; made = made₁ }) rows₁ numbers₁
-  pub jump : BackjumpLevel (constraintAt n cut 0) n depth lowers uppers back
+  pub jump : LeastFalsifying (constraintAt n cut 0) n depth lowers uppers back
 
 -- ---- at an input with a divisor: nothing
 pub record DismissedAt (n m made j depth : ℕ) (rows : List ℤ) (numbers : List ℕ) (lowers uppers lines divisors cut : List ℤ) (used : List ℕ) (number back made₁ : ℕ) (rows₁ : List ℤ) (numbers₁ : List ℕ) : Type 0 where
@@ -45,7 +49,7 @@ pub record DismissedAt (n m made j depth : ℕ) (rows : List ℤ) (numbers : Lis
   pub sameMade : made₁ ≡ made
   pub sameRows : rows₁ ≡ rows
   pub sameNumbers : numbers₁ ≡ numbers
-  pub jump : BackjumpLevel (inputAt n lines divisors j) n depth lowers uppers back
+  pub jump : LeastFalsifying (inputAt n lines divisors j) n depth lowers uppers back
 
 -- what was learned or not, the number of the falsified constraint, and the record's bytes
 pub record Counted (n m made j depth count done : ℕ) (keep : Bool) (rows : List ℤ) (numbers : List ℕ) (level : ℕ → Level) (lowers uppers lines divisors : List ℤ) (masks buffer : List ℕ)
@@ -68,7 +72,8 @@ pub record Dismissable (n j depth count done : ℕ) (keep : Bool) (q : ℤ) (lin
   pub range : inRange (rowAt n lines j) ≡ true
   pub fits : DivisorFits q
   pub deep : depth ≤ maxVariables
-  pub boxes : BoxesFit n depth lowers uppers
+  pub nested : LevelsNested n depth lowers uppers
+  pub false : falsified (dividedAt n lines (rowLength * j) q) (boxIn n lowers uppers depth) ≡ true
   pub some : 1 ≤ count
   pub room : keep ≡ true → blockLength * (done + 1) ≤ length buffer
 
@@ -77,5 +82,5 @@ pub record Dismissed (n j depth count falsified done : ℕ) (keep : Bool) (q : �
   pub used : List ℕ
   pub cutZero : (i : ℕ) → numberIn cut i ≡ pos 0
   pub usedZero : (i : ℕ) → getD used i 0 ≡ 0
-  pub jump : BackjumpLevel (dividedAt n lines (rowLength * j) q) n depth lowers uppers back
+  pub jump : LeastFalsifying (dividedAt n lines (rowLength * j) q) n depth lowers uppers back
   pub written : Emitted keep done (recordBytes (recordOf maxVariables count falsified 0 depth back cut used)) buffer buffer₁

@@ -1,6 +1,6 @@
 // A counted conflict: what is learned from it, the level to go back to, and its journal record.
 use crate::learn::learn;
-use backtrack::mirror::backjump_level;
+use backtrack::level::backjump_level;
 use layout::ROW;
 use layout::copy_row;
 use record::emit;
@@ -35,7 +35,8 @@ fn dismiss<'a>(
     ensures { λ r. ⌜ Dismissed n j depth count falsified done keep q (now (lines .entry)) (now (lowers .entry)) (now (uppers .entry)) (now (buffer .entry)) r (now (buffer .exit)) ⌝ }
 {
     let line = copy_row(lines, ROW * j, n);
-    let back = backjump_level(&line, q, n, depth, lowers, uppers);
+    let found = backjump_level(&line, q, n, depth, lowers, uppers);
+    let back = found.level;
     let cut = [0i64; 33];
     let used = [0usize; 32];
     emit(
@@ -53,8 +54,8 @@ fn dismiss<'a>(
     back
 }
 
-// The conflict in the kept constraint in row j, the `count`-th of the search. The cut is learned and kept, the backjump level sought among the levels
-// above, and the record put as block `done` of the buffer, if records are kept. From a divisor constraint nothing is learned.
+// The conflict in the kept constraint in row j, the `count`-th of the search. The cut is learned and kept, the backjump level sought outward from the
+// deepest level, and the record put as block `done` of the buffer, if records are kept. From a divisor constraint nothing is learned.
 pub fn conflict<'a>(
     lower: &'a [i64; 32],
     upper: &'a [i64; 32],
@@ -114,7 +115,8 @@ pub fn conflict<'a>(
     );
     let cut = l.cut;
     let used = l.used;
-    let back = backjump_level(&cut, 0, n, depth, lowers, uppers);
+    let found = backjump_level(&cut, 0, n, depth, lowers, uppers);
+    let back = found.level;
     emit(
         buffer,
         keep,

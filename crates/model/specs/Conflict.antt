@@ -1,5 +1,5 @@
 -- Document 01's dead end, with N1's: analysis, numbering and keeping the cut, the backjump level, and going back.
-use Prim.Native.Nat.{ℕ, zero, suc, _-_}
+use Prim.Native.Nat.{ℕ, zero, suc, _+_, _-_}
 use mathlib.Core.Bool.{_&&_, cond}
 use mathlib.Core.List.{List, [], _∷_}
 use mathlib.Core.Option.{Option, none, some}
@@ -84,6 +84,11 @@ leastFalsified cut (l ∷ ls) = orElse (leastFalsified cut ls) (cond (falsified 
 -- there is one, for the deepest level makes it falsified: the default is never reached
 unfoldable pub backjumpLevel : Constraint → Core → ℕ
 backjumpLevel cut c = withDefault 0 (leastFalsified cut (levels c))
+
+-- N3: how many levels are tested in looking for d from the deepest outward, 'depth met − d + 2, or one less where d is 0'
+unfoldable pub levelsTested : ℕ → ℕ → ℕ
+levelsTested depth zero = depth + 1
+levelsTested depth (suc d) = depth - suc d + 2
 
 -- ---- going back: levels d and deeper go, and the decision of level d is flipped in level d − 1
 unfoldable pub backFrom : List Level → Core → Core

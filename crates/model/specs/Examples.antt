@@ -212,7 +212,7 @@ unfolding Lists.tab Lists.parts Lists.sum Lists.all Lists.allOf Lists.anyOf List
     Move.firstFalsified Move.improvementAt Move.improvementFrom Move.improvementBy Move.firstImprovement Move.firstOpen Move.nextMove Move.follow Move.slack
     Move.descendFor Move.descend
     Conflict.unchanged Conflict.takeIf Conflict.resolveWith Conflict.resolveKept Conflict.resolveBy Conflict.usedReason Conflict.resolveAt
-    Conflict.analyzeFrom Conflict.analyze Conflict.firstEqual Conflict.numberedBy Conflict.numbered Conflict.leastFalsified Conflict.backjumpLevel
+    Conflict.analyzeFrom Conflict.analyze Conflict.firstEqual Conflict.numberedBy Conflict.numbered Conflict.leastFalsified Conflict.backjumpLevel Conflict.levelsTested
     Conflict.backFrom Conflict.backUp Conflict.settled Conflict.conflictOf Conflict.learning Conflict.nothingLearned Conflict.noLearning Conflict.conflictBy Conflict.atConflict
     Journal.recordMagic Journal.usedBytes Journal.recordHead Journal.recordContent Journal.recordBytes Journal.cutOffset Journal.cutCoefficient
     Journal.cutIn

@@ -10,7 +10,7 @@ use Rattle.model.specs.Constraint.{Constraint, Bounds, Box, falsified, r
 use Rattle.model.specs.Problem.{Problem}
 use Rattle.model.specs.Search.{Reason, domain, decision, flipped, constraint, Reasons, Core, Status, undecided, infeasible, solved, depth, coreOf, openProblem}
 use Rattle.model.specs.Move.{descend}
-use Rattle.model.specs.Conflict.{analyze}
+use Rattle.model.specs.Conflict.{analyze, levelsTested}
 use Rattle.model.specs.Step.{goOn, noSolution, outOfBudget, solution}
 use Rattle.model.specs.Demand.{stateAfter}
 use Rattle.model.specs.Examples.{neg, linear, between, problem, planA, sameBounds, sameReasons, runsTo, stepsTo, entry, writes}
@@ -200,6 +200,10 @@ noneDeep =
     runsTo noSolution 1 hopeless ∷
     [])
 
+-- N3's number of frames tested, by depth met and d: two where the deepest alone is false, each frame where all are
+abbrev framesTested : Bool
+framesTested = all (eqb (levelsTested 3 3) 2 ∷ eqb (levelsTested 3 2) 3 ∷ eqb (levelsTested 3 1) 4 ∷ eqb (levelsTested 3 0) 4 ∷ eqb (levelsTested 0 0) 1 ∷ [])
+
 -- 'no lines (each lo_i)'
 abbrev noLines : Bool
 noLines = runsTo (solution (pos 0 ∷ neg 2 ∷ [])) 0 (problem (to 3 ∷ between (neg 2) (pos 5) ∷ []) [] 0)
@@ -221,4 +225,4 @@ spentAtBudget =
 unfoldable pub searchCases : List Bool
 searchCases =
     notTaken ∷ backjump ∷ spentAtBudget ∷
-    steppedA ∷ stepsA ∷ backOne ∷ rangeEdge ∷ wrongSign ∷ equalInput ∷ equalCut ∷ noneDeep ∷ noLines ∷ []
+    steppedA ∷ stepsA ∷ backOne ∷ rangeEdge ∷ wrongSign ∷ equalInput ∷ equalCut ∷ noneDeep ∷ framesTested ∷ noLines ∷ []

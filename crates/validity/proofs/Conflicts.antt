@@ -45,6 +45,17 @@ analyze-learned c j h f own =
         let false = falsified (resolvent i f j) (c .deepest .box) in
         record { fits = record { range = and-left range false t; size = size }; inequality = resolvent-inequality i f j; false = and-right range false t }
 
+-- a falsified constraint gives a falsified cut, in every state
+pub analyze-false : (c : Core) (f : Constraint) → T (falsified f (c .deepest .box)) → T (falsified (analyze c f .cut) (c .deepest .box))
+unfolding analyze
+analyze-false c f t =
+    analysis-keeps c (λ k. T (falsified k (c .deepest .box))) (λ k. Unit {0}) (anything (kept c))
+    (λ i f j h g e o. and-right (inRange (resolvent i f j)) (falsified (resolvent i f j) (c .deepest .box)) o) (c .variables) f [] t
+  where
+    anything : (ks : List Constraint) → Every (λ k. Unit {0}) ks
+    anything [] = tt
+    anything (k ∷ ks) = (tt, anything ks)
+
 -- the inequalities of a list are met
 abbrev pub MeetsInequalities : Point → List Constraint → Type 0
 MeetsInequalities x ks = Every (λ k. Inequality k → Meets x k) ks

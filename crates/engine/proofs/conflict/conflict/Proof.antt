@@ -11,7 +11,7 @@ use mir.Syntax.{w64}
 use mir.Val.{toZ, ofZ}
 use Rattle.integer.specs.Tests.{same, fits-lit}
 use Rattle.state.specs.View.{keptCuts, divisorFor}
-use Rattle.engine.proofs.Learning.{cut-row, cut-fits}
+use Rattle.engine.proofs.Learning.{cut-row, cut-fits, deepest-false}
 use Rattle.engine.proofs.Dismissing.{may-dismiss, dismissed, undivided}
 use Rattle.engine.proofs.conflict.conflict.Statement.{statement}
 use Rattle.engine.proofs.conflict.conflict.Tie as tie
@@ -62,8 +62,9 @@ learn-requires c κs = search needs
 backjump-level-requires : tie.Need-backjump-level-requires
 backjump-level-requires c κs =
     let l = c .before .before .before .before .before in
-    let p = l .before .before .before .before .before .before .before .before .pre in
-    (lit≤ tt, (cut-row (p .learnable .variables) (l .learn .ensures .0 0), (p .deep, p .boxes)))
+    let e = l .before .before .before .before in
+    let p = e .before .before .before .before .pre in
+    (lit≤ tt, (cut-row (p .learnable .variables) (l .learn .ensures .0 0), (p .deep, (p .nested, rw undivided (deepest-false p (plain e) (l .learn .ensures .0 0))))))
 
 emit-requires : tie.Need-emit-requires
 emit-requires c κs =
@@ -89,7 +90,7 @@ returns-2 c =
           (record {
             plain = plain e;
             learned = l .learn .ensures .0;
-            jump = rw undivided at (b .backjump-level .ensures);
+            jump = rw undivided at (b .backjump-level .ensures .0);
           });
       marked = l .learn .ensures .1;
       numbered = f .number-of .ensures;

@@ -21,6 +21,15 @@ mul-copy-row c = search needs
 copy-row-requires : tie.Need-copy-row-requires
 copy-row-requires c κs = search needs
 
+-- the row copied, with its divisor, is the line
+line-same : (c : tie.After-copy-row) →
+    let a = c .before .before .before .args in
+    dividedAt (a .n) (c .copy-row .result) 0 (toZ w64 (ofZ w64 (a .q))) ≡ dividedAt (a .n) (now (a .lines)) (rowLength * a .j) (a .q)
+line-same c =
+    let s = c .before .before .before in
+    let a = s .args in
+    ap (dividedAt (a .n) (c .copy-row .result) 0) (toZ-ofZ (s .fits .q)) ∙ divided-same (a .n) _ _ _ (c .copy-row .ensures) (a .q)
+
 backjump-level-requires : tie.Need-backjump-level-requires
 unfolding rowAt
 backjump-level-requires c κs =
@@ -28,7 +37,7 @@ backjump-level-requires c κs =
     let s = r .before .before .before in
     let a = s .args in
     let p = s .pre in
-    (rw (toZ-ofZ (s .fits .q)) (p .fits), (copy-fits (a .n) _ _ _ (r .copy-row .ensures) (p .few) (p .range), (p .deep, p .boxes)))
+    (rw (toZ-ofZ (s .fits .q)) (p .fits), (copy-fits (a .n) _ _ _ (r .copy-row .ensures) (p .few) (p .range), (p .deep, (p .nested, rw (line-same r) (p .false)))))
 
 emit-requires : tie.Need-emit-requires
 emit-requires c κs = let p = c .before .before .before .before .before .before .before .before .before .before .pre in (p .room, (p .some, zeros-fit rowLength))
@@ -40,16 +49,12 @@ returns : tie.Need-returns
 returns c =
     let b = c .before .before .before .before .before .before in
     let r = b .before .before .before .before in
-    let s = r .before .before .before in
-    let a = s .args in
-    let e : dividedAt (a .n) (r .copy-row .result) 0 (toZ w64 (ofZ w64 (a .q))) ≡ dividedAt (a .n) (now (a .lines)) (rowLength * a .j) (a .q) =
-    ap (dividedAt (a .n) (r .copy-row .result) 0) (toZ-ofZ (s .fits .q)) ∙ divided-same (a .n) _ _ _ (r .copy-row .ensures) (a .q) in
     record {
       cut = replicate rowLength (pos 0);
       used = replicate maxVariables 0;
       cutZero = zero-at rowLength;
       usedZero = getD-const {A = ℕ} 0 maxVariables;
-      jump = rw e at (b .backjump-level .ensures);
+      jump = rw (line-same r) at (b .backjump-level .ensures .0);
       written = c .before .before .emit .ensures;
     }
 

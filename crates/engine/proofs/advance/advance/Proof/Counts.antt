@@ -1,0 +1,142 @@
+-- The solution; a conflict, out of budget or counted; and 'none'.
+use Prim.Native.Nat.{_<_}
+use native.Mathlib.Omega.{arith}
+use mathlib.Core.Path.{_≡_, refl, ap, _∙_}
+use borrow.Author.Needs.{needs}
+use denote.Ref.{now}
+use Rattle.model.specs.Move.{finish, conflict}
+use Rattle.lists.proofs.Bools.{clash}
+use Rattle.state.specs.View.{view, statusOf}
+use Rattle.state.specs.Change.{held}
+use Rattle.propagate.specs.Moves.{stopOf}
+use Rattle.engine.proofs.Arms.{at-level, finishes, spends}
+use Rattle.engine.proofs.Starting.{startOf}
+use Rattle.engine.proofs.Rounds.{depth-small, learnable}
+use Rattle.engine.proofs.Concluding.{countable}
+use Rattle.engine.proofs.Counted.{Meets, meets, counted-none}
+use Rattle.engine.proofs.advance.advance.Tie as tie
+use Rattle.engine.proofs.advance.advance.Proof.Loop.{Inv-loop, μ-loop, start, round, stopped, here, going, running, carried, answered, moved, whole-here, levels-long, mirrored}
+
+-- ---- the places
+abbrev pub clashed : tie.After-found2 Inv-loop μ-loop → tie.After-propagate Inv-loop μ-loop
+clashed f = stopped (f .before .before)
+
+abbrev pub conflicted : tie.After-conflict Inv-loop μ-loop → tie.After-found2 Inv-loop μ-loop
+conflicted x = x .before .before .before .before .before .before .before .before .before .before .before .before .before .before .before
+
+-- ---- the solution
+pub enum-told : tie.Need-enum-told Inv-loop μ-loop
+enum-told c = search needs
+
+pub loop-less-2 : tie.Need-loop-less-2 Inv-loop μ-loop
+loop-less-2 c = rw (going (stopped (c .before .before))) (omega arith)
+
+finish-at : (c : tie.After-enum-told Inv-loop μ-loop) → stopOf (stopped (c .before .before) .propagate .result) ≡ finish
+unfolding stopOf
+finish-at c = ap stopOf (c .enum-told .given .1)
+
+pub loop-again-2 : tie.Need-loop-again-2 Inv-loop μ-loop
+unfolding statusOf
+loop-again-2 c =
+    let p = stopped (c .before .before) in
+    let l = round p in
+    let r = running p in
+    record {
+      running = λ e. clash e refl;
+      carried = λ e. clash e refl;
+      more = λ e. clash e refl;
+      open-ended = λ e. clash e refl;
+      ended = λ e. at-level _ _ _ _ _ _ _ _ _ _ _ _ _ _ (finishes r (here p) (l .loop .inv .more (going p)) (moved p finish (finish-at c)));
+      apart = l .loop .inv .apart;
+      rowsLong = l .loop .inv .rowsLong;
+      deep = depth-small r;
+      levelsLong = levels-long p;
+      bytes = l .loop .inv .bytes;
+    }
+
+-- ---- a conflict: out of budget, or counted
+pub enum-known-found-2 : tie.Need-enum-known-found-2 Inv-loop μ-loop
+enum-known-found-2 c = search needs
+
+pub loop-less-3 : tie.Need-loop-less-3 Inv-loop μ-loop
+loop-less-3 c = rw (going (clashed (c .before .before))) (omega arith)
+
+conflict-at : (c : tie.After-found2 Inv-loop μ-loop) → stopOf (clashed c .propagate .result) ≡ conflict (c .found2 .given .0 .0)
+unfolding stopOf
+conflict-at c = ap stopOf (c .found2 .given .1)
+
+pub loop-again-3 : tie.Need-loop-again-3 Inv-loop μ-loop
+unfolding statusOf
+loop-again-3 c =
+    let f = c .before .before in
+    let p = clashed f in
+    let l = round p in
+    let r = running p in
+    record {
+      running = λ e. clash e refl;
+      carried = λ e. clash e refl;
+      more = λ e. clash e refl;
+      open-ended = λ e. clash e refl;
+      ended = λ e.
+          rw (l .loop .inv .open-ended (going p) .1)
+          (spends r (here p) (f .found2 .given .0 .0) (l .loop .inv .more (going p)) (c .if1 .taken) (moved p _ (conflict-at f)));
+      apart = l .loop .inv .apart;
+      rowsLong = l .loop .inv .rowsLong;
+      deep = l .loop .inv .deep;
+      levelsLong = levels-long p;
+      bytes = l .loop .inv .bytes;
+    }
+
+afford : (c : tie.Else1 Inv-loop μ-loop) → round (clashed (c .before .before)) .loop .conflicts < start (round (clashed (c .before .before))) .args .s .budget
+afford c = omega (arith, running (clashed (c .before .before)) .counts .afford, c .if1 .left)
+
+pub add-conflicts : tie.Need-add-conflicts Inv-loop μ-loop
+add-conflicts c = omega (arith, afford c, running (clashed (c .before .before)) .counts .limited)
+
+pub conflict-requires : tie.Need-conflict-requires Inv-loop μ-loop
+conflict-requires c κs =
+    let f = c .before .before .before .before .before .before .before .before .before .before .before .before .before .before in
+    let p = clashed f in
+    let q = p .propagate .ensures .1 .0 in
+    let v = carried p in
+    countable (running p) (here p) (f .found2 .given .0 .0) (moved p _ (conflict-at f)) _ _ (mirrored (f .before .before)) 0 _ (v .masks .cutRoom) (round p .loop .inv .more (going p))
+    (learnable (running p) (here p) (p .propagate .result) (answered p) (f .found2 .given .0 .0) (conflict-at f) (whole-here p, q .bounds))
+
+-- what the conflict left
+pub met : (c : tie.After-conflict Inv-loop μ-loop) →
+    let p = clashed (conflicted c) in
+    let l = round p in
+    let a = start l .args in
+    let s = a .s in
+    let v = l .loop in
+    Meets (view (startOf s)) (now (a .buffer)) (a .limit) (a .keep) (s .rows) (s .divisors) (s .n) (s .m) (s .budget) (v .buffer) (v .rows) (v .numbers) (v .levels) (v .made) (v .conflicts) (v .depth) (held (v .lower) (v .upper) (v .below) (v .above) (v .decided)) (v .before) (v .start) (v .done)
+    (here p) (c .conflict .result .back) (c .conflict .result .made) (c .conflict .last .1 .1 .1 .1 .1 .1 .1 .1 .1 .1 .1 .1 .1 .1 .1 .1 .0) (c .conflict .last .1 .1 .1 .1 .1 .1 .1 .1 .1 .1 .1 .1 .1 .1 .1 .1 .1 .0) (c .conflict .last .1 .1 .1 .1 .1 .1 .1 .1 .1 .1 .1 .1 .1 .1 .1 .1 .1 .1 .1 .0)
+met c =
+    let f = conflicted c in
+    let p = clashed f in
+    meets (running p) _ _ _ _ (round p .loop .decided) (f .found2 .given .0 .0) (moved p _ (conflict-at f)) (mirrored (f .before .before)) (round p .loop .inv .more (going p)) (afford (c .before .before .before .before .before .before .before .before .before .before .before .before .before)) (c .conflict .ensures)
+
+pub add-done : tie.Need-add-done Inv-loop μ-loop
+add-done c = omega (arith, met (c .before .before) .left, start (round (clashed (conflicted (c .before .before)))) .fits .limit)
+
+-- ---- none
+pub loop-less-4 : tie.Need-loop-less-4 Inv-loop μ-loop
+loop-less-4 c = rw (going (clashed (conflicted (c .before .before .before)))) (omega arith)
+
+pub loop-again-4 : tie.Need-loop-again-4 Inv-loop μ-loop
+unfolding statusOf
+loop-again-4 c =
+    let x = c .before .before .before in
+    let p = clashed (conflicted x) in
+    record {
+      running = λ e. clash e refl;
+      carried = λ e. clash e refl;
+      more = λ e. clash e refl;
+      open-ended = λ e. clash e refl;
+      ended = λ e. at-level _ _ _ _ _ _ _ _ _ _ _ _ _ _ (counted-none (met x) (c .if2 .taken));
+      apart = met x .kept .apart;
+      rowsLong = met x .kept .rowsLong;
+      deep = depth-small (running p);
+      levelsLong = levels-long p;
+      bytes = x .conflict .kept .1 .1 .1 .1 .1 .1 .1 .1 .1 .1 .1 .1 .1 .1 .1 .1 .1 .1 .1 .0 ∙ round p .loop .inv .bytes;
+    }

@@ -1,0 +1,114 @@
+-- The loop of `engine::advance::advance`: its invariant, which `Looping` has, its measure, and what holds in a round where propagation stopped. Each turn
+-- left weighs more than the slack of any box, and a decision lowers the slack. The places of the walk that the proof goes back to are named once.
+use Prim.Native.Nat.{_+_, _-_, _*_}
+use mathlib.Core.Bool.{true}
+use mathlib.Core.Path.{_≡_, _∙_}
+use denote.Ref.{now}
+use lib.ListN.{length, set, length-set}
+use lib.Seq.{getD-set-same}
+use native.Mathlib.Omega.{arith}
+use Rattle.model.specs.Move.{Move, slack}
+use Rattle.layout.specs.Rows.{boxOf}
+use Rattle.state.specs.View.{levelOf, noLevel, view, numberFor}
+use Rattle.state.specs.Change.{Whole, held}
+use Rattle.state.specs.declared.Level.{Level}
+use Rattle.state.specs.declared.Status.the-variants.{Undecided}
+use Rattle.propagate.specs.Moves.{stopOf}
+use Rattle.propagate.specs.Propagation.{propagation, propagationOf}
+use Rattle.propagate.specs.Divided.{keptOver}
+use Rattle.backtrack.specs.Mirror.{Mirrored}
+use Rattle.backtrack.proofs.Mirroring.{mirrored-more, mirrored-stored}
+use Rattle.engine.proofs.Measures.{stepWeight}
+use Rattle.engine.proofs.Running.{Running, Propagates, coreHere}
+use Rattle.engine.proofs.Starting.{startOf}
+use Rattle.engine.proofs.Carrying.{Carried}
+use Rattle.engine.proofs.Looping.{Looping, weight, whole-with}
+use Rattle.engine.proofs.Rounds.{depth-small, propagates}
+use Rattle.engine.proofs.advance.advance.Tie as tie
+
+abbrev pub Inv-loop : tie.InvT-loop
+Inv-loop buffer₀ limit keep n m budget divisors lines rows₀ numbers₀ levels₀ made₀ conflicts₀ depth₀ before₀ start₀ done₀ ending₀ status₀ lower₀ upper₀ below₀ above₀ decided₀ activities₀ reaches₀ olds₀ limits₀ gones₀ counts₀ lowers₀ uppers₀ divided mentions low₀ inputs cuts₀ first told₀ going₀ buffer rows numbers levels made conflicts depth before start done ending status lower upper below above decided activities reaches olds limits gones counts lowers uppers low cuts told going =
+    Looping (view (record { n = n; m = m; budget = budget; conflicts = conflicts₀; made = made₀; depth = depth₀; status = Undecided; rows = lines; divisors = divisors; numbers = numbers₀; levels = levels₀ })) buffer₀ limit keep lines divisors n m budget mentions divided inputs buffer rows numbers levels made conflicts depth before start done ending status
+    lower upper below above decided activities reaches olds limits gones counts lowers uppers low cuts told going
+
+abbrev pub μ-loop : tie.MeasureT-loop
+μ-loop buffer₀ limit keep n m budget divisors lines rows₀ numbers₀ levels₀ made₀ conflicts₀ depth₀ before₀ start₀ done₀ ending₀ status₀ lower₀ upper₀ below₀ above₀ decided₀ activities₀ reaches₀ olds₀ limits₀ gones₀ counts₀ lowers₀ uppers₀ divided mentions low₀ inputs cuts₀ first told₀ going₀ buffer rows numbers levels made conflicts depth before start done ending status lower upper below above decided activities reaches olds limits gones counts lowers uppers low cuts told going =
+    weight going ((limit - done) * stepWeight + slack (boxOf n lower upper))
+
+-- ---- the places
+abbrev pub start : tie.At-loop Inv-loop μ-loop → tie.Start Inv-loop μ-loop
+start l = l .before .before .before .before .before .before .before .before .before .before .before .before .before .before .before .before .before .before .before .before .before .before .before .before .before .before .before .before .before .before .before .before .before .before .before .before .before .before
+
+abbrev pub masked : tie.At-loop Inv-loop μ-loop → tie.After-divided-mask Inv-loop μ-loop
+masked l = l .before .before .before .before .before .before .before .before .before .before .before .before .before .before .before .before .before
+
+abbrev pub columned : tie.At-loop Inv-loop μ-loop → tie.After-columns Inv-loop μ-loop
+columned l = l .before .before .before .before .before .before .before .before .before .before .before .before .before .before
+
+abbrev pub tracked : tie.At-loop Inv-loop μ-loop → tie.After-track Inv-loop μ-loop
+tracked l = l .before .before .before .before .before .before
+
+abbrev pub round : tie.After-propagate Inv-loop μ-loop → tie.At-loop Inv-loop μ-loop
+round p = p .before .before .before .before .before .before .before .before .before .before .before .before .before .before
+
+abbrev pub stopped : tie.After-keep-bounds Inv-loop μ-loop → tie.After-propagate Inv-loop μ-loop
+stopped k = k .before .before .before .before .before
+
+-- ---- a round, and where propagation stopped in it
+abbrev pub here : tie.After-propagate Inv-loop μ-loop → Level
+here p = held (p .propagate .last .1 .1 .1 .1 .1 .1 .1 .1 .1 .1 .0) (p .propagate .last .1 .1 .1 .1 .1 .1 .1 .1 .1 .1 .1 .0) (p .propagate .last .1 .1 .1 .1 .1 .1 .1 .1 .1 .1 .1 .1 .0) (p .propagate .last .1 .1 .1 .1 .1 .1 .1 .1 .1 .1 .1 .1 .1 .0) (round p .loop .decided)
+
+pub going : (p : tie.After-propagate Inv-loop μ-loop) → round p .loop .going ≡ true
+going p = p .before .before .before .before .before .before .before .before .before .before .before .before .before .loop-test .taken
+
+pub running : (p : tie.After-propagate Inv-loop μ-loop) →
+    let l = round p in
+    let a = start l .args in
+    let s = a .s in
+    let v = l .loop in
+    Running (view (startOf s)) (now (a .buffer)) (a .limit) (a .keep) (s .rows) (s .divisors) (s .n) (s .m) (s .budget) (v .buffer) (v .rows) (v .numbers) (v .levels) (v .made) (v .conflicts) (v .depth) (held (v .lower) (v .upper) (v .below) (v .above) (v .decided)) (v .before) (v .start) (v .done)
+running p = round p .loop .inv .running (going p)
+
+pub carried : (p : tie.After-propagate Inv-loop μ-loop) →
+    let l = round p in
+    let a = start l .args in
+    let s = a .s in
+    let v = l .loop in
+    Carried (s .rows) (s .divisors) (columned l .columns .result) (masked l .divided-mask .result) (v .low) (s .n) (s .m) (v .rows) (v .levels) (v .made) (v .depth) (v .lower) (v .upper) (v .activities) (v .reaches) (v .told) (v .olds) (v .limits) (v .gones) (v .counts) (v .lowers) (v .uppers) (tracked l .track .last .1 .1 .1 .1 .1 .1 .1 .1 .0) (v .cuts)
+carried p = round p .loop .inv .carried (going p)
+
+-- propagation's answer
+pub answered : (p : tie.After-propagate Inv-loop μ-loop) →
+    let l = round p in
+    let a = start l .args in
+    let s = a .s in
+    let v = l .loop in
+    propagationOf (s .n) (here p) (p .propagate .result) ≡ propagation (keptOver (s .n) (s .m) (v .made) (v .rows) (s .rows) (s .divisors)) (numberFor (s .m) (v .made)) (levelOf (s .n) (held (v .lower) (v .upper) (v .below) (v .above) (v .decided)))
+answered p = p .propagate .ensures .0 (round p .loop .decided)
+
+pub moved : (p : tie.After-propagate Inv-loop μ-loop) (q : Move) → stopOf (p .propagate .result) ≡ q →
+    let l = round p in
+    let a = start l .args in
+    let s = a .s in
+    let v = l .loop in
+    Propagates (coreHere (s .rows) (s .divisors) (s .n) (s .m) (v .rows) (v .numbers) (v .levels) (v .made) (v .depth) (held (v .lower) (v .upper) (v .below) (v .above) (v .decided)))
+    (coreHere (s .rows) (s .divisors) (s .n) (s .m) (v .rows) (v .numbers) (v .levels) (v .made) (v .depth) (here p)) q
+moved p q f = propagates (running p) (here p) (p .propagate .result) (answered p) q f
+
+pub whole-here : (p : tie.After-propagate Inv-loop μ-loop) → Whole (here p)
+whole-here p = whole-with (round p .loop .decided) (p .propagate .ensures .1 .0 .whole)
+
+pub levels-long : (p : tie.After-propagate Inv-loop μ-loop) → length (set (round p .loop .levels) (round p .loop .depth) (here p)) ≡ 33
+levels-long p = length-set (round p .loop .levels) (round p .loop .depth) (here p) ∙ running p .levelsLong
+
+-- the bounds of every level, the one in hand among them
+pub mirrored : (k : tie.After-keep-bounds Inv-loop μ-loop) →
+    let p = stopped k in
+    let l = round p in
+    Mirrored (start l .args .s .n) (set (l .loop .levels) (l .loop .depth) (here p)) (k .keep-bounds .last .1 .1 .1 .0) (k .keep-bounds .last .1 .1 .1 .1 .0) (l .loop .depth + 1)
+mirrored k =
+    let p = stopped k in
+    let l = round p in
+    let r = running p in
+    mirrored-more _ (r .counts .few) _ _ _ _ _ (l .loop .depth) (here p) (k .keep-bounds .ensures) (getD-set-same (l .loop .levels) (l .loop .depth) (here p) noLevel (omega (arith, r .levelsLong, depth-small r)))
+    (mirrored-stored _ _ _ _ _ (carried p .bounds) (l .loop .depth) (here p) (omega arith))
