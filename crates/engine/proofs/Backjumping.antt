@@ -19,16 +19,16 @@ use Rattle.state.proofs.Levels.{level-raised, level-lower}
 use Rattle.state.proofs.Cores.{length-levels, levels-dropped}
 
 -- the levels from 0 up to e do not falsify the cut
-abbrev pub Passed : ℕ → List Level → Constraint → ℕ → Type 0
-Passed n levels cut e = (k : ℕ) → k < e → falsified cut (levelAt n levels k .box) ≡ false
+abbrev pub NoneBefore : ℕ → List Level → Constraint → ℕ → Type 0
+NoneBefore n levels cut e = (k : ℕ) → k < e → falsified cut (levelAt n levels k .box) ≡ false
 
 module _ (n : ℕ) (levels : List Level) (cut : Constraint) where
-  least-none : (e : ℕ) → Passed n levels cut e → leastFalsified cut (levelsFrom n levels e) ≡ none
+  least-none : (e : ℕ) → NoneBefore n levels cut e → leastFalsified cut (levelsFrom n levels e) ≡ none
   unfolding leastFalsified levelsFrom orElse
   least-none zero p = refl
   least-none (suc e) p = rw (least-none e (λ k h. p k (omega arith)), p e (omega arith))
 
-  least-at : (d e : ℕ) → e ≤ d → Passed n levels cut e → falsified cut (levelAt n levels e .box) ≡ true →
+  least-at : (d e : ℕ) → e ≤ d → NoneBefore n levels cut e → falsified cut (levelAt n levels e .box) ≡ true →
       leastFalsified cut (levelAt n levels d ∷ levelsFrom n levels d) ≡ some e
   unfolding leastFalsified levelsFrom orElse
   least-at d e h p f = go (d - e) d (omega arith)
@@ -40,7 +40,7 @@ module _ (n : ℕ) (levels : List Level) (cut : Constraint) where
 
 -- ---- the core after the level at the deepest depth was stored
 module _ (lines divisors : List ℤ) (n m made : ℕ) (rows : List ℤ) (numbers : List ℕ) (levels : List Level) where
-  pub backjump-found : (d e : ℕ) (cut : Constraint) → e ≤ d → Passed n levels cut e → falsified cut (levelAt n levels e .box) ≡ true →
+  pub backjump-found : (d e : ℕ) (cut : Constraint) → e ≤ d → NoneBefore n levels cut e → falsified cut (levelAt n levels e .box) ≡ true →
       backjumpLevel cut (coreApart n m made rows lines divisors numbers (levelAt n levels d) (levelsFrom n levels d)) ≡ e
   unfolding backjumpLevel coreOver model.levels withDefault
   backjump-found d e cut h p f = rw (least-at n levels cut d e h p f)

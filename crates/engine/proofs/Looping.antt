@@ -3,11 +3,12 @@ use Prim.Native.Nat.{ℕ, suc, _≤_, _<_}
 use native.Mathlib.Omega.{arith}
 use mathlib.Core.Bool.{Bool, true, false}
 use mathlib.Core.List.{List}
-use mathlib.Core.Path.{_≡_}
+use mathlib.Core.Path.{_≡_, refl}
 use lib.IntN.{ℤ, pos, _+ℤ_}
 use lib.ListN.{length, set}
 use Rattle.model.specs.Search as model
 use Rattle.model.specs.Ranges.{maxVariables}
+use Rattle.lists.proofs.Bools.{clash}
 use Rattle.layout.specs.Rows.{numberIn, rowsLength}
 use Rattle.state.specs.View.{flippedReason, statusOf}
 use Rattle.state.specs.Change.{Whole, held, raised}
@@ -37,6 +38,16 @@ pub record Looping (s : model.Search) (old : List ℕ) (limit : ℕ) (keep : Boo
   pub deep : start ≤ maxVariables
   pub levelsLong : length levels ≡ suc maxVariables
   pub bytes : length now ≡ length old
+
+-- an ended loop
+pub ends : {s : model.Search} {old : List ℕ} {limit : ℕ} {keep : Bool} {lines divisors : List ℤ} {n m budget : ℕ} {columns : List ℕ} {divided : ℕ} {inputs now : List ℕ} {rows : List ℤ} {numbers : List ℕ} {levels : List Level} {made conflicts depth : ℕ}
+    {before : Level} {start done : ℕ} {ending : Ending} {status : Status} {lower upper : List ℤ} {below above : List ℕ} {decided : ℕ} {activities reaches olds limits : List ℤ} {gones counts : List ℕ}
+    {lowers uppers : List ℤ} {low : ℕ} {cuts : List ℕ} {told : ℕ} →
+    Reaches s limit keep ending done (stateAt lines divisors n m budget conflicts made start (statusOf status) rows numbers levels before) old now →
+    Apart n m rows lines divisors → length rows ≡ rowsLength → start ≤ maxVariables → length levels ≡ suc maxVariables → length now ≡ length old →
+    Looping s old limit keep lines divisors n m budget columns divided inputs now rows numbers levels made conflicts depth before start done ending status lower upper below above decided activities reaches olds limits gones counts lowers uppers low cuts told false
+ends r a l d v b =
+    record { running = λ e. clash e refl; carried = λ e. clash e refl; more = λ e. clash e refl; open-ended = λ e. clash e refl; ended = λ e. r; apart = a; rowsLong = l; deep = d; levelsLong = v; bytes = b }
 
 -- the measure: what is left of the turns and the slack, while the loop goes
 abbrev pub weight : Bool → ℕ → ℕ

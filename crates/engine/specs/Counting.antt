@@ -22,6 +22,7 @@ use Rattle.backtrack.specs.Mirror.{boxIn}
 use Rattle.backtrack.specs.Level.{LevelsNested, LeastFalsifying}
 use Rattle.engine.specs.Learning.{Learnable, LearnedFrom}
 
+-- the conflict in position j, met at `depth`: the flat arrays hold the levels down to there, and the deepest falsifies the constraint
 pub record Countable (n m made j depth count done : ℕ) (keep : Bool) (rows : List ℤ) (numbers : List ℕ) (level : Level) (lowers uppers lines divisors : List ℤ) (masks buffer : List ℕ) : Type 0 where
   pub learnable : Learnable n m made rows numbers level j
   pub apart : Apart n m rows lines divisors

@@ -5,14 +5,18 @@ use crate::MAX_COEFFICIENT;
 use crate::MAX_CONSTRAINTS;
 use crate::MAX_DIVISOR;
 use crate::MAX_VARIABLES;
+use crate::ROW;
 use crate::is_same;
 ghost use mathlib.Core.Path.{_≡_};
-ghost use Prim.Native.Nat.{_+_, _<_};
+ghost use mathlib.Core.List.{List};
+ghost use Prim.Native.Nat.{ℕ, _+_, _*_, _≤_, _<_};
+ghost use lib.IntN.{ℤ};
 ghost use lib.ListN.{length};
-ghost use Rattle.model.specs.Ranges.{within};
+ghost use Rattle.model.specs.Lists.{tab, allOf};
+ghost use Rattle.model.specs.Ranges.{within, maxVariables, maxConstraints};
 ghost use Rattle.model.specs.Problem.{boundsInRange};
-ghost use Rattle.model.specs.Constraint.{inRange, isDivisor};
-ghost use Rattle.layout.specs.Rows.{constraintAt};
+ghost use Rattle.model.specs.Constraint.{inRange, isDivisor, divisorInRange};
+ghost use Rattle.layout.specs.Rows.{rowLength, constraintAt, rowAt, inputAt};
 ghost use Rattle.layout.specs.Sizes.{sizesFit};
 
 // Whether n, m and the budget are within their limits.
@@ -73,6 +77,21 @@ pub fn is_in_range<'a>(rows: &'a [i64], start: usize, n: usize) -> bool
     true
 }
 
+// Whether the first `count` constraints are.
+pub fn are_in_range(rows: &[i64], count: usize, n: usize) -> bool
+    requires { ⌜ (n ≤ maxVariables) × (rowLength * count ≤ length (now rows)) ⌝ }
+    ensures { λ r. ⌜ r ≡ allOf inRange (tab (rowAt n (now (rows .entry))) 0 count) ⌝ }
+{
+    let mut j: usize = 0;
+    while j < count {
+        if !is_in_range(rows, ROW * j, n) {
+            return false;
+        }
+        j += 1;
+    }
+    true
+}
+
 // Whether a constraint's divisor is in range: none, or 2 to 2^20.
 pub fn is_divisor_in_range(q: i64) -> bool
     ensures { λ r. ⌜ r ≡ isDivisor q ⌝ }
@@ -84,4 +103,19 @@ pub fn is_divisor_in_range(q: i64) -> bool
         return false;
     }
     q <= MAX_DIVISOR as i64
+}
+
+// Whether the divisors of the first m constraints are.
+pub fn are_divisors_in_range(divisors: &[i64; 64], m: usize) -> bool
+    requires { ⌜ m ≤ maxConstraints ⌝ }
+    ensures { λ r. ⌜ ((n : ℕ) (rows : List ℤ) → r ≡ allOf divisorInRange (tab (inputAt n rows (now (divisors .entry))) 0 m)) ⌝ }
+{
+    let mut j: usize = 0;
+    while j < m {
+        if !is_divisor_in_range(divisors[j]) {
+            return false;
+        }
+        j += 1;
+    }
+    true
 }

@@ -1,9 +1,8 @@
 // The ranges of documents 01 and 02, tested on a problem: errors 5, 6 and 10, for reading and for writing.
 use crate::Problem;
-use layout::ROW;
+use layout::range::are_divisors_in_range;
+use layout::range::are_in_range;
 use layout::range::bounds_in_range;
-use layout::range::is_divisor_in_range;
-use layout::range::is_in_range;
 ghost use mathlib.Core.Path.{_≡_};
 ghost use Prim.Native.Nat.{_≤_};
 ghost use Rattle.model.specs.Ranges.{maxVariables, maxConstraints};
@@ -31,16 +30,7 @@ pub(crate) fn constraints_in_range(problem: Problem) -> bool
     requires { ⌜ (problem .n ≤ maxVariables) × (problem .m ≤ maxConstraints) ⌝ }
     ensures { λ r. ⌜ r ≡ constraintsInRange (problemOf problem) ⌝ }
 {
-    let n = problem.n;
-    let m = problem.m;
-    let mut j: usize = 0;
-    while j < m {
-        if !is_in_range(&problem.constraints, ROW * j, n) {
-            return false;
-        }
-        j += 1;
-    }
-    true
+    are_in_range(&problem.constraints, problem.m, problem.n)
 }
 
 // 10: whether every constraint's divisor is in range.
@@ -48,13 +38,5 @@ pub(crate) fn divisors_in_range(problem: Problem) -> bool
     requires { ⌜ problem .m ≤ maxConstraints ⌝ }
     ensures { λ r. ⌜ r ≡ divisorsInRange (problemOf problem) ⌝ }
 {
-    let m = problem.m;
-    let mut j: usize = 0;
-    while j < m {
-        if !is_divisor_in_range(problem.divisors[j]) {
-            return false;
-        }
-        j += 1;
-    }
-    true
+    are_divisors_in_range(&problem.divisors, problem.m)
 }

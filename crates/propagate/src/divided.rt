@@ -1,6 +1,7 @@
 // The divisor constraints of a search, apart from the inequalities: which they are, which of them mention a variable, and the first that bounds falsify.
 // `lines` holds the rows of the inputs; among the rows that the other scans read, those with a divisor are blank.
 use crate::masks::first;
+use crate::masks::nonzero_mask;
 use crate::masks::rest;
 use layout::ROW;
 use linear::divisibility::is_falsified;
@@ -14,22 +15,12 @@ ghost use Rattle.model.specs.Ranges.{maxVariables, maxConstraints};
 ghost use Rattle.layout.specs.Rows.{rowsLength};
 ghost use Rattle.propagate.specs.Divided.{Due, Everyone, Unmentioned, Testable, FirstIndivisible, Columns};
 
-// The inputs that carry a divisor. Each turn makes room at bit 0 for the input before.
+// The inputs that carry a divisor.
 pub fn divided_mask(divisors: &[i64; 64], m: usize) -> usize
     requires { ⌜ (m ≤ maxConstraints) × (length (now divisors) ≡ maxConstraints) ⌝ }
     ensures { λ r. ⌜ Due m (now (divisors .entry)) Everyone r ⌝ }
 {
-    let mut mask: usize = 0;
-    let mut j = m;
-    while 0 < j {
-        j -= 1;
-        if divisors[j] == 0 {
-            mask = 2 * mask;
-        } else {
-            mask = 2 * mask + 1;
-        }
-    }
-    mask
+    nonzero_mask(divisors, 0, m)
 }
 
 // Whether a constraint with divisor q and coefficient a at a variable carries a divisor and mentions the variable.

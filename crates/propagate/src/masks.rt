@@ -7,25 +7,33 @@ ghost use lib.IntN.{ℤ};
 ghost use lib.ListN.{length};
 ghost use Rattle.model.specs.Ranges.{maxVariables, maxConstraints, maxCuts};
 ghost use Rattle.layout.specs.Rows.{rowLength};
-ghost use Rattle.propagate.specs.Masks.{bit, Mentions, Opens, Masked};
+ghost use Rattle.propagate.specs.Masks.{bit, Nonzero, Mentions, Opens, Masked};
 ghost use Rattle.propagate.specs.Walk.{First, Rest};
 
-// The variables that the constraint whose row starts at `start` mentions. Each turn makes room at bit 0 for the variable before.
-pub fn row_mask(rows: &[i64], start: usize, n: usize) -> usize
-    requires { ⌜ (n ≤ maxVariables) × (start + n < length (now rows)) ⌝ }
-    ensures { λ r. ⌜ Mentions n (now (rows .entry)) start r ⌝ }
+// The places, of `count` from `start` on, whose number is not 0. Each turn makes room at bit 0 for the place before.
+pub(crate) fn nonzero_mask(numbers: &[i64], start: usize, count: usize) -> usize
+    requires { ⌜ (count ≤ maxConstraints) × (start + count ≤ length (now numbers)) ⌝ }
+    ensures { λ r. ⌜ Nonzero count (now (numbers .entry)) start r ⌝ }
 {
     let mut mask: usize = 0;
-    let mut i = n;
+    let mut i = count;
     while 0 < i {
         i -= 1;
-        if rows[start + 1 + i] == 0 {
+        if numbers[start + i] == 0 {
             mask = 2 * mask;
         } else {
             mask = 2 * mask + 1;
         }
     }
     mask
+}
+
+// The variables that the constraint whose row starts at `start` mentions.
+pub fn row_mask(rows: &[i64], start: usize, n: usize) -> usize
+    requires { ⌜ (n ≤ maxVariables) × (start + n < length (now rows)) ⌝ }
+    ensures { λ r. ⌜ Mentions n (now (rows .entry)) start r ⌝ }
+{
+    nonzero_mask(rows, start + 1, n)
 }
 
 // The variables with L < U.

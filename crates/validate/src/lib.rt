@@ -2,6 +2,8 @@
 ghost use mathlib.Core.Path.{_≡_};
 ghost use Rattle.model.specs.Validity.{valid};
 ghost use Rattle.state.specs.View.{view};
+use layout::range::are_divisors_in_range;
+use layout::range::are_in_range;
 use state::Search;
 use state::kept::dropped;
 use state::kept::kept_cuts;
@@ -22,10 +24,10 @@ pub fn is_valid(s: Search) -> bool
     let n = s.n;
     let kept = kept_cuts(s.made);
     let count = s.m + kept;
-    if !constraints::are_constraints_valid(&s.rows, count, n) {
+    if !are_in_range(&s.rows, count, n) {
         return false;
     }
-    if !constraints::are_divisors_valid(&s.divisors, s.m) {
+    if !are_divisors_in_range(&s.divisors, s.m) {
         return false;
     }
     let first = s.m + dropped(s.made) + 1;

@@ -42,9 +42,9 @@ state c = c .before .before .args .t1
 sizes : (c : tie.Else1 Inv-loop μ-loop) → Sized (state c)
 sizes c = sizes-passed (state c) _ (c .before .are-sizes-valid .ensures) (c .if1 .left)
 
-divisors-told : (c : tie.After-are-divisors-valid Inv-loop μ-loop) → c .are-divisors-valid .result ≡ allOf divisorInRange (inputsOf (state (sized-at (c .before .before .before))))
+divisors-told : (c : tie.After-are-divisors-in-range Inv-loop μ-loop) → c .are-divisors-in-range .result ≡ allOf divisorInRange (inputsOf (state (sized-at (c .before .before .before))))
 unfolding inputsOf
-divisors-told c = let s = state (sized-at (c .before .before .before)) in c .are-divisors-valid .ensures (s .n) (s .rows)
+divisors-told c = let s = state (sized-at (c .before .before .before)) in c .are-divisors-in-range .ensures (s .n) (s .rows)
 
 rows-left : (c : tie.Else4 Inv-loop μ-loop) → let s = state (sized-at (ranged-at (divided-at c))) in valid (view s) ≡ levelTests s
 unfolding numbersTo
@@ -52,7 +52,7 @@ rows-left c =
     let e₃ = divided-at c in
     let e₂ = ranged-at e₃ in
     let e₁ = sized-at e₂ in
-    rows-passed (state e₁) _ (e₁ .before .are-sizes-valid .ensures) (e₁ .if1 .left) _ (e₂ .before .before .before .before .before .kept-cuts .ensures .0) _ (e₂ .before .are-constraints-valid .ensures) (e₂ .if2 .left)
+    rows-passed (state e₁) _ (e₁ .before .are-sizes-valid .ensures) (e₁ .if1 .left) _ (e₂ .before .before .before .before .before .kept-cuts .ensures .0) _ (e₂ .before .are-in-range .ensures) (e₂ .if2 .left)
     _ (divisors-told (e₃ .before)) (e₃ .if3 .left) _ (c .before .before .before .before .before .dropped .ensures) _ (c .before .are-numbers-valid .ensures) (c .if4 .left)
 
 are-sizes-valid-requires : tie.Need-are-sizes-valid-requires Inv-loop μ-loop
@@ -67,8 +67,8 @@ kept-cuts-requires c κs = search needs
 add-count : tie.Need-add-count Inv-loop μ-loop
 add-count c = let z = sizes (c .before) in search needs
 
-are-constraints-valid-requires : tie.Need-are-constraints-valid-requires Inv-loop μ-loop
-are-constraints-valid-requires c κs =
+are-in-range-requires : tie.Need-are-in-range-requires Inv-loop μ-loop
+are-in-range-requires c κs =
     let e = c .before .before .before .before in
     let z = sizes e in
     let room : length (state e .rows) ≡ 4224 = search needs in
@@ -77,14 +77,14 @@ are-constraints-valid-requires c κs =
 returns-2 : tie.Need-returns-2 Inv-loop μ-loop
 returns-2 c = search (needs, refuse-constraints)
 
-are-divisors-valid-requires : tie.Need-are-divisors-valid-requires Inv-loop μ-loop
-are-divisors-valid-requires c κs = sizes (sized-at (c .before .before)) .constraints
+are-divisors-in-range-requires : tie.Need-are-divisors-in-range-requires Inv-loop μ-loop
+are-divisors-in-range-requires c κs = sizes (sized-at (c .before .before)) .constraints
 
 returns-3 : tie.Need-returns-3 Inv-loop μ-loop
 returns-3 c =
     let e₂ = c .before .before .before .before in
     let e₁ = sized-at e₂ in
-    refuse-divisors (state e₁) _ (e₁ .before .are-sizes-valid .ensures) (e₁ .if1 .left) _ (e₂ .before .before .before .before .before .kept-cuts .ensures .0) _ (e₂ .before .are-constraints-valid .ensures) (e₂ .if2 .left)
+    refuse-divisors (state e₁) _ (e₁ .before .are-sizes-valid .ensures) (e₁ .if1 .left) _ (e₂ .before .before .before .before .before .kept-cuts .ensures .0) _ (e₂ .before .are-in-range .ensures) (e₂ .if2 .left)
     _ (divisors-told (c .before)) (c .if3 .taken)
 
 dropped-requires : tie.Need-dropped-requires Inv-loop μ-loop
@@ -109,7 +109,7 @@ returns-4 c =
     let e₃ = c .before .before .before .before .before .before in
     let e₂ = ranged-at e₃ in
     let e₁ = sized-at e₂ in
-    refuse-numbers (state e₁) _ (e₁ .before .are-sizes-valid .ensures) (e₁ .if1 .left) _ (e₂ .before .before .before .before .before .kept-cuts .ensures .0) _ (e₂ .before .are-constraints-valid .ensures) (e₂ .if2 .left)
+    refuse-numbers (state e₁) _ (e₁ .before .are-sizes-valid .ensures) (e₁ .if1 .left) _ (e₂ .before .before .before .before .before .kept-cuts .ensures .0) _ (e₂ .before .are-in-range .ensures) (e₂ .if2 .left)
     _ (divisors-told (e₃ .before)) (e₃ .if3 .left) _ (c .before .before .before .before .before .dropped .ensures) _ (c .before .are-numbers-valid .ensures) (c .if4 .taken)
 
 add-last : tie.Need-add-last Inv-loop μ-loop
@@ -182,7 +182,7 @@ is-status-valid-requires c κs =
     let room : length (state (sized-at e₂) .rows) ≡ 4224 = search needs in
     let w = e₅ .before .before .whole .ensures in
     let outermost = level-fits _ _ _ _ (w .0) (w .1) (z .variables) _ (e₅ .before .is-level-valid .ensures) (e₅ .if5 .left) in
-    ((z .variables, omega arith), (said-yes (e₂ .before .are-constraints-valid .ensures) (e₂ .if2 .left), ((outermost, at .fits), (z .constraints, said-yes (divisors-told (e₃ .before)) (e₃ .if3 .left)))))
+    ((z .variables, omega arith), (said-yes (e₂ .before .are-in-range .ensures) (e₂ .if2 .left), ((outermost, at .fits), (z .constraints, said-yes (divisors-told (e₃ .before)) (e₃ .if3 .left)))))
 
 returns-8 : tie.Need-returns-8 Inv-loop μ-loop
 returns-8 c =
@@ -202,9 +202,9 @@ is-valid-spec =
     returns
     kept-cuts-requires
     add-count
-    are-constraints-valid-requires
+    are-in-range-requires
     returns-2
-    are-divisors-valid-requires
+    are-divisors-in-range-requires
     returns-3
     dropped-requires
     add-first

@@ -1,82 +1,17 @@
--- `propagate::divided::divided_mask` meets its contract: the mask is that of the inputs passed. Assumes nothing.
-use Prim.Native.Nat.{ℕ, _≤_, _<_, _^_}
+-- `propagate::divided::divided_mask` meets its contract. Assumes nothing.
+use Prim.Native.Nat.{_+_}
 use native.Mathlib.Omega.{arith}
-use mathlib.Core.Logic.{_⊎_, inl}
+use mathlib.Core.Logic.{inl}
 use mathlib.Core.Path.{_≡_}
-use lib.IntN.{pos}
-use Rattle.integer.specs.Tests.{same, fits-lit}
-use Rattle.layout.specs.Rows.{numberIn}
-use Rattle.propagate.specs.Divided.{Everyone}
-use Rattle.propagate.proofs.Bits.{Covers, covers-none, covers-small, covers-all, covers-out, covers-in}
-use borrow.Author.Needs.{needs, sfits-of}
+use borrow.Author.Needs.{needs}
 use Rattle.propagate.proofs.divided.divided_mask.Statement.{statement}
 use Rattle.propagate.proofs.divided.divided_mask.Tie as tie
-use Rattle.propagate.proofs.divided.divided_mask.Reads as reads
-use Rattle.propagate.proofs.divided.divided_mask.Lts as lts
 
-abbrev Inv-loop : tie.InvT-loop
-Inv-loop divisors m mask₀ j₀ mask j = (j ≤ m) × Covers (λ (k : ℕ). (numberIn divisors k ≡ pos 0) ⊎ Everyone k) m j mask
+nonzero-mask-requires : tie.Need-nonzero-mask-requires
+nonzero-mask-requires c κs = search needs
 
-abbrev μ-loop : tie.MeasureT-loop
-μ-loop divisors m mask₀ j₀ mask j = j
-
-loop-holds : tie.Need-loop-holds Inv-loop μ-loop
-loop-holds c = (search needs, covers-none _ _)
-
-sub-j : tie.Need-sub-j Inv-loop μ-loop
-sub-j c = search needs
-
-mul-if1 : tie.Need-mul-if1 Inv-loop μ-loop
-mul-if1 c = search needs
-
-element-copy-out-if1 : tie.Need-element-copy-out-if1 Inv-loop μ-loop
-element-copy-out-if1 c = search needs
-
--- the mask has room for one input more
-small : (c : tie.In-loop Inv-loop μ-loop) → c .before .loop .mask < 2 ^ 63
-small c = covers-small _ _ _ _ (c .before .loop .inv .1) 63 (omega (arith, c .loop-test .taken, c .before .before .pre .0))
-
-mul-mask : tie.Need-mul-mask Inv-loop μ-loop
-mul-mask c = omega (arith, small (c .before .before))
-
-loop-less : tie.Need-loop-less Inv-loop μ-loop
-loop-less c = search needs
-
-loop-again : tie.Need-loop-again Inv-loop μ-loop
-loop-again c =
-    let l = c .before .before .before in
-    (search needs, covers-out _ _ _ _ (l .loop .inv .1) (inl (unfold numberIn in same (sfits-of (c .before .if12 .given)) (fits-lit (pos 0) tt) (c .if1 .taken))) (c .before .before .loop-test .taken) (l .loop .inv .0))
-
-mul-mask-2 : tie.Need-mul-mask-2 Inv-loop μ-loop
-mul-mask-2 c = omega (arith, small (c .before .before))
-
-add-mask : tie.Need-add-mask Inv-loop μ-loop
-add-mask c = omega (arith, small (c .before .before))
-
-loop-less-2 : tie.Need-loop-less-2 Inv-loop μ-loop
-loop-less-2 c = search needs
-
-loop-again-2 : tie.Need-loop-again-2 Inv-loop μ-loop
-loop-again-2 c = let l = c .before .before .before in (search needs, covers-in _ _ _ _ (l .loop .inv .1) (c .before .before .loop-test .taken) (l .loop .inv .0))
-
-returns : tie.Need-returns Inv-loop μ-loop
-returns c = let r = covers-all _ _ _ _ (c .before .loop .inv .1) (c .loop-test .left) in record { few = r .0; rest = r .1 }
+returns : tie.Need-returns
+returns c = let r = c .nonzero-mask .ensures in record { few = r .few; rest = λ j h e. let z : 0 + j ≡ j = omega arith in inl (rw z at (r .rest j h e)) }
 
 pub divided-mask-spec : {M : Type 1} → statement M
-divided-mask-spec =
-    tie.close
-    (tie.spec
-    Inv-loop
-    μ-loop
-    loop-holds
-    sub-j
-    mul-if1
-    element-copy-out-if1
-    mul-mask
-    loop-less
-    loop-again
-    mul-mask-2
-    add-mask
-    loop-less-2
-    loop-again-2
-    returns)
+divided-mask-spec = tie.close (tie.spec nonzero-mask-requires returns)

@@ -1,86 +1,18 @@
--- `propagate::masks::row_mask` meets its contract: the mask is that of the variables passed. Assumes nothing.
-use Prim.Native.Nat.{ℕ, _≤_, _<_, _^_}
-use native.Mathlib.Omega.{arith}
-use mathlib.Core.Path.{_≡_}
-use lib.IntN.{pos}
-use Rattle.integer.specs.Tests.{same, fits-lit}
-use Rattle.layout.specs.Rows.{cell, numberIn}
-use Rattle.propagate.proofs.Bits.{Covers, covers-none, covers-small, covers-all, covers-out, covers-in}
-use borrow.Author.Needs.{needs, sfits-of}
+-- `propagate::masks::row_mask` meets its contract. Assumes nothing.
+use borrow.Author.Needs.{needs}
+use Rattle.layout.specs.Rows.{cell}
 use Rattle.propagate.proofs.masks.row_mask.Statement.{statement}
 use Rattle.propagate.proofs.masks.row_mask.Tie as tie
 
-abbrev Inv-loop : tie.InvT-loop
-Inv-loop rows start n mask₀ i₀ mask i = (i ≤ n) × Covers (λ (k : ℕ). cell rows start k ≡ pos 0) n i mask
+add-nonzero-mask : tie.Need-add-nonzero-mask
+add-nonzero-mask c = search needs
 
-abbrev μ-loop : tie.MeasureT-loop
-μ-loop rows start n mask₀ i₀ mask i = i
+nonzero-mask-requires : tie.Need-nonzero-mask-requires
+nonzero-mask-requires c κs = search needs
 
-loop-holds : tie.Need-loop-holds Inv-loop μ-loop
-loop-holds c = (search needs, covers-none _ _)
-
-sub-i : tie.Need-sub-i Inv-loop μ-loop
-sub-i c = search needs
-
-add-if1 : tie.Need-add-if1 Inv-loop μ-loop
-add-if1 c = search needs
-
-add-if1-2 : tie.Need-add-if1-2 Inv-loop μ-loop
-add-if1-2 c = search needs
-
-mul-if1 : tie.Need-mul-if1 Inv-loop μ-loop
-mul-if1 c = search needs
-
-shared-slice-copy-out-if1 : tie.Need-shared-slice-copy-out-if1 Inv-loop μ-loop
-shared-slice-copy-out-if1 c = search needs
-
--- the mask has room for one variable more
-small : (c : tie.At-loop Inv-loop μ-loop) → c .loop .mask < 2 ^ 32
-small c = covers-small _ _ _ _ (c .loop .inv .1) 32 (omega (arith, c .before .pre .0))
-
-mul-mask : tie.Need-mul-mask Inv-loop μ-loop
-mul-mask c = omega (arith, small (c .before .before .before))
-
-loop-less : tie.Need-loop-less Inv-loop μ-loop
-loop-less c = search needs
-
-loop-again : tie.Need-loop-again Inv-loop μ-loop
-loop-again c =
-    let l = c .before .before .before in
-    (search needs, covers-out _ _ _ _ (l .loop .inv .1) (unfold cell numberIn in same (sfits-of (c .before .if12 .given)) (fits-lit (pos 0) tt) (c .if1 .taken)) (c .before .before .loop-test .taken) (l .loop .inv .0))
-
-mul-mask-2 : tie.Need-mul-mask-2 Inv-loop μ-loop
-mul-mask-2 c = omega (arith, small (c .before .before .before))
-
-add-mask : tie.Need-add-mask Inv-loop μ-loop
-add-mask c = omega (arith, small (c .before .before .before))
-
-loop-less-2 : tie.Need-loop-less-2 Inv-loop μ-loop
-loop-less-2 c = search needs
-
-loop-again-2 : tie.Need-loop-again-2 Inv-loop μ-loop
-loop-again-2 c = let l = c .before .before .before in (search needs, covers-in _ _ _ _ (l .loop .inv .1) (c .before .before .loop-test .taken) (l .loop .inv .0))
-
-returns : tie.Need-returns Inv-loop μ-loop
-returns c = let r = covers-all _ _ _ _ (c .before .loop .inv .1) (c .loop-test .left) in record { few = r .0; rest = r .1 }
+returns : tie.Need-returns
+unfolding cell
+returns c = let r = c .nonzero-mask .ensures in record { few = r .few; rest = r .rest }
 
 pub row-mask-spec : {M : Type 1} → statement M
-row-mask-spec =
-    tie.close
-    (tie.spec
-    Inv-loop
-    μ-loop
-    loop-holds
-    sub-i
-    add-if1
-    add-if1-2
-    mul-if1
-    shared-slice-copy-out-if1
-    mul-mask
-    loop-less
-    loop-again
-    mul-mask-2
-    add-mask
-    loop-less-2
-    loop-again-2
-    returns)
+row-mask-spec = tie.close (tie.spec add-nonzero-mask nonzero-mask-requires returns)

@@ -5,12 +5,12 @@ use mathlib.Core.Path.{_≡_, refl, ap, _∙_}
 use borrow.Author.Needs.{needs}
 use denote.Ref.{now}
 use Rattle.model.specs.Move.{finish, conflict}
-use Rattle.lists.proofs.Bools.{clash}
 use Rattle.state.specs.View.{view, statusOf}
 use Rattle.state.specs.Change.{held}
 use Rattle.propagate.specs.Moves.{stopOf}
 use Rattle.engine.proofs.Arms.{at-level, finishes, spends}
 use Rattle.engine.proofs.Starting.{startOf}
+use Rattle.engine.proofs.Looping.{ends}
 use Rattle.engine.proofs.Rounds.{depth-small, learnable}
 use Rattle.engine.proofs.Concluding.{countable}
 use Rattle.engine.proofs.Counted.{Meets, meets, counted-none}
@@ -41,18 +41,7 @@ loop-again-2 c =
     let p = stopped (c .before .before) in
     let l = round p in
     let r = running p in
-    record {
-      running = λ e. clash e refl;
-      carried = λ e. clash e refl;
-      more = λ e. clash e refl;
-      open-ended = λ e. clash e refl;
-      ended = λ e. at-level _ _ _ _ _ _ _ _ _ _ _ _ _ _ (finishes r (here p) (l .loop .inv .more (going p)) (moved p finish (finish-at c)));
-      apart = l .loop .inv .apart;
-      rowsLong = l .loop .inv .rowsLong;
-      deep = depth-small r;
-      levelsLong = levels-long p;
-      bytes = l .loop .inv .bytes;
-    }
+    ends (at-level _ _ _ _ _ _ _ _ _ _ _ _ _ _ (finishes r (here p) (l .loop .inv .more (going p)) (moved p finish (finish-at c)))) (l .loop .inv .apart) (l .loop .inv .rowsLong) (depth-small r) (levels-long p) (l .loop .inv .bytes)
 
 -- ---- a conflict: out of budget, or counted
 pub enum-known-found-2 : tie.Need-enum-known-found-2 Inv-loop μ-loop
@@ -72,20 +61,9 @@ loop-again-3 c =
     let p = clashed f in
     let l = round p in
     let r = running p in
-    record {
-      running = λ e. clash e refl;
-      carried = λ e. clash e refl;
-      more = λ e. clash e refl;
-      open-ended = λ e. clash e refl;
-      ended = λ e.
-          rw (l .loop .inv .open-ended (going p) .1)
-          (spends r (here p) (f .found2 .given .0 .0) (l .loop .inv .more (going p)) (c .if1 .taken) (moved p _ (conflict-at f)));
-      apart = l .loop .inv .apart;
-      rowsLong = l .loop .inv .rowsLong;
-      deep = l .loop .inv .deep;
-      levelsLong = levels-long p;
-      bytes = l .loop .inv .bytes;
-    }
+    ends
+    (rw (l .loop .inv .open-ended (going p) .1) (spends r (here p) (f .found2 .given .0 .0) (l .loop .inv .more (going p)) (c .if1 .taken) (moved p _ (conflict-at f))))
+    (l .loop .inv .apart) (l .loop .inv .rowsLong) (l .loop .inv .deep) (levels-long p) (l .loop .inv .bytes)
 
 afford : (c : tie.Else1 Inv-loop μ-loop) → round (clashed (c .before .before)) .loop .conflicts < start (round (clashed (c .before .before))) .args .s .budget
 afford c = omega (arith, running (clashed (c .before .before)) .counts .afford, c .if1 .left)
@@ -128,15 +106,4 @@ unfolding statusOf
 loop-again-4 c =
     let x = c .before .before .before in
     let p = clashed (conflicted x) in
-    record {
-      running = λ e. clash e refl;
-      carried = λ e. clash e refl;
-      more = λ e. clash e refl;
-      open-ended = λ e. clash e refl;
-      ended = λ e. at-level _ _ _ _ _ _ _ _ _ _ _ _ _ _ (counted-none (met x) (c .if2 .taken));
-      apart = met x .kept .apart;
-      rowsLong = met x .kept .rowsLong;
-      deep = depth-small (running p);
-      levelsLong = levels-long p;
-      bytes = x .conflict .kept .1 .1 .1 .1 .1 .1 .1 .1 .1 .1 .1 .1 .1 .1 .1 .1 .1 .1 .1 .0 ∙ round p .loop .inv .bytes;
-    }
+    ends (at-level _ _ _ _ _ _ _ _ _ _ _ _ _ _ (counted-none (met x) (c .if2 .taken))) (met x .kept .apart) (met x .kept .rowsLong) (depth-small (running p)) (levels-long p) (x .conflict .kept .1 .1 .1 .1 .1 .1 .1 .1 .1 .1 .1 .1 .1 .1 .1 .1 .1 .1 .1 .0 ∙ round p .loop .inv .bytes)

@@ -1,14 +1,14 @@
--- `validate::constraints::are_constraints_valid` meets its contract: the constraints before row j have passed. Assumes nothing.
+-- `layout::range::are_in_range` meets its contract: the constraints before row j have passed. Assumes nothing.
 use Prim.Native.Nat.{_-_, _≤_}
 use Rattle.layout.specs.Rows.{rowAt}
 use Rattle.model.specs.Constraint.{inRange}
 use Rattle.model.specs.Lists.{allOf, tab}
 use Rattle.layout.proofs.Ranges.{range-end, range-fails, range-more, range-none}
 use borrow.Author.Needs.{needs}
 use mathlib.Core.Bool.{true}
 use mathlib.Core.Path.{_≡_}
-use Rattle.validate.proofs.constraints.are_constraints_valid.Statement.{statement}
-use Rattle.validate.proofs.constraints.are_constraints_valid.Tie as tie
+use Rattle.layout.proofs.range.are_in_range.Statement.{statement}
+use Rattle.layout.proofs.range.are_in_range.Tie as tie
 
 abbrev Inv-loop : tie.InvT-loop
 Inv-loop rows count n j₀ j = (j ≤ count) × (allOf inRange (tab (rowAt n rows) 0 j) ≡ true)
@@ -40,8 +40,8 @@ loop-again c = search (needs, range-more)
 returns-2 : tie.Need-returns-2 Inv-loop μ-loop
 returns-2 c = search (needs, range-end)
 
-pub are-constraints-valid-spec : {M : Type 1} → statement M
-are-constraints-valid-spec =
+pub are-in-range-spec : {M : Type 1} → statement M
+are-in-range-spec =
     tie.close
     (tie.spec
     Inv-loop

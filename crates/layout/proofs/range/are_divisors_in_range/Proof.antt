@@ -1,4 +1,4 @@
--- `validate::constraints::are_divisors_valid` meets its contract: the divisors before j are in range. Assumes nothing.
+-- `layout::range::are_divisors_in_range` meets its contract: the divisors before j are in range. Assumes nothing.
 use Prim.Native.Nat.{ℕ, _-_, _≤_}
 use mathlib.Core.Bool.{true}
 use mathlib.Core.List.{List}
@@ -8,10 +8,10 @@ use denote.Ref.{now}
 use lib.IntN.{ℤ}
 use Rattle.model.specs.Lists.{tab, allOf}
 use Rattle.model.specs.Constraint.{divisorInRange}
 use Rattle.layout.specs.Rows.{inputAt}
 use Rattle.layout.proofs.Ranges.{divisors-none, divisors-more, divisors-fail, divisors-end}
-use Rattle.validate.proofs.constraints.are_divisors_valid.Statement.{statement}
-use Rattle.validate.proofs.constraints.are_divisors_valid.Tie as tie
+use Rattle.layout.proofs.range.are_divisors_in_range.Statement.{statement}
+use Rattle.layout.proofs.range.are_divisors_in_range.Tie as tie
 
 abbrev Inv-loop : tie.InvT-loop
 Inv-loop divisors m j₀ j = (j ≤ m) × ((n : ℕ) (rows : List ℤ) → allOf divisorInRange (tab (inputAt n rows divisors) 0 j) ≡ true)
@@ -50,8 +50,8 @@ returns-2 c =
     let l = c .before in
     λ n rows. divisors-end n rows _ _ (l .loop .j) (c .loop-test .left) (l .loop .inv .0) (l .loop .inv .1 n rows)
 
-pub are-divisors-valid-spec : {M : Type 1} → statement M
-are-divisors-valid-spec =
+pub are-divisors-in-range-spec : {M : Type 1} → statement M
+are-divisors-in-range-spec =
     tie.close
     (tie.spec
     Inv-loop
