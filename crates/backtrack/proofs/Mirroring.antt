@@ -4,17 +4,15 @@ use native.Mathlib.Nat.{eq-or-lt-of-le}
 use native.Mathlib.Omega.{arith}
 use mathlib.Core.List.{List}
 use mathlib.Core.Logic.{⊎-elim}
-use mathlib.Core.Path.{_≡_, refl, sym, ap, ap₂, _∙_}
+use mathlib.Core.Path.{_≡_, sym, ap, _∙_}
 use lib.IntN.{ℤ, pos}
 use lib.ListN.{getD, set, length, drop}
 use lib.Seq.{getD-drop, getD-set-same, getD-set-other}
-use Rattle.model.specs.Lists.{tab}
 use Rattle.model.specs.Ranges.{maxVariables}
 use Rattle.lists.proofs.Tab.{tab-ext-0}
 use Rattle.layout.specs.Rows.{numberIn, boundsAt, boxOf}
 use Rattle.state.specs.View.{noLevel}
 use Rattle.state.specs.declared.Level.{Level}
-use Rattle.backtrack.specs.Saved.{Copied}
 use Rattle.backtrack.specs.Mirror.{mirrorLength, boxIn, BoundsKept, Mirrored}
 
 number-drop : (k i : ℕ) (xs : List ℤ) → numberIn (drop k xs) i ≡ numberIn xs (k + i)
@@ -66,6 +64,12 @@ module _ (n : ℕ) (levels : List Level) (lowers uppers : List ℤ) (depth : ℕ
 
   pub mirrored-less : (d : ℕ) → d ≤ depth → Mirrored n levels lowers uppers d
   mirrored-less d h = record { lowersLong = m .lowersLong; uppersLong = m .uppersLong; at = λ t b. m .at t (omega arith) }
+
+-- the level at `depth` stored, and its bounds kept
+pub mirrored-kept : (n : ℕ) → n ≤ maxVariables → (levels : List Level) (lowers uppers lowers₁ uppers₁ : List ℤ) (depth : ℕ) (here : Level) →
+    BoundsKept depth (here .lower) (here .upper) lowers uppers lowers₁ uppers₁ → depth < length levels → Mirrored n levels lowers uppers depth → Mirrored n (set levels depth here) lowers₁ uppers₁ (depth + 1)
+mirrored-kept n few levels lowers uppers lowers₁ uppers₁ depth here k h m =
+    mirrored-more n few (set levels depth here) lowers uppers lowers₁ uppers₁ depth here k (getD-set-same levels depth here noLevel h) (mirrored-stored n levels lowers uppers depth m depth here (omega arith))
 
 pub mirrored-none : (n : ℕ) (levels : List Level) (lowers uppers : List ℤ) → length lowers ≡ mirrorLength → length uppers ≡ mirrorLength → Mirrored n levels lowers uppers 0
 mirrored-none n levels lowers uppers l u = record { lowersLong = l; uppersLong = u; at = λ t h. absurd (omega arith) }

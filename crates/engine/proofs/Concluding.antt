@@ -27,6 +27,7 @@ use Rattle.state.proofs.Cores.{level-here, levels-above}
 use Rattle.backtrack.specs.Saved.{RowsMoved}
 use Rattle.backtrack.specs.Mirror.{boxIn, Mirrored}
 use Rattle.backtrack.specs.Level.{LevelsNested, LeastFalsifying}
+use Rattle.backtrack.proofs.Mirroring.{mirrored-kept}
 use Rattle.propagate.specs.Divided.{keptOver, coreApart, Apart}
 use Rattle.propagate.proofs.Warning.{plain-row, divided-input, inputs-blanked, length-over, over-input, kept-plain}
 use Rattle.backtrack.proofs.Saving.{place-less, rows-stay}
@@ -101,11 +102,10 @@ pub record Facts (lines divisors : List ℤ) (n m : ℕ) (rows : List ℤ) (numb
   pub reach : back ≤ depth
   pub kept : Keeps n m made rows lines divisors cut used made₁ rows₁ numbers₁
 
--- ---- the level where a conflict is met, and all levels as they lie in the flat arrays
+-- ---- the level where a conflict is met
 module _ {s : model.Search} {old : List ℕ} {limit : ℕ} {keep : Bool} {lines divisors : List ℤ} {n m budget : ℕ} {now : List ℕ} {rows : List ℤ} {numbers : List ℕ} {levels : List Level} {made conflicts depth : ℕ}
     {level before : Level} {start done : ℕ} (r : Running s old limit keep lines divisors n m budget now rows numbers levels made conflicts depth level before start done)
-    (here : Level) (j : ℕ) (moved : Propagates (coreHere lines divisors n m rows numbers levels made depth level) (coreHere lines divisors n m rows numbers levels made depth here) (conflict j))
-    (lowers uppers : List ℤ) (b : Mirrored n (set levels depth here) lowers uppers (depth + 1)) where
+    (here : Level) (j : ℕ) (moved : Propagates (coreHere lines divisors n m rows numbers levels made depth level) (coreHere lines divisors n m rows numbers levels made depth here) (conflict j)) where
   -- the levels with the deepest stored
   abbrev all : List Level
   all = set levels depth here
@@ -113,44 +113,48 @@ module _ {s : model.Search} {old : List ℕ} {limit : ℕ} {keep : Bool} {lines 
   deep : depth < length levels
   deep = omega (arith, depth-small r, r .levelsLong)
 
-  same-box : (t : ℕ) → t ≤ depth → boxIn n lowers uppers t ≡ levelAt n all t .box
-  same-box t h = unfold levelAt levelOf in b .at t (omega arith)
-
-  levels-nested : LevelsNested n depth lowers uppers
-  levels-nested =
-      record {
-        lowersLong = b .lowersLong;
-        uppersLong = b .uppersLong;
-        range = λ t h. rw (same-box t h) (stored-range lines divisors n m rows numbers levels made depth here deep (moved .fits) t h);
-        inside = λ t h. rw (same-box (suc t) h, same-box t (omega arith)) (nested-out _ _ (stored-under lines divisors n m rows numbers levels made depth here deep (moved .fits) t h .inside));
-      }
-
   -- the constraint that is met
   false-here : T (falsified (getD (keptOver n m made rows lines divisors) j noConstraint) (boxOf n (here .lower) (here .upper)))
   false-here = unfold coreOver model.kept levelOf in moved .chosen .false
 
+  -- all levels as they lie in the flat arrays
+  module _ (lowers uppers : List ℤ) (b : Mirrored n all lowers uppers (depth + 1)) where
+    same-box : (t : ℕ) → t ≤ depth → boxIn n lowers uppers t ≡ levelAt n all t .box
+    same-box t h = unfold levelAt levelOf in b .at t (omega arith)
+
+    box-here : boxIn n lowers uppers depth ≡ boxOf n (here .lower) (here .upper)
+    box-here = same-box depth (omega arith) ∙ (unfold levelOf in ap (λ (l : model.Level). l .box) (level-here n levels depth here deep))
+
+    levels-nested : LevelsNested n depth lowers uppers
+    levels-nested =
+        record {
+          lowersLong = b .lowersLong;
+          uppersLong = b .uppersLong;
+          range = λ t h. rw (same-box t h) (stored-range lines divisors n m rows numbers levels made depth here deep (moved .fits) t h);
+          inside = λ t h. rw (same-box (suc t) h, same-box t (omega arith)) (nested-out _ _ (stored-under lines divisors n m rows numbers levels made depth here deep (moved .fits) t h .inside));
+        }
+
+    -- the level that the search found
+    pub level-is : (k : Constraint) (back : ℕ) → LeastFalsifying k n depth lowers uppers back → backjumpLevel k (coreHere lines divisors n m rows numbers levels made depth here) ≡ back
+    level-is k back q =
+        ap₂ (λ (l : model.Level) (ls : List model.Level). backjumpLevel k (coreApart n m made rows lines divisors numbers l ls))
+        (sym (level-here n levels depth here deep)) (sym (levels-above n levels depth depth here (omega arith))) ∙
+        backjump-found lines divisors n m made rows numbers all depth back k (q .reach) (λ t h. rw (← same-box t (omega (arith, q .reach))) (q .least t h)) (rw (← same-box back (q .reach)) (q .falsifies))
+
   -- what counting it asks
-  pub countable : (d : ℕ) (masks : List ℕ) → length masks ≡ maxCuts → done < limit → Learnable n m made rows numbers here j →
+  pub countable : (d : ℕ) (lowers uppers : List ℤ) → Mirrored n levels lowers uppers depth → (masks : List ℕ) → length masks ≡ maxCuts → done < limit → Learnable n m made rows numbers here j →
       Countable n m made j depth (conflicts + 1) done keep rows numbers (held (here .lower) (here .upper) (here .below) (here .above) d) lowers uppers lines divisors masks now
-  countable d masks e h l =
+  countable d lowers uppers b masks e h l =
       record {
         learnable = learnable-at d l;
         apart = r .apart;
         deep = depth-small r;
-        nested = levels-nested;
-        here = same-box depth (omega arith) ∙ (unfold levelOf in ap (λ (l : model.Level). l .box) (level-here n levels depth here deep));
+        levels = λ lowers₁ uppers₁ k. let c = mirrored-kept n (r .counts .few) levels lowers uppers lowers₁ uppers₁ depth here k deep b in (levels-nested lowers₁ uppers₁ c, box-here lowers₁ uppers₁ c);
         false = true-of _ false-here;
         masked = e;
         some = omega arith;
         room = λ k. omega (arith, r .room k, same-length r);
       }
-
-  -- the level that the search found
-  pub level-is : (k : Constraint) (back : ℕ) → LeastFalsifying k n depth lowers uppers back → backjumpLevel k (coreHere lines divisors n m rows numbers levels made depth here) ≡ back
-  level-is k back q =
-      ap₂ (λ (l : model.Level) (ls : List model.Level). backjumpLevel k (coreApart n m made rows lines divisors numbers l ls))
-      (sym (level-here n levels depth here deep)) (sym (levels-above n levels depth depth here (omega arith))) ∙
-      backjump-found lines divisors n m made rows numbers all depth back k (q .reach) (λ t h. rw (← same-box t (omega (arith, q .reach))) (q .least t h)) (rw (← same-box back (q .reach)) (q .falsifies))
 
   -- ---- what the conflict is
   -- at an inequality
@@ -190,21 +194,21 @@ module _ {s : model.Search} {old : List ℕ} {limit : ℕ} {keep : Bool} {lines 
     unfolding coreOver
     numbers-it = numbered-blanked bare (tab (inputAt n lines divisors) 0 m) blanked cut (levelOf n here .box) (row-plain n (x .cut) 0) cut-falsified (x .number) _ (l .learns (levelsFrom n levels depth) .numbering)
 
-    pub is-learned : (back : ℕ) → LeastFalsifying cut n depth lowers uppers back →
+    pub is-learned : (lowers uppers : List ℤ) → Mirrored n all lowers uppers (depth + 1) → (back : ℕ) → LeastFalsifying cut n depth lowers uppers back →
         atConflict (coreHere lines divisors n m rows numbers levels made depth here) j ≡
         conflictWith (coreHere lines divisors n m rows numbers levels made depth here) j cut (tab (λ i. getD (x .used) i 0) 0 n) (x .number) back (coreHere lines divisors n m rows₁ numbers₁ levels (x .made) depth here)
-    is-learned back q =
-        learned-is (coreHere lines divisors n m rows numbers levels made depth here) j cut _ (x .number) back _ inequality analyzed numbers-it (level-is cut back q)
+    is-learned lowers uppers b back q =
+        learned-is (coreHere lines divisors n m rows numbers levels made depth here) j cut _ (x .number) back _ inequality analyzed numbers-it (level-is lowers uppers b cut back q)
 
   -- at an input with a divisor
-  pub is-dismissed : (cut : List ℤ) (used : List ℕ) (back : ℕ) → j < m → (numberIn divisors j ≡ pos 0 → ⊥) → ((i : ℕ) → numberIn cut i ≡ pos 0) → ((i : ℕ) → getD used i 0 ≡ 0) →
+  pub is-dismissed : (lowers uppers : List ℤ) → Mirrored n all lowers uppers (depth + 1) → (cut : List ℤ) (used : List ℕ) (back : ℕ) → j < m → (numberIn divisors j ≡ pos 0 → ⊥) → ((i : ℕ) → numberIn cut i ≡ pos 0) → ((i : ℕ) → getD used i 0 ≡ 0) →
       LeastFalsifying (inputAt n lines divisors j) n depth lowers uppers back →
       atConflict (coreHere lines divisors n m rows numbers levels made depth here) j ≡
       conflictWith (coreHere lines divisors n m rows numbers levels made depth here) j (constraintAt n cut 0) (tab (λ i. getD used i 0) 0 n) 0 back (coreHere lines divisors n m rows numbers levels made depth here)
   unfolding coreOver
-  is-dismissed cut used back h d zc zu q =
+  is-dismissed lowers uppers b cut used back h d zc zu q =
       let c = coreHere lines divisors n m rows numbers levels made depth here in
       let k = inputAt n lines divisors j in
       let own : getD (model.kept c) j noConstraint ≡ k = unfold coreOver model.kept in over-input n m made rows lines divisors j h in
-      let x = dismissed-is c j k back own (divided-input n lines divisors j d) (level-is k back q) in
+      let x = dismissed-is c j k back own (divided-input n lines divisors j d) (level-is lowers uppers b k back q) in
       rw (zero-cut n cut zc, zero-used n used zu) x

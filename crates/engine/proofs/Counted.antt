@@ -25,8 +25,8 @@ use Rattle.record.specs.Written.{recordOf, Emitted}
 use Rattle.record.proofs.Narrow.{record-narrow}
 use Rattle.backtrack.specs.Saved.{Saved, Roomy}
 use Rattle.backtrack.specs.Jumps.{Flippable}
-use Rattle.backtrack.specs.Mirror.{Mirrored}
-use Rattle.backtrack.proofs.Mirroring.{mirrored-less}
+use Rattle.backtrack.specs.Mirror.{BoundsKept, Mirrored}
+use Rattle.backtrack.proofs.Mirroring.{mirrored-kept, mirrored-less}
 use Rattle.propagate.proofs.Steps.{scan-fits}
 use Rattle.backtrack.proofs.Saving.{saved-moved, saved-stored, saved-less}
 use Rattle.engine.specs.Counting.{LearnedAt, DismissedAt, Counted}
@@ -68,19 +68,20 @@ pub meets : {s : model.Search} {old : List ℕ} {limit : ℕ} {keep : Bool} {lin
     {level before : Level} {start done : ℕ} → Running s old limit keep lines divisors n m budget now rows numbers levels made conflicts depth level before start done →
     (lower upper : List ℤ) (below above : List ℕ) (d j : ℕ) →
     Propagates (coreHere lines divisors n m rows numbers levels made depth level) (coreHere lines divisors n m rows numbers levels made depth (held lower upper below above d)) (conflict j) →
-    {lowers uppers : List ℤ} → Mirrored n (set levels depth (held lower upper below above d)) lowers uppers (depth + 1) → done < limit → conflicts < budget →
-    {masks : List ℕ} {back made₁ : ℕ} {rows₁ : List ℤ} {numbers₁ masks₁ next : List ℕ} →
-    Counted n m made j depth (conflicts + 1) done keep rows numbers (held lower upper below above) lowers uppers lines divisors masks now back made₁ rows₁ numbers₁ masks₁ next →
+    {lowers uppers : List ℤ} → Mirrored n levels lowers uppers depth → done < limit → conflicts < budget →
+    {masks : List ℕ} {back made₁ : ℕ} {rows₁ : List ℤ} {numbers₁ masks₁ : List ℕ} {lowers₁ uppers₁ : List ℤ} {next : List ℕ} →
+    Counted n m made j depth (conflicts + 1) done keep rows numbers (held lower upper below above) lowers uppers lines divisors masks now back made₁ rows₁ numbers₁ masks₁ lowers₁ uppers₁ next →
     Meets s old limit keep lines divisors n m budget now rows numbers levels made conflicts depth level before start done (held lower upper below above d) back made₁ rows₁ numbers₁ next
-meets {lines = lines} {divisors = divisors} {n = n} {m = m} {rows = rows} {numbers = numbers} {levels = levels} {made = made} {depth = depth} r lower upper below above d j moved {lowers} {uppers} b left afford {back = back} {made₁ = made₁} {rows₁ = rows₁} {numbers₁ = numbers₁} q =
+meets {lines = lines} {divisors = divisors} {n = n} {m = m} {rows = rows} {numbers = numbers} {levels = levels} {made = made} {depth = depth} r lower upper below above d j moved {lowers} {uppers} b left afford {back = back} {made₁ = made₁} {rows₁ = rows₁} {numbers₁ = numbers₁} {lowers₁ = lowers₁} {uppers₁ = uppers₁} q =
     let here = held lower upper below above d in
+    let c = mirrored-kept n (r .counts .few) levels lowers uppers lowers₁ uppers₁ depth here (q .boxes) (omega (arith, depth-small r, r .levelsLong)) b in
     let facts =
     ⊎-elim {C = Facts lines divisors n m rows numbers levels made depth here j (q .cut) (q .used) (q .number) back made₁ rows₁ numbers₁}
-    (λ (l : LearnedAt n m made j depth rows numbers (held lower upper below above) lowers uppers divisors (q .cut) (q .used) (q .number) back made₁ rows₁ numbers₁).
-    record { is = is-learned r here j moved lowers uppers b (l .plain) _ (l .learned d) back (l .jump); reach = l .jump .reach; kept = keeps-learned n m made rows lines divisors (r .apart) (l .learned d) })
-    (λ (l : DismissedAt n m made j depth rows numbers lowers uppers lines divisors (q .cut) (q .used) (q .number) back made₁ rows₁ numbers₁).
+    (λ (l : LearnedAt n m made j depth rows numbers (held lower upper below above) lowers₁ uppers₁ divisors (q .cut) (q .used) (q .number) back made₁ rows₁ numbers₁).
+    record { is = is-learned r here j moved (l .plain) _ (l .learned d) lowers₁ uppers₁ c back (l .jump); reach = l .jump .reach; kept = keeps-learned n m made rows lines divisors (r .apart) (l .learned d) })
+    (λ (l : DismissedAt n m made j depth rows numbers lowers₁ uppers₁ lines divisors (q .cut) (q .used) (q .number) back made₁ rows₁ numbers₁).
     rw (l .nothing, l .sameMade, l .sameRows, l .sameNumbers)
-    (record { is = is-dismissed r here j moved lowers uppers b (q .cut) (q .used) back (l .position) (l .divided) (l .cutZero) (l .usedZero) (l .jump); reach = l .jump .reach; kept = keeps-dismissed n m made rows numbers lines divisors (q .cut) (q .used) (r .apart) (r .rowsLong) (r .numbersLong) (l .cutZero) (l .usedZero) }))
+    (record { is = is-dismissed r here j moved lowers₁ uppers₁ c (q .cut) (q .used) back (l .position) (l .divided) (l .cutZero) (l .usedZero) (l .jump); reach = l .jump .reach; kept = keeps-dismissed n m made rows numbers lines divisors (q .cut) (q .used) (r .apart) (r .rowsLong) (r .numbersLong) (l .cutZero) (l .usedZero) }))
     (q .concluded) in
     record {
       running = r;
@@ -205,5 +206,6 @@ module _ {s : model.Search} {old : List ℕ} {limit : ℕ} {keep : Bool} {lines 
           }
 
     -- the bounds of the levels above, there
-    pub mirrored-on : {lowers uppers : List ℤ} → Mirrored n stored lowers uppers (depth + 1) → Mirrored n stored lowers uppers (back - 1)
-    mirrored-on {lowers} {uppers} b = mirrored-less n stored lowers uppers (depth + 1) b (back - 1) (omega (arith, k .reach))
+    pub mirrored-on : {lowers uppers lowers₁ uppers₁ : List ℤ} → BoundsKept depth (here .lower) (here .upper) lowers uppers lowers₁ uppers₁ → Mirrored n levels lowers uppers depth → Mirrored n stored lowers₁ uppers₁ (back - 1)
+    mirrored-on {lowers} {uppers} {lowers₁} {uppers₁} q b =
+        mirrored-less n stored lowers₁ uppers₁ (depth + 1) (mirrored-kept n (r .counts .few) levels lowers uppers lowers₁ uppers₁ depth here q inside b) (back - 1) (omega (arith, k .reach))

@@ -20,6 +20,7 @@ use Rattle.record.specs.Written.{CutFits}
 use Rattle.propagate.proofs.Warning.{over-input}
 use Rattle.state.specs.View.{numberFor, divisorFor}
 use Rattle.state.specs.declared.Level.{Level}
+use Rattle.backtrack.specs.Mirror.{BoundsKept}
 use Rattle.engine.specs.Counting.{Countable, Counted, Dismissable, Dismissed}
 use Rattle.engine.proofs.Learning.{within-zero}
 
@@ -54,8 +55,9 @@ module _ {n m made j depth count done : ℕ} {keep : Bool} {rows : List ℤ} {nu
   unfolding divisorFor
   divided-input = ⊎-elim (λ (l : j < m). (l, e ∙ rw (lt-ltb j m l))) (λ (l : m ≤ j). absurd (d (e ∙ rw (le-ltb j m l)))) (lt-or-le j m)
 
-  pub may-dismiss : Dismissable n j depth count done keep q lines lowers uppers buffer
-  may-dismiss =
+  pub may-dismiss : {lowers₁ uppers₁ : List ℤ} → BoundsKept depth (level .lower) (level .upper) lowers uppers lowers₁ uppers₁ → Dismissable n j depth count done keep q lines lowers₁ uppers₁ buffer
+  may-dismiss k =
+      let v = p .levels _ _ k in
       let l = p .learnable in
       let a = p .apart in
       let i = divided-input in
@@ -66,23 +68,24 @@ module _ {n m made j depth count done : ℕ} {keep : Bool} {rows : List ℤ} {nu
         range = a .range j (i .0);
         fits = rw (i .1) (a .fits j (i .0));
         deep = p .deep;
-        nested = p .nested;
-        false = rw (p .here, i .1) (unfold inputAt in (ap (λ (k : Constraint). falsified k (boxOf n (level .lower) (level .upper))) (sym (over-input n m made rows lines divisors j (i .0))) ∙ p .false));
+        nested = v .0;
+        false = rw (v .1, i .1) (unfold inputAt in (ap (λ (k : Constraint). falsified k (boxOf n (level .lower) (level .upper))) (sym (over-input n m made rows lines divisors j (i .0))) ∙ p .false));
         some = p .some;
         room = p .room;
       }
 
-  pub dismissed : {falsified back : ℕ} {buffer₁ : List ℕ} (level : ℕ → Level) → falsified ≡ numberFor m made j →
-      Dismissed n j depth count falsified done keep q lines lowers uppers buffer back buffer₁ →
-      Counted n m made j depth count done keep rows numbers level lowers uppers lines divisors masks buffer back made rows numbers masks buffer₁
+  pub dismissed : {falsified back : ℕ} {lowers₁ uppers₁ : List ℤ} {buffer₁ : List ℕ} (level : ℕ → Level) → BoundsKept depth (level 0 .lower) (level 0 .upper) lowers uppers lowers₁ uppers₁ → falsified ≡ numberFor m made j →
+      Dismissed n j depth count falsified done keep q lines lowers₁ uppers₁ buffer back buffer₁ →
+      Counted n m made j depth count done keep rows numbers level lowers uppers lines divisors masks buffer back made rows numbers masks lowers₁ uppers₁ buffer₁
   unfolding inputAt
-  dismissed {falsified} level f r =
+  dismissed {falsified} level k f r =
       let i = divided-input in
       record {
         cut = r .cut;
         used = r .used;
         number = 0;
         falsified = falsified;
+        boxes = k;
         concluded = inr
             (record {
               position = i .0;

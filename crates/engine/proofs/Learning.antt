@@ -31,7 +31,7 @@ use Rattle.analyze.specs.Analyzed.{Analyzed, analysisOf}
 use Rattle.analyze.specs.Storing.{RowKept, NumberKept, foundBelow}
 use Rattle.analyze.specs.declared.analysis.Analysis.{Analysis}
 use Rattle.analyze.proofs.Numbering.{numbered-equal, numbered-kept}
-use Rattle.backtrack.specs.Mirror.{boxIn}
+use Rattle.backtrack.specs.Mirror.{boxIn, BoundsKept}
 use Rattle.backtrack.proofs.Saving.{rows-stay}
 use Rattle.propagate.proofs.Warning.{kept-plain}
 use Rattle.engine.specs.Counting.{Countable}
@@ -139,9 +139,9 @@ module _ {n m made : ℕ} {rows : List ℤ} {numbers : List ℕ} {level : Level}
 -- the cut of a conflict that is counted, at the deepest level
 pub deepest-false : {n m made j depth count done : ℕ} {keep : Bool} {rows : List ℤ} {numbers : List ℕ} {level : Level} {lowers uppers lines divisors : List ℤ} {masks buffer : List ℕ} →
     Countable n m made j depth count done keep rows numbers level lowers uppers lines divisors masks buffer → divisorFor m divisors j ≡ pos 0 →
-    {x : Learned} {rows₁ : List ℤ} {numbers₁ : List ℕ} → LearnedFrom n m made rows numbers level j x rows₁ numbers₁ →
-    falsified (constraintAt n (x .cut) 0) (boxIn n lowers uppers depth) ≡ true
-deepest-false {n = n} {m = m} {made = made} {j = j} {rows = rows} {level = level} {lines = lines} {divisors = divisors} p e l =
+    {lowers₁ uppers₁ : List ℤ} → BoundsKept depth (level .lower) (level .upper) lowers uppers lowers₁ uppers₁ → {x : Learned} {rows₁ : List ℤ} {numbers₁ : List ℕ} → LearnedFrom n m made rows numbers level j x rows₁ numbers₁ →
+    falsified (constraintAt n (x .cut) 0) (boxIn n lowers₁ uppers₁ depth) ≡ true
+deepest-false {n = n} {m = m} {made = made} {j = j} {rows = rows} {level = level} {lines = lines} {divisors = divisors} p e k l =
     let own = kept-plain n m made rows lines divisors (p .apart) j (p .learnable .position) e in
     let f : falsified (rowAt n rows j) (boxOf n (level .lower) (level .upper)) ≡ true = ap (λ (k : Constraint). falsified k (boxOf n (level .lower) (level .upper))) (sym own) ∙ p .false in
-    rw (p .here) (true-of _ (cut-false (p .learnable .variables) l (p .learnable .position) (subst T (sym f) tt)))
+    rw (p .levels _ _ k .1) (true-of _ (cut-false (p .learnable .variables) l (p .learnable .position) (subst T (sym f) tt)))

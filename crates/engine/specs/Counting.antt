@@ -18,17 +18,17 @@ use Rattle.state.specs.declared.Level.{Level}
 use Rattle.record.specs.Written.{recordOf, Emitted}
 use Rattle.propagate.specs.Masks.{Masked}
 use Rattle.propagate.specs.Divided.{keptOver, Apart}
-use Rattle.backtrack.specs.Mirror.{boxIn}
+use Rattle.backtrack.specs.Mirror.{boxIn, BoundsKept}
 use Rattle.backtrack.specs.Level.{LevelsNested, LeastFalsifying}
 use Rattle.engine.specs.Learning.{Learnable, LearnedFrom}
 
--- the conflict in position j, met at `depth`: the flat arrays hold the levels down to there, and the deepest falsifies the constraint
+-- the conflict in position j, met at `depth`: the level falsifies the constraint, and once its bounds are kept the flat arrays hold all levels
 pub record Countable (n m made j depth count done : ℕ) (keep : Bool) (rows : List ℤ) (numbers : List ℕ) (level : Level) (lowers uppers lines divisors : List ℤ) (masks buffer : List ℕ) : Type 0 where
   pub learnable : Learnable n m made rows numbers level j
   pub apart : Apart n m rows lines divisors
   pub deep : depth ≤ maxVariables
-  pub nested : LevelsNested n depth lowers uppers
-  pub here : boxIn n lowers uppers depth ≡ boxOf n (level .lower) (level .upper)
+  pub levels : (lowers₁ uppers₁ : List ℤ) → BoundsKept depth (level .lower) (level .upper) lowers uppers lowers₁ uppers₁ →
+      LevelsNested n depth lowers₁ uppers₁ × (boxIn n lowers₁ uppers₁ depth ≡ boxOf n (level .lower) (level .upper))
   pub false : falsified (getD (keptOver n m made rows lines divisors) j noConstraint) (boxOf n (level .lower) (level .upper)) ≡ true
   pub masked : length masks ≡ maxCuts
   pub some : 1 ≤ count
@@ -54,13 +54,14 @@ pub record DismissedAt (n m made j depth : ℕ) (rows : List ℤ) (numbers : Lis
 
 -- what was learned or not, the number of the falsified constraint, and the record's bytes
 pub record Counted (n m made j depth count done : ℕ) (keep : Bool) (rows : List ℤ) (numbers : List ℕ) (level : ℕ → Level) (lowers uppers lines divisors : List ℤ) (masks buffer : List ℕ)
-    (back made₁ : ℕ) (rows₁ : List ℤ) (numbers₁ masks₁ buffer₁ : List ℕ) : Type 0 where
+    (back made₁ : ℕ) (rows₁ : List ℤ) (numbers₁ masks₁ : List ℕ) (lowers₁ uppers₁ : List ℤ) (buffer₁ : List ℕ) : Type 0 where
   pub cut : List ℤ
   pub used : List ℕ
   pub number : ℕ
   pub falsified : ℕ
-  pub concluded : LearnedAt n m made j depth rows numbers level lowers uppers divisors cut used number back made₁ rows₁ numbers₁ ⊎
-      DismissedAt n m made j depth rows numbers lowers uppers lines divisors cut used number back made₁ rows₁ numbers₁
+  pub boxes : BoundsKept depth (level 0 .lower) (level 0 .upper) lowers uppers lowers₁ uppers₁
+  pub concluded : LearnedAt n m made j depth rows numbers level lowers₁ uppers₁ divisors cut used number back made₁ rows₁ numbers₁ ⊎
+      DismissedAt n m made j depth rows numbers lowers₁ uppers₁ lines divisors cut used number back made₁ rows₁ numbers₁
   pub marked : (inputs : List ℕ) → Masked n m (m + keptCuts made) rows inputs masks → Masked n m (m + keptCuts made₁) rows₁ inputs masks₁
   pub numbered : falsified ≡ numberFor m made j
   pub written : Emitted keep done (recordBytes (recordOf maxVariables count falsified number depth back cut used)) buffer buffer₁

@@ -58,7 +58,7 @@ pub fn advance(s: Search, buffer: &mut [u8], limit: usize, keep: bool) -> Advanc
     let mut limits = [0i64; 4224];
     let mut gones = [0usize; 33];
     let mut counts = [0usize; 33];
-    // The bounds of each level, down to the last that was stored.
+    // The bounds of each level above; at a conflict also of the level in hand.
     let mut lowers = [0i64; 1056];
     let mut uppers = [0i64; 1056];
     mirror(levels, depth, &mut lowers, &mut uppers);
@@ -111,9 +111,9 @@ pub fn advance(s: Search, buffer: &mut [u8], limit: usize, keep: bool) -> Advanc
             decided,
         };
         levels[depth] = here;
-        keep_bounds(&lower, &upper, depth, &mut lowers, &mut uppers);
         match found {
             Found::Decide(i) => {
+                keep_bounds(&lower, &upper, depth, &mut lowers, &mut uppers);
                 let first = decide(
                     &rows,
                     n,
@@ -155,8 +155,6 @@ pub fn advance(s: Search, buffer: &mut [u8], limit: usize, keep: bool) -> Advanc
                     &upper,
                     &below,
                     &above,
-                    &lowers,
-                    &uppers,
                     &lines,
                     &divisors,
                     n,
@@ -170,6 +168,8 @@ pub fn advance(s: Search, buffer: &mut [u8], limit: usize, keep: bool) -> Advanc
                     &mut rows,
                     &mut numbers,
                     &mut cuts,
+                    &mut lowers,
+                    &mut uppers,
                     buffer,
                 );
                 let back = met.back;

@@ -1,6 +1,7 @@
 // A counted conflict: what is learned from it, the level to go back to, and its journal record.
 use crate::learn::learn;
 use backtrack::level::backjump_level;
+use backtrack::mirror::keep_bounds;
 use layout::ROW;
 use layout::copy_row;
 use record::emit;
@@ -61,8 +62,6 @@ pub fn conflict<'a>(
     upper: &'a [i64; 32],
     below: &'a [usize; 32],
     above: &'a [usize; 32],
-    lowers: &'a [i64; 1056],
-    uppers: &'a [i64; 1056],
     lines: &'a [i64; 4224],
     divisors: &'a [i64; 64],
     n: usize,
@@ -76,11 +75,14 @@ pub fn conflict<'a>(
     rows: &mut [i64; 4224],
     numbers: &mut [usize; 64],
     cuts: &mut [usize; 64],
+    lowers: &mut [i64; 1056],
+    uppers: &mut [i64; 1056],
     buffer: &mut [u8],
 ) -> Met
     requires { ⌜ Countable n m made j depth count done keep (now rows) (now numbers) (held (now lower) (now upper) (now below) (now above) 0) (now lowers) (now uppers) (now lines) (now divisors) (now cuts) (now buffer) ⌝ }
-    ensures { λ r. ⌜ Counted n m made j depth count done keep (now (rows .entry)) (now (numbers .entry)) (held (now (lower .entry)) (now (upper .entry)) (now (below .entry)) (now (above .entry))) (now (lowers .entry)) (now (uppers .entry)) (now (lines .entry)) (now (divisors .entry)) (now (cuts .entry)) (now (buffer .entry)) (r .back) (r .made) (now (rows .exit)) (now (numbers .exit)) (now (cuts .exit)) (now (buffer .exit)) ⌝ }
+    ensures { λ r. ⌜ Counted n m made j depth count done keep (now (rows .entry)) (now (numbers .entry)) (held (now (lower .entry)) (now (upper .entry)) (now (below .entry)) (now (above .entry))) (now (lowers .entry)) (now (uppers .entry)) (now (lines .entry)) (now (divisors .entry)) (now (cuts .entry)) (now (buffer .entry)) (r .back) (r .made) (now (rows .exit)) (now (numbers .exit)) (now (cuts .exit)) (now (lowers .exit)) (now (uppers .exit)) (now (buffer .exit)) ⌝ }
 {
+    keep_bounds(lower, upper, depth, lowers, uppers);
     let falsified = number_of(m, made, j);
     let q = divisor_of(divisors, m, j);
     if q != 0 {

@@ -6,7 +6,6 @@ mod Decides
 mod Counts
 mod Returns
 use native.Mathlib.Omega.{arith}
-use mathlib.Core.Path.{refl}
 use Rattle.engine.proofs.Arms.{reached}
 use Rattle.engine.proofs.Starting.{view-unmarked, start-counts, view-restored}
 use Rattle.engine.proofs.advance.advance.Statement.{statement}
@@ -61,8 +60,8 @@ advance-spec =
     propagate-requires
     mul-levels
     array-set-from-levels
-    keep-bounds-requires
     enum-known-found
+    keep-bounds-requires
     decide-requires
     mul-due
     array-read-due

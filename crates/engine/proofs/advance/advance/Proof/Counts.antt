@@ -1,7 +1,7 @@
 -- The solution; a conflict, out of budget or counted; and 'none'.
 use Prim.Native.Nat.{_<_}
 use native.Mathlib.Omega.{arith}
-use mathlib.Core.Path.{_≡_, refl, ap, _∙_}
+use mathlib.Core.Path.{_≡_, ap, _∙_}
 use borrow.Author.Needs.{needs}
 use denote.Ref.{now}
 use Rattle.model.specs.Move.{finish, conflict}
@@ -15,11 +15,11 @@ use Rattle.engine.proofs.Rounds.{depth-small, learnable}
 use Rattle.engine.proofs.Concluding.{countable}
 use Rattle.engine.proofs.Counted.{Meets, meets, counted-none}
 use Rattle.engine.proofs.advance.advance.Tie as tie
-use Rattle.engine.proofs.advance.advance.Proof.Loop.{Inv-loop, μ-loop, start, round, stopped, here, going, running, carried, answered, moved, whole-here, levels-long, mirrored}
+use Rattle.engine.proofs.advance.advance.Proof.Loop.{Inv-loop, μ-loop, start, round, here, going, running, carried, answered, moved, whole-here, levels-long}
 
 -- ---- the places
 abbrev pub clashed : tie.After-found2 Inv-loop μ-loop → tie.After-propagate Inv-loop μ-loop
-clashed f = stopped (f .before .before)
+clashed f = f .before .before
 
 abbrev pub conflicted : tie.After-conflict Inv-loop μ-loop → tie.After-found2 Inv-loop μ-loop
 conflicted x = x .before .before .before .before .before .before .before .before .before .before .before .before .before .before .before
@@ -29,16 +29,16 @@ pub enum-told : tie.Need-enum-told Inv-loop μ-loop
 enum-told c = search needs
 
 pub loop-less-2 : tie.Need-loop-less-2 Inv-loop μ-loop
-loop-less-2 c = rw (going (stopped (c .before .before))) (omega arith)
+loop-less-2 c = rw (going (c .before .before)) (omega arith)
 
-finish-at : (c : tie.After-enum-told Inv-loop μ-loop) → stopOf (stopped (c .before .before) .propagate .result) ≡ finish
+finish-at : (c : tie.After-enum-told Inv-loop μ-loop) → stopOf (c .before .before .propagate .result) ≡ finish
 unfolding stopOf
 finish-at c = ap stopOf (c .enum-told .given .1)
 
 pub loop-again-2 : tie.Need-loop-again-2 Inv-loop μ-loop
 unfolding statusOf
 loop-again-2 c =
-    let p = stopped (c .before .before) in
+    let p = c .before .before in
     let l = round p in
     let r = running p in
     ends (at-level _ _ _ _ _ _ _ _ _ _ _ _ _ _ (finishes r (here p) (l .loop .inv .more (going p)) (moved p finish (finish-at c)))) (l .loop .inv .apart) (l .loop .inv .rowsLong) (depth-small r) (levels-long p) (l .loop .inv .bytes)
@@ -77,7 +77,7 @@ conflict-requires c κs =
     let p = clashed f in
     let q = p .propagate .ensures .1 .0 in
     let v = carried p in
-    countable (running p) (here p) (f .found2 .given .0 .0) (moved p _ (conflict-at f)) _ _ (mirrored (f .before .before)) 0 _ (v .masks .cutRoom) (round p .loop .inv .more (going p))
+    countable (running p) (here p) (f .found2 .given .0 .0) (moved p _ (conflict-at f)) 0 _ _ (v .bounds) _ (v .masks .cutRoom) (round p .loop .inv .more (going p))
     (learnable (running p) (here p) (p .propagate .result) (answered p) (f .found2 .given .0 .0) (conflict-at f) (whole-here p, q .bounds))
 
 -- what the conflict left
@@ -88,11 +88,11 @@ pub met : (c : tie.After-conflict Inv-loop μ-loop) →
     let s = a .s in
     let v = l .loop in
     Meets (view (startOf s)) (now (a .buffer)) (a .limit) (a .keep) (s .rows) (s .divisors) (s .n) (s .m) (s .budget) (v .buffer) (v .rows) (v .numbers) (v .levels) (v .made) (v .conflicts) (v .depth) (held (v .lower) (v .upper) (v .below) (v .above) (v .decided)) (v .before) (v .start) (v .done)
-    (here p) (c .conflict .result .back) (c .conflict .result .made) (c .conflict .last .1 .1 .1 .1 .1 .1 .1 .1 .1 .1 .1 .1 .1 .1 .1 .1 .0) (c .conflict .last .1 .1 .1 .1 .1 .1 .1 .1 .1 .1 .1 .1 .1 .1 .1 .1 .1 .0) (c .conflict .last .1 .1 .1 .1 .1 .1 .1 .1 .1 .1 .1 .1 .1 .1 .1 .1 .1 .1 .1 .0)
+    (here p) (c .conflict .result .back) (c .conflict .result .made) (c .conflict .last .1 .1 .1 .1 .1 .1 .1 .1 .1 .1 .1 .1 .1 .1 .0) (c .conflict .last .1 .1 .1 .1 .1 .1 .1 .1 .1 .1 .1 .1 .1 .1 .1 .0) (c .conflict .last .1 .1 .1 .1 .1 .1 .1 .1 .1 .1 .1 .1 .1 .1 .1 .1 .1 .1 .1 .0)
 met c =
     let f = conflicted c in
     let p = clashed f in
-    meets (running p) _ _ _ _ (round p .loop .decided) (f .found2 .given .0 .0) (moved p _ (conflict-at f)) (mirrored (f .before .before)) (round p .loop .inv .more (going p)) (afford (c .before .before .before .before .before .before .before .before .before .before .before .before .before)) (c .conflict .ensures)
+    meets (running p) _ _ _ _ (round p .loop .decided) (f .found2 .given .0 .0) (moved p _ (conflict-at f)) (carried p .bounds) (round p .loop .inv .more (going p)) (afford (c .before .before .before .before .before .before .before .before .before .before .before .before .before)) (c .conflict .ensures)
 
 pub add-done : tie.Need-add-done Inv-loop μ-loop
 add-done c = omega (arith, met (c .before .before) .left, start (round (clashed (conflicted (c .before .before)))) .fits .limit)

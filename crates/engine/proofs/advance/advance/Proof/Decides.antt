@@ -16,6 +16,7 @@ use Rattle.propagate.specs.Moves.{stopOf}
 use Rattle.propagate.proofs.Steps.{scan-fits}
 use Rattle.propagate.proofs.Tracking.{scan-box}
 use Rattle.propagate.proofs.Warning.{testable}
+use Rattle.backtrack.proofs.Mirroring.{mirrored-kept}
 use Rattle.engine.proofs.Running.{Running, running-decides}
 use Rattle.engine.proofs.Starting.{startOf}
 use Rattle.engine.proofs.Carrying.{clear-more}
@@ -23,14 +24,14 @@ use Rattle.engine.proofs.Due.{decided-warned}
 use Rattle.engine.proofs.Looping.{ready-with, running-with}
 use Rattle.engine.proofs.Rounds.{depth-small, ready, decided-here, decide-less, clear-here}
 use Rattle.engine.proofs.advance.advance.Tie as tie
-use Rattle.engine.proofs.advance.advance.Proof.Loop.{Inv-loop, μ-loop, start, columned, round, stopped, here, going, running, carried, answered, moved, whole-here, levels-long, mirrored}
+use Rattle.engine.proofs.advance.advance.Proof.Loop.{Inv-loop, μ-loop, start, columned, round, here, going, running, carried, answered, moved, whole-here, levels-long}
 
 -- ---- the places
 abbrev chosen : tie.After-found Inv-loop μ-loop → tie.After-propagate Inv-loop μ-loop
-chosen f = stopped (f .before .before)
+chosen f = f .before .before
 
 abbrev left : tie.After-decide Inv-loop μ-loop → tie.After-found Inv-loop μ-loop
-left d = d .before .before .before .before .before .before .before .before .before .before .before .before
+left d = d .before .before .before .before .before .before .before .before .before .before .before .before .before .before .before .before .before
 
 -- ---- a round
 pub propagate-requires : tie.Need-propagate-requires Inv-loop μ-loop
@@ -47,7 +48,7 @@ pub array-set-from-levels : tie.Need-array-set-from-levels Inv-loop μ-loop
 array-set-from-levels c = omega (arith, depth-small (running c))
 
 pub keep-bounds-requires : tie.Need-keep-bounds-requires Inv-loop μ-loop
-keep-bounds-requires c κs = depth-small (running (c .before .before .before .before))
+keep-bounds-requires c κs = depth-small (running (c .before .before .before .before .before .before .before))
 
 -- ---- a decision
 pub enum-known-found : tie.Need-enum-known-found Inv-loop μ-loop
@@ -65,7 +66,7 @@ decided-fits f =
 
 pub decide-requires : tie.Need-decide-requires Inv-loop μ-loop
 decide-requires c κs =
-    let f = c .before .before .before .before .before .before .before .before .before .before .before in
+    let f = c .before .before .before .before .before .before .before .before .before .before .before .before .before .before .before .before in
     let p = chosen f in
     let r = running p in
     let q = p .propagate .ensures .1 .0 in
@@ -140,7 +141,7 @@ loop-again c =
             falsified = decided-warned _ _ _ _ _ _ (here p .lower) (here p .upper) _ _ (r .apart) i _ (decided-fits f) _ (e .0 .bound) _ _ _ room clear (columned l .columns .ensures .at i (decided-fits f)) (e .0 .told) (c .first-indivisible2 .ensures);
             room = e .1 .room;
             saved = e .1 .saved (l .loop .levels) (here p) refl refl deep (v .saved);
-            bounds = mirrored (f .before .before);
+            bounds = mirrored-kept _ (r .counts .few) _ _ _ _ _ (l .loop .depth) (here p) (d .before .before .before .before .before .before .before .before .before .before .before .keep-bounds .ensures) deep (v .bounds);
             masks = v .masks;
             clear = clear-more _ _ _ _ (l .loop .levels) (l .loop .low) (l .loop .depth) (here p) deep (v .clear) clear;
           };

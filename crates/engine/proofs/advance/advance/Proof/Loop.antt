@@ -5,25 +5,21 @@ use mathlib.Core.Bool.{true}
 use mathlib.Core.Path.{_≡_, _∙_}
 use denote.Ref.{now}
 use lib.ListN.{length, set, length-set}
-use lib.Seq.{getD-set-same}
-use native.Mathlib.Omega.{arith}
 use Rattle.model.specs.Move.{Move, slack}
 use Rattle.layout.specs.Rows.{boxOf}
-use Rattle.state.specs.View.{levelOf, noLevel, view, numberFor}
+use Rattle.state.specs.View.{levelOf, view, numberFor}
 use Rattle.state.specs.Change.{Whole, held}
 use Rattle.state.specs.declared.Level.{Level}
 use Rattle.state.specs.declared.Status.the-variants.{Undecided}
 use Rattle.propagate.specs.Moves.{stopOf}
 use Rattle.propagate.specs.Propagation.{propagation, propagationOf}
 use Rattle.propagate.specs.Divided.{keptOver}
-use Rattle.backtrack.specs.Mirror.{Mirrored}
-use Rattle.backtrack.proofs.Mirroring.{mirrored-more, mirrored-stored}
 use Rattle.engine.proofs.Measures.{stepWeight}
 use Rattle.engine.proofs.Running.{Running, Propagates, coreHere}
 use Rattle.engine.proofs.Starting.{startOf}
 use Rattle.engine.proofs.Carrying.{Carried}
 use Rattle.engine.proofs.Looping.{Looping, weight, whole-with}
-use Rattle.engine.proofs.Rounds.{depth-small, propagates}
+use Rattle.engine.proofs.Rounds.{propagates}
 use Rattle.engine.proofs.advance.advance.Tie as tie
 
 abbrev pub Inv-loop : tie.InvT-loop
@@ -50,9 +46,6 @@ tracked l = l .before .before .before .before .before .before
 
 abbrev pub round : tie.After-propagate Inv-loop μ-loop → tie.At-loop Inv-loop μ-loop
 round p = p .before .before .before .before .before .before .before .before .before .before .before .before .before .before
-
-abbrev pub stopped : tie.After-keep-bounds Inv-loop μ-loop → tie.After-propagate Inv-loop μ-loop
-stopped k = k .before .before .before .before .before
 
 -- ---- a round, and where propagation stopped in it
 abbrev pub here : tie.After-propagate Inv-loop μ-loop → Level
@@ -100,15 +93,3 @@ whole-here p = whole-with (round p .loop .decided) (p .propagate .ensures .1 .0 
 
 pub levels-long : (p : tie.After-propagate Inv-loop μ-loop) → length (set (round p .loop .levels) (round p .loop .depth) (here p)) ≡ 33
 levels-long p = length-set (round p .loop .levels) (round p .loop .depth) (here p) ∙ running p .levelsLong
-
--- the bounds of every level, the one in hand among them
-pub mirrored : (k : tie.After-keep-bounds Inv-loop μ-loop) →
-    let p = stopped k in
-    let l = round p in
-    Mirrored (start l .args .s .n) (set (l .loop .levels) (l .loop .depth) (here p)) (k .keep-bounds .last .1 .1 .1 .0) (k .keep-bounds .last .1 .1 .1 .1 .0) (l .loop .depth + 1)
-mirrored k =
-    let p = stopped k in
-    let l = round p in
-    let r = running p in
-    mirrored-more _ (r .counts .few) _ _ _ _ _ (l .loop .depth) (here p) (k .keep-bounds .ensures) (getD-set-same (l .loop .levels) (l .loop .depth) (here p) noLevel (omega (arith, r .levelsLong, depth-small r)))
-    (mirrored-stored _ _ _ _ _ (carried p .bounds) (l .loop .depth) (here p) (omega arith))

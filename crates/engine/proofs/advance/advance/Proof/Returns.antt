@@ -28,7 +28,7 @@ use Rattle.engine.proofs.Looping.{lighter, flipped-level, running-with,
 use Rattle.engine.proofs.Rounds.{depth-small, ready}
 use Rattle.engine.proofs.Counted.{variable-fits, counted-on, counted-less, saved-on, mirrored-on, flippable}
 use Rattle.engine.proofs.advance.advance.Tie as tie
-use Rattle.engine.proofs.advance.advance.Proof.Loop.{Inv-loop, μ-loop, start, masked, columned, round, here, going, running, carried, levels-long, mirrored}
+use Rattle.engine.proofs.advance.advance.Proof.Loop.{Inv-loop, μ-loop, start, masked, columned, round, here, going, running, carried, levels-long}
 use Rattle.engine.proofs.advance.advance.Proof.Counts.{clashed, conflicted, met}
 
 -- ---- the places
@@ -118,7 +118,7 @@ backed : (c : tie.After-backjump Inv-loop μ-loop) →
     let v = l .loop in
     let o = b .whole3 .result in
     let k = held (c .backjump .last .1 .1 .1 .1 .1 .1 .1 .1 .1 .1 .1 .0) (o .upper) (c .backjump .last .1 .1 .1 .1 .1 .1 .1 .1 .1 .1 .1 .1 .0) (o .above) (o .decided) in
-    Running (view (startOf s)) (now (a .buffer)) (a .limit) (a .keep) (s .rows) (s .divisors) (s .n) (s .m) (s .budget) (x .conflict .last .1 .1 .1 .1 .1 .1 .1 .1 .1 .1 .1 .1 .1 .1 .1 .1 .1 .1 .1 .0) (x .conflict .last .1 .1 .1 .1 .1 .1 .1 .1 .1 .1 .1 .1 .1 .1 .1 .1 .0) (x .conflict .last .1 .1 .1 .1 .1 .1 .1 .1 .1 .1 .1 .1 .1 .1 .1 .1 .1 .0) (set (v .levels) (v .depth) (here p)) (x .conflict .result .made) (v .conflicts + 1)
+    Running (view (startOf s)) (now (a .buffer)) (a .limit) (a .keep) (s .rows) (s .divisors) (s .n) (s .m) (s .budget) (x .conflict .last .1 .1 .1 .1 .1 .1 .1 .1 .1 .1 .1 .1 .1 .1 .1 .1 .1 .1 .1 .0) (x .conflict .last .1 .1 .1 .1 .1 .1 .1 .1 .1 .1 .1 .1 .1 .1 .0) (x .conflict .last .1 .1 .1 .1 .1 .1 .1 .1 .1 .1 .1 .1 .1 .1 .1 .0) (set (v .levels) (v .depth) (here p)) (x .conflict .result .made) (v .conflicts + 1)
     (x .conflict .result .back - 1) k k (x .conflict .result .back - 1) (v .done + 1)
 backed c =
     let b = copied c in
@@ -172,7 +172,7 @@ loop-again-5 c =
                 (λ h i g. subst (λ (z : Level). falsified (inputAt (a .s .n) (a .s .rows) (a .s .divisors) i) (boxOf (a .s .n) (z .lower) (z .upper)) ≡ false) (sym (b .whole3 .ensures .0)) (clear _ h above i g)) (w .told) (c .first-indivisible3 .ensures);
             room = v .room;
             saved = saved-on k (deeper b) wo (v .saved);
-            bounds = mirrored-on k (deeper b) wo (mirrored (conflicted x .before .before));
+            bounds = mirrored-on k (deeper b) wo (x .conflict .ensures .boxes) (v .bounds);
             masks = x .conflict .ensures .marked _ (v .masks);
             clear = clear-back (a .s .n) (a .s .m) (a .s .rows) (a .s .divisors) (set (l .loop .levels) (l .loop .depth) (here p)) (l .loop .low) (l .loop .depth) (x .conflict .result .back - 1) _ above (y .1 .1 .0) (y .1 .1 .1) clear;
           };
