@@ -77,7 +77,7 @@ pub fn is_in_range<'a>(rows: &'a [i64], start: usize, n: usize) -> bool
     true
 }
 
-// Whether the first `count` constraints are.
+// Whether the first `count` constraints are in range.
 pub fn are_in_range(rows: &[i64], count: usize, n: usize) -> bool
     requires { ⌜ (n ≤ maxVariables) × (rowLength * count ≤ length (now rows)) ⌝ }
     ensures { λ r. ⌜ r ≡ allOf inRange (tab (rowAt n (now (rows .entry))) 0 count) ⌝ }
@@ -105,7 +105,7 @@ pub fn is_divisor_in_range(q: i64) -> bool
     q <= MAX_DIVISOR as i64
 }
 
-// Whether the divisors of the first m constraints are.
+// Whether the divisors of the first m constraints are in range.
 pub fn are_divisors_in_range(divisors: &[i64; 64], m: usize) -> bool
     requires { ⌜ m ≤ maxConstraints ⌝ }
     ensures { λ r. ⌜ ((n : ℕ) (rows : List ℤ) → r ≡ allOf divisorInRange (tab (inputAt n rows (now (divisors .entry))) 0 m)) ⌝ }
