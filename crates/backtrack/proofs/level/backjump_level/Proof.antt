@@ -22,6 +22,7 @@ use Rattle.model.specs.Ranges.{maxVariables}
 use Rattle.model.specs.Constraint.{Constraint, falsified}
 use Rattle.model.specs.Conflict.{levelsTested}
 use Rattle.layout.specs.Rows.{dividedAt}
+use Rattle.linear.specs.Ranges.{DivisorFits}
 use Rattle.backtrack.specs.Mirror.{boxIn}
 use Rattle.backtrack.specs.Level.{LevelsNested, LeastFalsifying}
 use Rattle.backtrack.proofs.Nesting.{level-fits, clear-outward}
@@ -108,7 +109,7 @@ is-falsified-requires c κs =
     let l = c .before .before .before .before in
     let p = l .before .pre in
     let at = maxVariables * (l .loop .level - 1) in (
-      rw (toZ-ofZ (l .before .fits .q)) (p .0),
+      subst DivisorFits (sym (toZ-ofZ (l .before .fits .q))) (p .0),
       (
         p .1 .0,
         rw (whole-part (now (l .before .args .lowers)) at, whole-part (now (l .before .args .uppers)) at) (level-fits (p .1 .1 .1 .0) (p .1 .0 .few) (p .1 .1 .0) (l .loop .level - 1) (omega (arith, l .loop .inv .count))),
