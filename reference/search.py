@@ -9,9 +9,10 @@ KEPT_CUTS = 64
 # Reasons of a bound, beside the number of a constraint.
 DOMAIN, DECISION, FLIPPED = "domain", "decision", "flipped"
 
-# Statuses of a state, and a step's answers.
+# Statuses of a state, a step's answers, and an exclusion's.
 UNDECIDED, INFEASIBLE, SOLVED = "undecided", "infeasible", "solved"
 GO_ON, NONE, SPENT, SOLUTION = "go on", "none", "spent", "solution"
+STRUCK, ENDED, UNSOLVED = "struck", "ended", "no form"
 
 
 @dataclass
@@ -270,6 +271,20 @@ def run(search):
         if answer.verdict != GO_ON:
             return answer, records
         search = answer.state
+
+
+# ---- striking out a solution
+
+def exclude(search):
+    """Strikes out the solution of a valid state: the answer, and the state after it; the state that is given stays as it is."""
+    if search.status != SOLVED:
+        return UNSOLVED, search
+    if search.depth == 0:
+        return ENDED, search
+    after = search.copy()
+    back_up(after, after.depth)
+    after.status = UNDECIDED
+    return STRUCK, after
 
 
 # ---- valid states

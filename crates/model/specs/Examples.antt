@@ -26,7 +26,10 @@ use Rattle.model.specs.Journal.{Record, cutIn}
 use Rattle.model.specs.Validity
 use Rattle.model.specs.Step
 use Rattle.model.specs.Step.{Verdict, goOn, noSolution, outOfBudget, solution, Outcome, runCall}
+use Rattle.model.specs.Trace
+use Rattle.model.specs.Exclude
 use Rattle.model.specs.Points
+use Rattle.model.specs.Enumeration
 use Rattle.model.specs.Demand
 use Rattle.model.specs.Demand.{answerAt, journal}
 
@@ -191,7 +194,7 @@ filled content check = content ++ (replicate (508 - length content) 0 ++ check)
 
 -- ---- To unfold this is to unfold every definition of document 01 that computes.
 unfoldable pub definitions : Unit {0}
-unfolding Lists.tab Lists.parts Lists.sum Lists.all Lists.allOf Lists.anyOf Lists.allPairs Lists.orElse Lists.withDefault
+unfolding Lists.tab Lists.parts Lists.sum Lists.all Lists.allOf Lists.anyOf Lists.filter Lists.allPairs Lists.orElse Lists.withDefault
     Ranges.within
     Division.floorDiv Division.ceilDiv Division.exactDiv Division.gcdWith Division.gcd Division.divides
     Constraint.modulus Constraint.isInequality Constraint.isOpen Constraint.openDivisor Constraint.fixedTerms Constraint.fixedValue Constraint.falsifiedBy
@@ -222,6 +225,11 @@ unfolding Lists.tab Lists.parts Lists.sum Lists.all Lists.allOf Lists.anyOf List
     Validity.shaped
     Step.lowers Step.withStatus Step.solvedBy Step.budgetSpent Step.recordOf Step.verdictAt Step.statusAt Step.counted Step.onConflict Step.endedAt
     Step.ended Step.again Step.stepBy Step.step Step.continue Step.runFor Step.withoutBlock Step.run Step.checked Step.stepCall Step.runCall
+    Trace.withBlocks Trace.lastStep Trace.advanced Trace.advance
+    Exclude.unchanged Exclude.excludeAt Exclude.excludeBy Exclude.exclude Exclude.excludeCall
     Points.valuesBetween Points.valuesFrom Points.values Points.prefixed Points.allPoints Points.points Points.dot Points.value
+    Points.isMetBy Points.isMet Points.isSolution Points.allSolutions
+    Enumeration.traced Enumeration.excluded Enumeration.taken Enumeration.answeredBy Enumeration.answer Enumeration.walk Enumeration.says Enumeration.shownIn
+    Enumeration.standsAfter Enumeration.stands Enumeration.shown Enumeration.struckIn Enumeration.strikes
     Demand.after Demand.stateAfter Demand.answerAt Step.blockIn Demand.blocksIn Demand.journal Demand.withBudget Demand.verdictWith
 definitions = tt

@@ -13,12 +13,15 @@ pub mod Journal
 pub mod Validity
 pub mod Step
 pub mod Trace
+pub mod Exclude
 pub mod Points
 pub mod Demand
+pub mod Enumeration
 pub mod Examples
 pub mod Table
 pub mod SearchCases
 pub mod DivisorCases
+pub mod ExclusionCases
 pub mod FileCases
 pub mod ValidityCases
 pub mod Cases

@@ -1,6 +1,6 @@
 -- Lists and options: what the definitions of document 01 share.
 use Prim.Native.Nat.{ℕ, zero, suc, _+_}
-use mathlib.Core.Bool.{Bool, true, false, _&&_, _||_}
+use mathlib.Core.Bool.{Bool, true, false, _&&_, _||_, cond}
 use mathlib.Core.List.{List, [], _∷_, _++_}
 use mathlib.Core.Option.{Option, none, some}
 
@@ -32,6 +32,11 @@ allOf t (x ∷ xs) = t x && allOf t xs
 unfoldable pub anyOf : {A : Type 0} → (A → Bool) → List A → Bool
 anyOf t [] = false
 anyOf t (x ∷ xs) = t x || anyOf t xs
+
+-- the elements at which the test passes
+unfoldable pub filter : {A : Type 0} → (A → Bool) → List A → List A
+filter t [] = []
+filter t (x ∷ xs) = cond (t x) (x ∷ filter t xs) (filter t xs)
 
 -- the lists are of one length, and the test passes at each place
 unfoldable pub allPairs : {A B : Type 0} → (A → B → Bool) → List A → List B → Bool

@@ -1,12 +1,13 @@
 -- The words of the demands: points, solutions, dictionary order.
 use Prim.Native.Nat.{ℕ, zero, suc}
-use mathlib.Core.Bool.{true, cond}
+use mathlib.Core.Bool.{Bool, true, cond}
 use mathlib.Core.List.{List, [], _∷_, _++_, map}
 use mathlib.Core.Logic.{_⊎_}
 use mathlib.Core.Path.{_≡_}
 use lib.IntN.{ℤ, pos, natAbs, _+ℤ_, _-ℤ_, _*ℤ_}
 use lib.Signed.{leZ, _≤ℤ_, _<ℤ_}
 use lib.ListN.{length}
+use Rattle.model.specs.Lists.{allOf, filter}
 use Rattle.model.specs.Division.{divides}
 use Rattle.model.specs.Constraint.{Constraint, Bounds, Box, nextValue, modulus}
 use Rattle.model.specs.Problem.{Problem}
@@ -77,7 +78,25 @@ Before [] v = ⊥
 Before (x ∷ u) [] = ⊥
 Before (x ∷ u) (y ∷ v) = (x <ℤ y) ⊎ ((x ≡ y) × Before u v)
 
--- the solution that every other one follows
-pub record First (p : Problem) (s : Point) : Type 0 where
-  pub solves : Solution p s
-  pub first : (v : Point) → Solution p v → (v ≡ s) ⊎ Before s v
+-- of the points with a property, the one that every other one follows
+pub record FirstOf (Left : Point → Type 0) (s : Point) : Type 0 where
+  pub solves : Left s
+  pub first : (v : Point) → Left v → (v ≡ s) ⊎ Before s v
+
+abbrev pub First : Problem → Point → Type 0
+First p s = FirstOf (Solution p) s
+
+-- ---- the list of all solutions, in dictionary order
+-- whether a point meets a line
+unfoldable pub isMetBy : ℕ → Point → Constraint → Bool
+isMetBy zero v k = leZ (value k v) (pos 0)
+isMetBy (suc q) v k = divides (suc q) (value k v)
+
+unfoldable pub isMet : Point → Constraint → Bool
+isMet v k = isMetBy (modulus k) v k
+
+unfoldable pub isSolution : Problem → Point → Bool
+isSolution p v = allOf (isMet v) (p .constraints)
+
+unfoldable pub allSolutions : Problem → List Point
+allSolutions p = filter (isSolution p) (allPoints (p .domain))

@@ -37,7 +37,7 @@ abbrev pub by : Reason → Reason → Reasons
 by l u = record { lower = l; upper = u }
 
 -- the mark after k turns from the opening
-abbrev statusCode : Status → ℕ
+abbrev pub statusCode : Status → ℕ
 statusCode undecided = 0
 statusCode infeasible = 1
 statusCode solved = 2
@@ -81,10 +81,10 @@ backjump =
 
 -- met at depth 2, d = 2: the variable decided at d is turned, which is not the one decided at d − 1
 -- limits 0 to 1; v1 − v2 − v3 + 1 and −v2 + v3
-abbrev stepping : Problem
+abbrev pub stepping : Problem
 stepping = problem (replicate 3 (to 1)) (linear (pos 1 ∷ neg 1 ∷ neg 1 ∷ []) (pos 1) ∷ linear (pos 0 ∷ neg 1 ∷ pos 1 ∷ []) (pos 0) ∷ []) 9
 
-abbrev stepCut : Constraint
+abbrev pub stepCut : Constraint
 stepCut = linear (pos 1 ∷ neg 2 ∷ pos 0 ∷ []) (pos 1)
 
 abbrev backOne : Bool

@@ -116,7 +116,7 @@ unfoldable pub run : Search → Outcome
 run s = withoutBlock (runFor (s .budget - s .conflicts) s)
 
 -- ---- the calls: a foreign walk is refused with 9, before all else
-unfoldable pub checked : Bool → Outcome → Result Outcome
+unfoldable pub checked : {A : Type 0} → Bool → A → Result A
 checked true o = ok o
 checked false o = error 9
 
