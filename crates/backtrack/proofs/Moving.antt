@@ -8,18 +8,18 @@ use lib.IntN.{ℤ, pos, _+ℤ_, _-ℤ_}
 use lib.ListN.{length, set}
 use Rattle.model.specs.Ranges.{maxVariables}
 use Rattle.model.specs.Constraint.{Box, lowerAt, upperAt}
-use Rattle.integer.specs.Parts.{_⊑_, add-parts}
+use Rattle.integer.specs.Parts.{_⊑_, add-parts, sub-parts, eq-out}
 use Rattle.integer.specs.Size.{Within, weaken}
 use Rattle.lists.proofs.Bools.{true-of}
 use Rattle.linear.specs.Ranges.{widestBound}
-use Rattle.linear.proofs.Ranges.{lower-within, upper-within}
+use Rattle.linear.proofs.Ranges.{upper-within}
 use Rattle.layout.specs.Rows.{numberIn, boxOf}
 use Rattle.layout.proofs.Rows.{lower-at, upper-at, box-upper}
 use Rattle.validity.proofs.Boxes.{Ordered, lowHalf, low-ordered, low-nested}
 use Rattle.validity.proofs.Tests.{range-ordered, range-nested}
 use Rattle.propagate.specs.Tracked.{ScanFits}
 use Rattle.propagate.specs.Bounds.{Settable}
-use Rattle.propagate.proofs.Tracking.{number-same, rise-size, fall-size}
+use Rattle.propagate.proofs.Tracking.{number-same, fall-size}
 
 ordered-at : (i : ℕ) (box : Box) → Ordered box → lowerAt box i ⊑ upperAt box i
 unfolding lowerAt upperAt
@@ -48,14 +48,11 @@ module _ (n kept : ℕ) (rows lower upper : List ℤ) (reasons : List ℕ) (i : 
         change = rw (number-same upper i (numberIn lower i) (omega (arith, f .few))) at (fall-size f (decided-fits u) i h);
       }
 
-  -- a decision that is flipped
-  pub flipped-above : numberIn lower i ⊑ (numberIn lower i +ℤ pos 1)
-  flipped-above = omega (arith, add-parts (numberIn lower i) (pos 1))
+-- a decision that is flipped
+pub flipped-above : (x : ℤ) → x ⊑ (x +ℤ pos 1)
+flipped-above x = omega (arith, add-parts x (pos 1))
 
-  pub flipped-settable : length lower ≡ maxVariables → ScanFits n kept rows (set lower i (numberIn lower i +ℤ pos 1)) upper → Settable i (numberIn lower i +ℤ pos 1) lower reasons
-  flipped-settable l g =
-      record {
-        variable = omega (arith, f .few);
-        old = weaken (lit≤ tt) (lower-within n lower upper (true-of _ (f .bounds)) i h);
-        change = rw (number-same lower i (numberIn lower i +ℤ pos 1) (omega (arith, f .few))) at (rise-size f g i h);
-      }
+pub flipped-rise : (x : ℤ) → Within widestBound (x +ℤ pos 1 -ℤ x)
+flipped-rise x =
+    let e : x +ℤ pos 1 -ℤ x ≡ pos 1 = eq-out _ _ (omega (arith, add-parts x (pos 1), sub-parts (x +ℤ pos 1) x)) in
+    rw e (record { within = omega arith })

@@ -6,7 +6,8 @@ pub mod mirror;
 use layout::MAX_ROWS;
 use propagate::bounds::lower_upper;
 use propagate::bounds::next_value;
-use propagate::bounds::raise_lower;
+use propagate::bounds::set;
+use propagate::bounds::shift;
 use propagate::scan::measure;
 use state::DECISION;
 use state::FLIPPED;
@@ -14,9 +15,14 @@ use state::kept::dropped;
 use state::kept::kept_count;
 ghost use mathlib.Core.Path.{_≡_};
 ghost use Prim.Native.Nat.{_+_, _-_, _*_, _≤_, _<_};
+ghost use lib.IntN.{pos, _+ℤ_, _-ℤ_};
 ghost use lib.ListN.{length};
-ghost use Rattle.model.specs.Ranges.{maxConstraints, maxBudget};
-ghost use Rattle.state.specs.View.{keptCuts};
+ghost use Rattle.model.specs.Ranges.{maxVariables, maxConstraints, maxBudget};
+ghost use Rattle.integer.specs.Size.{Within};
+ghost use Rattle.linear.specs.Ranges.{widestBound};
+ghost use Rattle.layout.specs.Rows.{numberIn};
+ghost use Rattle.state.specs.View.{keptCuts, flippedReason};
+ghost use Rattle.propagate.specs.Bounds.{BoundSet};
 ghost use Rattle.propagate.specs.Tracked.{Tracked};
 ghost use Rattle.backtrack.specs.Saved.{placeOf, savedRoom, SavedAt, Copied};
 ghost use Rattle.backtrack.specs.Jumps.{Decidable, Decided, LevelSaved, Flippable, Flipped};
@@ -118,6 +124,15 @@ pub fn decide<'a>(
     lower_upper(rows, i, v, DECISION, count, upper, above, activities)
 }
 
+// The decision at variable i flipped: its lower bound goes on to the next value. Returns by how much it rose.
+pub fn flip(i: usize, lower: &mut [i64; 32], below: &mut [usize; 32]) -> i64
+    requires { ⌜ (i < maxVariables) × Within widestBound (numberIn (now lower) i) ⌝ }
+    ensures { λ r. ⌜ (r ≡ numberIn (now (lower .entry)) i +ℤ pos 1 -ℤ numberIn (now (lower .entry)) i) × BoundSet i (numberIn (now (lower .entry)) i +ℤ pos 1) flippedReason (now (lower .entry)) (now (below .entry)) (now (lower .exit)) (now (below .exit)) ⌝ }
+{
+    let v = next_value(lower[i]);
+    set(lower, below, i, v, FLIPPED)
+}
+
 // Back at the level at `depth`, whose arrays are in hand again, with its decision at variable i flipped: its lower bound goes on to the next value. What
 // was saved of the constraints is taken back, and only those that are new are measured. Returns the position of the first constraint that the level
 // falsifies, or how many are kept.
@@ -160,6 +175,6 @@ pub fn backjump<'a>(
     );
     let kept = kept_count(m, made);
     measure(rows, lower, upper, n, from, kept, activities, reaches);
-    let v = next_value(lower[i]);
-    raise_lower(rows, i, v, FLIPPED, kept, lower, below, activities)
+    let rise = flip(i, lower, below);
+    shift(rows, i, rise, 0, kept, activities)
 }

@@ -1,22 +1,19 @@
--- The backjump level as the model has it, and the state after going back there.
+-- The backjump level as the model has it.
 use Prim.Native.Nat.{ℕ, zero, suc, _+_, _-_, _≤_, _<_}
 use native.Mathlib.Omega.{arith}
 use mathlib.Core.Bool.{true, false}
 use mathlib.Core.List.{List, _∷_}
 use mathlib.Core.Option.{none, some}
-use mathlib.Core.Path.{_≡_, refl, _∙_}
-use lib.IntN.{ℤ, pos, _+ℤ_, +ℤ-one}
+use mathlib.Core.Path.{_≡_, refl}
+use lib.IntN.{ℤ}
 use Rattle.model.specs.Lists.{orElse, withDefault}
-use Rattle.model.specs.Constraint.{Constraint, nextValue, falsified}
+use Rattle.model.specs.Constraint.{Constraint, falsified}
 use Rattle.model.specs.Search as model
-use Rattle.model.specs.Conflict.{leastFalsified, backjumpLevel, backFrom, backUp}
-use Rattle.layout.specs.Rows.{numberIn}
-use Rattle.state.specs.View.{reasonOf, flippedReason, levelOf, levelAt, levelsFrom, coreOver}
+use Rattle.model.specs.Conflict.{leastFalsified, backjumpLevel}
+use Rattle.state.specs.View.{levelAt, levelsFrom, coreOver}
 use Rattle.propagate.specs.Divided.{coreApart}
-use Rattle.state.specs.Change.{Whole, raised}
 use Rattle.state.specs.declared.Level.{Level}
-use Rattle.state.proofs.Levels.{level-raised, level-lower}
-use Rattle.state.proofs.Cores.{length-levels, levels-dropped}
+use Rattle.state.proofs.Cores.{length-levels}
 
 -- the levels from 0 up to e do not falsify the cut
 abbrev pub NoneBefore : ℕ → List Level → Constraint → ℕ → Type 0
@@ -44,18 +41,3 @@ module _ (lines divisors : List ℤ) (n m made : ℕ) (rows : List ℤ) (numbers
       backjumpLevel cut (coreApart n m made rows lines divisors numbers (levelAt n levels d) (levelsFrom n levels d)) ≡ e
   unfolding backjumpLevel coreOver model.levels withDefault
   backjump-found d e cut h p f = rw (least-at n levels cut d e h p f)
-
-  -- going back to level e + 1: level e with the decision of level e + 1 flipped
-  pub backed-up : (d e : ℕ) → suc e ≤ d →
-      backUp (suc e) (coreApart n m made rows lines divisors numbers (levelAt n levels d) (levelsFrom n levels d)) ≡
-      coreApart n m made rows lines divisors numbers (model.flipAt (levelAt n levels (suc e) .decided) (levelAt n levels e)) (levelsFrom n levels e)
-  unfolding backUp coreOver model.levels model.depth
-  backed-up d e h =
-      rw (length-levels n levels d, levels-dropped n levels d (suc e) h) (unfold levelsFrom backFrom model.withLevels in refl)
-
--- ---- the flipped level
-pub level-flipped : (n : ℕ) (l : Level) (i : ℕ) → Whole l → n ≤ 32 → i < n → levelOf n (raised l i (numberIn (l .lower) i +ℤ pos 1) flippedReason) ≡ model.flipAt i (levelOf n l)
-unfolding model.flipAt nextValue
-level-flipped n l i w f h =
-    level-raised n l w f i (numberIn (l .lower) i +ℤ pos 1) flippedReason h ∙
-    (unfold reasonOf in rw (level-lower n l w f i h, +ℤ-one))

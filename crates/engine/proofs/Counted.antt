@@ -20,6 +20,7 @@ use Rattle.layout.specs.Rows.{numberIn, cell, constraintAt, inputAt, boxOf}
 use Rattle.state.specs.View.{flippedReason, noLevel, levelOf, levelAt, coreOver}
 use Rattle.state.specs.Change.{Whole, held, raised}
 use Rattle.state.specs.declared.Level.{Level}
+use Rattle.state.proofs.Levels.{level-flipped}
 use Rattle.state.proofs.Cores.{number-over, length-levels}
 use Rattle.record.specs.Written.{recordOf, Emitted}
 use Rattle.record.proofs.Narrow.{record-narrow}
@@ -31,7 +32,6 @@ use Rattle.propagate.proofs.Steps.{scan-fits}
 use Rattle.backtrack.proofs.Saving.{saved-moved, saved-stored, saved-less}
 use Rattle.engine.specs.Counting.{LearnedAt, DismissedAt, Counted}
 use Rattle.engine.specs.declared.Ending.the-variants.{NoSolution}
-use Rattle.engine.proofs.Backjumping.{level-flipped}
 use Rattle.engine.proofs.Measures.{stepWeight, slack-small}
 use Rattle.engine.proofs.Running.{Running, Propagates, coreHere}
 use Rattle.engine.proofs.Arms.{stateAt, Reaches}
@@ -160,7 +160,7 @@ module _ {s : model.Search} {old : List ℕ} {limit : ℕ} {keep : Bool} {lines 
     flipped-is =
         let i : variable ≡ levelAt n stored (suc (back - 1)) .decided = unfold levelAt levelOf in ap (λ (d : ℕ). getD stored d noLevel .decided) one-more in
         let e : levelOf n outer ≡ levelAt n stored (back - 1) = unfold levelAt in refl in
-        level-flipped n outer variable wo (r .counts .few) variable-fits ∙ ap₂ model.flipAt i e
+        level-flipped n outer wo (r .counts .few) variable variable-fits ∙ ap₂ model.flipAt i e
 
     pub counted-on : Running s old limit keep lines divisors n m budget next rows₁ numbers₁ stored made₁ (conflicts + 1) (back - 1) flipped flipped (back - 1) (done + 1)
     counted-on =

@@ -24,11 +24,10 @@ use Rattle.state.specs.View.{levelOf, levelAt, levelsFrom}
 use Rattle.propagate.specs.Divided.{coreApart, Apart}
 use Rattle.state.specs.Change.{Whole}
 use Rattle.state.specs.declared.Level.{Level}
-use Rattle.state.proofs.Cores.{level-here, levels-above}
+use Rattle.state.proofs.Cores.{level-here, levels-above, backed-up}
 use Rattle.engine.specs.Advancing.{verdictOf}
 use Rattle.engine.specs.declared.Ending.the-variants.{NoSolution}
 use Rattle.engine.proofs.OneStep.{advance-none, advance-on}
-use Rattle.engine.proofs.Backjumping.{backed-up}
 use Rattle.engine.proofs.Conflicting.{conflictWith}
 use Rattle.engine.proofs.Buffers.{joined-length, buffer-more}
 use Rattle.engine.proofs.Running.{Counts, Running, Propagates, stepStart, coreHere}
@@ -86,7 +85,7 @@ module _ (s : model.Search) (old : List ℕ) (limit : ℕ) (keep : Bool) (lines 
     unfolding settled
     settled-back e d flip f =
         ap₂ (λ (q : model.Level) (qs : List model.Level). backUp (suc e) (coreApart n m made₁ rows₁ lines divisors numbers₁ q qs)) (sym (level-here n levels depth here deep)) (sym (levels-above n levels depth depth here (omega arith))) ∙
-        backed-up lines divisors n m made₁ rows₁ numbers₁ (set levels depth here) depth e d ∙
+        backed-up _ n m made₁ rows₁ numbers₁ (set levels depth here) depth e d ∙
         ap (λ (q : model.Level). coreApart n m made₁ rows₁ lines divisors numbers₁ q (levelsFrom n (set levels depth here) e)) (sym f)
 
     -- the next turn starts where this conflict went back to

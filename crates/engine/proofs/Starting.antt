@@ -2,34 +2,31 @@
 use Prim.Native.Nat.{ℕ, _-_, _≤_, _<_}
 use native.Mathlib.Omega.{arith}
 use mathlib.Core.Bool.{Bool}
-use mathlib.Core.List.{List, [], map}
+use mathlib.Core.List.{List, []}
 use mathlib.Core.Path.{_≡_, refl, sym, ap, subst, _∙_}
 use lib.IntN.{ℤ, pos}
-use lib.ListN.{getD, set, length, length-map, replicate}
+use lib.ListN.{getD, set, length, replicate}
 use Rattle.model.specs.Lists.{tab}
 use Rattle.model.specs.Ranges.{maxConstraints}
 use Rattle.model.specs.Search as model
 use Rattle.model.specs.Trace.{Trace, withBlocks, advance, joined}
 use Rattle.lists.proofs.Tab.{length-tab}
 use Rattle.layout.specs.Rows.{rowAt, inputAt, rowsLength}
-use Rattle.validity.proofs.States.{CoreFits, core-fits, sizes-fit, depth-fits}
+use Rattle.validity.proofs.States.{CoreFits, core-fits, sizes-fit}
 use Rattle.state.specs.View.{noLevel, levelOf, levelAt, levelsFrom, keptCuts, coreOver, inputsOf, coreOf, statusOf, view}
 use Rattle.state.specs.Change.{Whole}
 use Rattle.state.specs.declared.Level.{Level}
 use Rattle.state.specs.declared.Search.{Search}
 use Rattle.state.specs.declared.Status.{Status}
 use Rattle.state.specs.declared.Status.the-variants.{Undecided}
-use Rattle.state.proofs.Cores.{level-here, levels-above, length-levels}
+use Rattle.state.proofs.Cores.{level-here, levels-above}
 use Rattle.propagate.specs.Divided.{coreApart, Apart}
+use Rattle.propagate.proofs.States.{sizes}
 use Rattle.engine.specs.Advancing.{Starts, Buffered}
 use Rattle.engine.specs.Setting.{RowsPut}
 use Rattle.engine.proofs.Running.{Counts, Running, stepStart, coreHere}
 use Rattle.engine.proofs.Arms.{stateAt}
 use Rattle.engine.proofs.Blanking.{cuts-put, inputs-restored, apart-starts}
-
--- what owning an array of structs tells of its list
-pub elements-kept : {X Y : Type 0} (g : X → Y) (l : List X) (n : ℕ) → length (map g l) ≡ n → length l ≡ n
-elements-kept g l n e = sym (length-map l g) ∙ e
 
 with-none : (t : Trace) → withBlocks [] t ≡ t
 unfolding withBlocks
@@ -67,9 +64,7 @@ module _ {s : Search} {limit : ℕ} {keep : Bool} {buffer : List ℕ} (i : Start
       record { some = z .some; few = z .few; inputs = omega (arith, z .inputs, length-tab (inputAt (s .n) (s .rows) (s .divisors)) 0 (s .m)); limited = z .budget; afford = z .conflicts; cuts = z .made }
 
   pub start-depth : s .depth < 33
-  start-depth =
-      let d : length (levelsFrom (s .n) (s .levels) (s .depth)) ≤ s .n = unfold model.depth coreOf coreOver in depth-fits (coreOf s) start-fits in
-      omega (arith, start-counts .few, length-levels (s .n) (s .levels) (s .depth))
+  start-depth = sizes s (i .valid) .shallow
 
   -- the rows with blanks, of the inputs that stand apart
   module _ (rows : List ℤ) (p : RowsPut (s .n) (s .m) (s .divisors) (replicate rowsLength (pos 0)) (s .rows) rows) (rl : length (s .rows) ≡ rowsLength) (dl : length (s .divisors) ≡ maxConstraints) where

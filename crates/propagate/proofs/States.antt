@@ -7,6 +7,7 @@ use mathlib.Core.Logic.{⊎-elim}
 use mathlib.Core.Path.{_≡_, refl, sym, ap, subst, _∙_}
 use lib.Dec.{T}
 use lib.IntN.{ℤ, pos}
+use lib.ListN.{length}
 use Rattle.model.specs.Lists.{tab, allOf}
 use Rattle.model.specs.Ranges.{within, maxVariables, maxConstraints, maxBudget, maxCoefficient}
 use Rattle.model.specs.Constraint.{inRange}
@@ -18,13 +19,15 @@ use Rattle.lists.proofs.Bools.{true-of, T-of, lt-or-le}
 use Rattle.lists.proofs.Tab.{length-tab, getD-tab}
 use Rattle.lists.proofs.AllOf.{allOf-getD, allOf-of, allOf-replicate}
 use Rattle.layout.specs.Rows.{numberIn, rowAt, inputAt, boxOf}
-use Rattle.state.specs.View.{levelOf, keptCuts, coreOver, numberFor}
+use Rattle.state.specs.View.{levelOf, levelsFrom, keptCuts, coreOver, coreOf, numberFor, view}
 use Rattle.state.specs.Change.{Whole}
 use Rattle.state.specs.declared.Level.{Level}
-use Rattle.state.proofs.Cores.{number-over}
+use Rattle.state.specs.declared.Search.{Search}
+use Rattle.state.proofs.Cores.{number-over, length-levels}
+use Rattle.validity.specs.Valid.{Valid}
 use Rattle.validity.proofs.Every.{every-out}
 use Rattle.validity.proofs.Moves.{Chosen}
-use Rattle.validity.proofs.States.{ConstraintFits, CoreFits}
+use Rattle.validity.proofs.States.{ConstraintFits, CoreFits, core-fits, sizes-fit, depth-fits}
 use Rattle.propagate.specs.Moves.{stopOf}
 use Rattle.propagate.specs.Propagation.{Propagation, propagation, propagationOf}
 use Rattle.propagate.specs.Ready.{keptRows, Ready}
@@ -96,3 +99,18 @@ module _ (n m made : ℕ) (rows lines divisors : List ℤ) (numbers : List ℕ) 
     pub state-chosen : Chosen (keptOver n m made rows lines divisors) (boxOf n (k .lower) (k .upper)) (stopOf found)
     unfolding propagationOf levelOf
     state-chosen = state-stopped .chosen
+
+-- ---- the sizes of a valid state
+pub record SizesFit (s : Search) : Type 0 where
+  pub few : s .n ≤ 32
+  pub shallow : s .depth < 33
+  pub afford : s .conflicts ≤ s .budget
+  pub limited : s .budget ≤ 1000000000
+
+pub sizes : (s : Search) → Valid (view s) → SizesFit s
+unfolding view coreOf coreOver
+sizes s v =
+    let z = sizes-fit (view s) (v .tests) in
+    let d : length (levelsFrom (s .n) (s .levels) (s .depth)) ≤ s .n =
+    unfold view model.depth coreOf coreOver in depth-fits (view s .core) (core-fits (view s) (v .shape) (v .tests)) in
+    record { few = z .few; shallow = omega (arith, d, z .few, length-levels (s .n) (s .levels) (s .depth)); afford = z .conflicts; limited = z .budget }

@@ -1,4 +1,4 @@
-// Changes of a level's bounds. Everything that sets a bound goes through these functions, and the minimum activities follow.
+// Changes of a level's bounds. Everything that sets a bound goes through `set`; `shift` lets the minimum activities follow, where they are kept.
 use layout::ROW;
 use linear::activity::term;
 ghost use mathlib.Core.Path.{_≡_};
@@ -13,7 +13,7 @@ ghost use Rattle.propagate.specs.Bounds.{Settable, BoundSet};
 
 // The minimum activities after the bounds of variable i changed, the lower one by `rise` and the upper one by `fall`, up to the first constraint that
 // is falsified now. Returns its position, or `kept`. Past a falsified constraint the activities are stale, and nobody reads them again.
-fn shift(
+pub fn shift(
     rows: &[i64; 4224],
     i: usize,
     rise: i64,
@@ -38,7 +38,13 @@ fn shift(
 }
 
 // Sets the bound of variable i on one side, and its reason. Returns by how much the bound changed.
-fn set(bounds: &mut [i64; 32], reasons: &mut [usize; 32], i: usize, v: i64, reason: usize) -> i64
+pub fn set(
+    bounds: &mut [i64; 32],
+    reasons: &mut [usize; 32],
+    i: usize,
+    v: i64,
+    reason: usize,
+) -> i64
     requires { ⌜ Settable i v (now bounds) (now reasons) ⌝ }
     ensures { λ r. ⌜ (r ≡ v -ℤ numberIn (now (bounds .entry)) i) × BoundSet i v reason (now (bounds .entry)) (now (reasons .entry)) (now (bounds .exit)) (now (reasons .exit)) ⌝ }
 {

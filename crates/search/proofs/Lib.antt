@@ -1,4 +1,5 @@
--- Laws of the calls: opening, turns from any valid state, and what the answers show.
+-- Laws of the calls: opening, turns from any valid state, striking out, and what the answers show.
 pub mod Openings
 pub mod Proceeding
 pub mod Showing
+pub mod Excluding

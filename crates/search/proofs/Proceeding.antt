@@ -1,21 +1,18 @@
 -- Turns repeated from any valid state: a marked one gives its verdict again.
-use Prim.Native.Nat.{ℕ, zero, suc, _-_, _≤_, _<_}
-use native.Mathlib.Omega.{arith}
+use Prim.Native.Nat.{ℕ, zero, suc}
 use mathlib.Core.Bool.{Bool}
 use mathlib.Core.List.{List, []}
 use mathlib.Core.Path.{_≡_, refl, sym, ap, subst, _∙_}
-use lib.ListN.{length}
 use Rattle.model.specs.Search as model
 use Rattle.model.specs.Step.{Verdict, goOn, noSolution, outOfBudget, solution, Outcome, blockIn, lowers, again, stepBy, step}
 use Rattle.model.specs.Trace.{Trace, withBlocks, lastStep, advanced, advance, joined}
-use Rattle.validity.proofs.States.{core-fits, sizes-fit, depth-fits}
 use Rattle.validity.specs.Valid.{Valid}
 use Rattle.validity.proofs.Steps.{step-valid, impossible}
-use Rattle.state.specs.View.{levelsFrom, coreOver, coreWith, coreOf, statusOf, view}
+use Rattle.state.specs.View.{statusOf, view}
 use Rattle.state.specs.declared.Search.{Search}
 use Rattle.state.specs.declared.Status.{Status}
 use Rattle.state.specs.declared.Status.the-variants.{Infeasible, Solved}
-use Rattle.state.proofs.Cores.{length-levels}
+use Rattle.propagate.proofs.States.{SizesFit, sizes}
 use Rattle.engine.specs.Advancing.{verdictOf, traceOf, Buffered, Advances}
 use Rattle.engine.specs.declared.Ending.{Ending}
 use Rattle.engine.specs.declared.Ending.the-variants.{GoOn, NoSolution, Solution}
@@ -35,21 +32,7 @@ unfolding advance
 advance-valid zero s v = v
 advance-valid (suc limit) s v = advanced-valid (step s .verdict) (step s) (advance limit) (step-valid s v) (advance-valid limit)
 
--- ---- the sizes of a valid state
-pub record SizesFit (s : Search) : Type 0 where
-  pub few : s .n ≤ 32
-  pub shallow : s .depth < 33
-  pub afford : s .conflicts ≤ s .budget
-  pub limited : s .budget ≤ 1000000000
-
-pub sizes : (s : Search) → Valid (view s) → SizesFit s
-unfolding view coreOf coreOver
-sizes s v =
-    let z = sizes-fit (view s) (v .tests) in
-    let d : length (levelsFrom (s .n) (s .levels) (s .depth)) ≤ s .n =
-    unfold view model.depth coreOf coreOver in depth-fits (view s .core) (core-fits (view s) (v .shape) (v .tests)) in
-    record { few = z .few; shallow = omega (arith, d, z .few, length-levels (s .n) (s .levels) (s .depth)); afford = z .conflicts; limited = z .budget }
-
+-- ---- the sizes of the state after them
 pub after-sizes : {s : model.Search} {limit : ℕ} {keep : Bool} {a : Advanced} {old now : List ℕ} → Valid s → Advances s limit keep a old now → SizesFit (a .state)
 unfolding traceOf
 after-sizes {s} {limit} {keep} {a} v h = sizes (a .state) (subst Valid (sym (ap (λ (t : Trace). t .state) (h .trace))) (advance-valid limit s v))

@@ -25,6 +25,7 @@ use Rattle.state.specs.declared.Level.{Level}
 use Rattle.state.specs.declared.Search.{Search}
 use Rattle.state.proofs.Shape.{view-shaped}
 use Rattle.validity.specs.Valid.{Valid}
+use Rattle.propagate.proofs.States.{sizes}
 use Rattle.engine.specs.Advancing.{verdictOf as modelVerdictOf, traceOf, Advances}
 use Rattle.engine.specs.declared.Ending.{Ending}
 use Rattle.engine.specs.declared.Ending.the-variants as ending
@@ -33,7 +34,6 @@ use Rattle.validity.proofs.Repeating.{advance-one, Same, run-same}
 use Rattle.search.specs.declared.Traced.{Traced}
 use Rattle.search.specs.Seen.{Seen, verdictOf, refusedIn, seenTraced, seenStepped, seenRan, valuesOf, noBlock, blockOr, shown, turn, blockIn, stepSeen, runSeen, traceSeen}
 use Rattle.search.specs.Answered.{caseOf, valuesAt, answered, refusal, ranOf}
-use Rattle.search.proofs.Proceeding.{sizes}
 
 -- ---- a state that passed the test
 pub valid-view : (s : Search) → valid (view s) ≡ true → Valid (view s)

@@ -2,3 +2,4 @@
 pub mod Opening
 pub mod Seen
 pub mod Answered
+pub mod Excluding

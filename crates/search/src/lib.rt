@@ -1,9 +1,11 @@
 // The public calls on a search: open a file, take a turn, run to a verdict, and run with the journal. None has a `requires`: each does its own checking.
 use problem::Answer;
 use state::Search;
+use state::Status;
 ghost use mathlib.Core.Path.{_≡_};
 ghost use Rattle.model.specs.Search.{openFile};
 ghost use Rattle.search.specs.Opening.{seenOpened, opening};
+ghost use Rattle.search.specs.Excluding.{seenExcluded, excludeSeen};
 ghost use Rattle.search.specs.Seen.{seenStepped, seenRan, seenTraced, stepSeen, runSeen, traceSeen};
 
 mod answers;
@@ -48,6 +50,21 @@ pub struct Traced {
     pub values: [i64; 32],
     pub count: usize,
     pub blocks: usize,
+    pub state: Search,
+}
+
+// What striking out a solution answers: 'struck'; 'ended' for one that no decision led to; 'no form' for a state that is not marked as solved; or 9 for one
+// that is not valid.
+pub enum Exclusion {
+    Struck,
+    Ended,
+    Unsolved,
+    Invalid,
+}
+
+// What striking out gives. Unless a solution was struck out, the state is the given one, whole.
+pub struct Excluded {
+    pub answer: Exclusion,
     pub state: Search,
 }
 
@@ -114,4 +131,36 @@ pub fn run(s: Search) -> Ran
     let a = answers::proceed(s, &mut unused, limit, false);
     let t = answers::answer(a);
     answers::without_blocks(t)
+}
+
+// Strikes out the solution that the state is marked with: a further turn goes on to the next one.
+pub fn exclude(s: Search) -> Excluded
+    ensures { λ r. ⌜ seenExcluded r ≡ excludeSeen s ⌝ }
+{
+    if !validate::is_valid(s) {
+        return Excluded {
+            answer: Exclusion::Invalid,
+            state: s,
+        };
+    }
+    let status = s.status;
+    match status {
+        Status::Solved => {
+            if 0 < s.depth {
+                let state = exclusion::strike(s);
+                return Excluded {
+                    answer: Exclusion::Struck,
+                    state,
+                };
+            }
+            Excluded {
+                answer: Exclusion::Ended,
+                state: s,
+            }
+        }
+        _ => Excluded {
+            answer: Exclusion::Unsolved,
+            state: s,
+        },
+    }
 }

@@ -11,6 +11,7 @@ use lib.Seq.{getD-set-same, getD-set-other}
 use Rattle.model.specs.Lists.{tab}
 use Rattle.model.specs.Constraint.{Constraint}
 use Rattle.model.specs.Search as model
+use Rattle.model.specs.Conflict.{backFrom, backUp}
 use borrow.Author.Tests.{lt-ltb, le-ltb}
 use Rattle.lists.proofs.Tab.{length-tab, tab-append, tab-ext, tab-ext-0}
 use Rattle.layout.specs.Rows.{constraintAt, rowAt, dividedAt, inputAt}
@@ -82,3 +83,11 @@ levels-dropped n levels d e h = go (d - e) d (omega arith)
     go zero d q = let z : d ≡ e = omega arith in rw z
     go (suc k) zero q = let z : ⊥ = omega arith in absurd z
     go (suc k) (suc d) q = go k d (omega arith)
+
+-- going back to level e + 1: level e with the decision of level e + 1 flipped
+pub backed-up : (inputs : List Constraint) (n m made : ℕ) (rows : List ℤ) (numbers : List ℕ) (levels : List Level) (d e : ℕ) → suc e ≤ d →
+    backUp (suc e) (coreOver inputs n m made rows numbers (levelAt n levels d) (levelsFrom n levels d)) ≡
+    coreOver inputs n m made rows numbers (model.flipAt (levelAt n levels (suc e) .decided) (levelAt n levels e)) (levelsFrom n levels e)
+unfolding backUp coreOver model.levels model.depth
+backed-up inputs n m made rows numbers levels d e h =
+    rw (length-levels n levels d, levels-dropped n levels d (suc e) h) (unfold levelsFrom backFrom model.withLevels in refl)

@@ -3,16 +3,16 @@ use Prim.Native.Nat.{ℕ, zero, suc, _+_, _-_, _≤_, _<_}
 use native.Mathlib.Omega.{arith}
 use mathlib.Core.List.{List, [], _∷_, _++_}
 use mathlib.Core.Path.{_≡_, refl, sym, ap, ap₂, _∙_}
-use lib.IntN.{ℤ, pos}
+use lib.IntN.{ℤ, pos, _+ℤ_, +ℤ-one}
 use lib.ListN.{getD, set, length}
 use lib.Seq.{getD-set-same, getD-set-other}
 use Rattle.model.specs.Lists.{tab}
-use Rattle.model.specs.Constraint.{Box, lowerAt}
+use Rattle.model.specs.Constraint.{Box, nextValue, lowerAt}
 use Rattle.model.specs.Search as model
 use Rattle.lists.proofs.Tab.{getD-tab, set-tab}
 use Rattle.layout.specs.Rows.{boxOf, numberIn}
 use Rattle.layout.proofs.Rows.{lower-at, box-lower, box-upper}
-use Rattle.state.specs.View.{reasonOf, reasonsIn, decisionReason, levelOf}
+use Rattle.state.specs.View.{reasonOf, reasonsIn, decisionReason, flippedReason, levelOf}
 use Rattle.state.specs.Change.{Whole, raised, lowered, decidedAt}
 use Rattle.state.specs.declared.Level.{Level}
 
@@ -64,3 +64,10 @@ module _ (n : ℕ) (l : Level) (w : Whole l) (few : n ≤ 32) where
   pub level-lower : (i : ℕ) → i < n → lowerAt (levelOf n l .box) i ≡ numberIn (l .lower) i
   unfolding levelOf
   level-lower i h = lower-at n (l .lower) (l .upper) i h
+
+  -- a decision that is flipped
+  pub level-flipped : (i : ℕ) → i < n → levelOf n (raised l i (numberIn (l .lower) i +ℤ pos 1) flippedReason) ≡ model.flipAt i (levelOf n l)
+  unfolding model.flipAt nextValue
+  level-flipped i h =
+      level-raised i (numberIn (l .lower) i +ℤ pos 1) flippedReason h ∙
+      (unfold reasonOf in rw (level-lower i h, +ℤ-one))

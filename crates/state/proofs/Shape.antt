@@ -2,11 +2,11 @@
 use Prim.Native.Nat.{ℕ, zero, suc, _+_, _*_, _<_, min}
 use native.Mathlib.Omega.{arith}
 use mathlib.Core.Bool.{true, _&&_}
-use mathlib.Core.List.{List, [], _∷_, _++_}
+use mathlib.Core.List.{List, [], _∷_, _++_, map}
 use mathlib.Core.Path.{_≡_, refl, sym, ap, subst, _∙_}
 use lib.Dec.{T, eqb, eqb-refl}
 use lib.IntN.{ℤ}
-use lib.ListN.{length}
+use lib.ListN.{length, length-map}
 use Rattle.model.specs.Lists.{tab, all, allOf}
 use Rattle.model.specs.Ranges.{maxCuts}
 use Rattle.model.specs.Constraint.{Constraint, modulus, isInequality}
@@ -22,6 +22,10 @@ use Rattle.state.specs.View.{reasonsIn, levelOf, noLevel, levelAt, level
 use Rattle.state.specs.declared.Level.{Level}
 use Rattle.state.specs.declared.Search.{Search}
 use Rattle.state.proofs.Cores.{kept-over}
+
+-- what owning an array of structs tells of its list
+pub elements-kept : {X Y : Type 0} (g : X → Y) (l : List X) (n : ℕ) → length (map g l) ≡ n → length l ≡ n
+elements-kept g l n e = sym (length-map l g) ∙ e
 
 same : (m n : ℕ) → m ≡ n → eqb m n ≡ true
 same m n e = subst (λ (k : ℕ). eqb m k ≡ true) e (true-of (eqb m m) (eqb-refl m))

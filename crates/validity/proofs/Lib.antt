@@ -15,4 +15,5 @@ pub mod Backjump
 pub mod Conflicts
 pub mod Descent
 pub mod Steps
+pub mod Excluding
 pub mod Repeating

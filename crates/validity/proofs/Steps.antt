@@ -1,31 +1,31 @@
 -- A step on every valid state, made-up ones too: it leaves a valid state, and a run from there ends.
 use Prim.Native.Nat.{ℕ, zero, suc, _+_, _-_, _≤_, _<_}
 use native.Mathlib.Omega.{arith}
-use mathlib.Core.Bool.{Bool, true, false, not, _&&_, _||_, cond}
-use mathlib.Core.List.{List, [], _∷_, _++_}
+use mathlib.Core.Bool.{Bool, true, false, not, _||_, cond}
+use mathlib.Core.List.{List, [], _∷_}
 use mathlib.Core.Option.{Option, none, some}
-use mathlib.Core.Path.{_≡_, refl, sym, ap, subst, _∙_}
+use mathlib.Core.Path.{_≡_, refl, subst, _∙_}
 use lib.Dec.{T, eqb, eqb→eq, eqb-refl}
-use lib.IntN.{ℤ, pos}
-use lib.ListN.{getD, length, drop, replicate, length-replicate}
+use lib.IntN.{pos}
+use lib.ListN.{getD, drop, replicate, length-replicate}
 use lib.Signed.{ltZ}
 use Rattle.model.specs.Lists.{allOf, anyOf}
 use Rattle.model.specs.Ranges.{within, maxCoefficient}
 use Rattle.model.specs.Constraint.{Constraint, Box, modulus, isOpen, falsified, inRange}
 use Rattle.model.specs.File.{noConstraint}
-use Rattle.model.specs.Search.{constraint, Level, Core, Status, undecided, infeasible, solved, Search, depth, levels, withLevels, withDeepest, kept, numberAt, raiseLower, lowerUpper, decideAt}
-use Rattle.model.specs.Move.{nextMove, Stop, follow, descend}
+use Rattle.model.specs.Search.{Level, Core, Status, undecided, infeasible, solved, Search, depth, levels, withLevels, withDeepest, kept}
+use Rattle.model.specs.Move.{nextMove, follow, descend}
 use Rattle.model.specs.Conflict.{Analysis, Numbered, Conflict, analyze, numbered, backjumpLevel, backFrom, backUp, settled, conflictOf, learning, nothingLearned, noLearning, conflictBy, atConflict}
 use Rattle.model.specs.Validity.{falsifies, anyFalsified, outermost, statusValid}
-use Rattle.model.specs.Step.{Verdict, goOn, noSolution, outOfBudget, solution, Outcome, withStatus, solvedBy, budgetSpent, verdictAt, statusAt, counted, onConflict, endedAt, ended, again, stepBy, step, continue, runFor, withoutBlock, run}
-use Rattle.integer.specs.Parts.{_⊑_, nlt-out}
+use Rattle.model.specs.Step.{Verdict, goOn, noSolution, outOfBudget, solution, Outcome, withStatus, solvedBy, budgetSpent, statusAt, counted, onConflict, endedAt, ended, again, stepBy, step, continue, runFor, withoutBlock, run}
+use Rattle.integer.specs.Parts.{nlt-out}
 use Rattle.integer.specs.Tests.{and-in}
 use Rattle.lists.proofs.Bools.{true-of, T-of}
 use Rattle.lists.proofs.AnyOf.{anyOf-getD}
 use Rattle.validity.specs.Valid.{Valid}
 use Rattle.validity.proofs.Boxes.{Fixed}
 use Rattle.validity.proofs.Constraints.{Inequality}
-use Rattle.validity.proofs.Moves.{Clear, Falsifies, Finishes, Raises, Lowers, Decides}
+use Rattle.validity.proofs.Moves.{Clear, Falsifies, Finishes}
 use Rattle.validity.proofs.States.{ConstraintFits, CoreFits, Sizes, core-fits, sizes-fit, fits-shaped, fits-valid, deepest-ordered, raise-fits, lower-fits, decide-fits}
 use Rattle.validity.proofs.Conflicts.{analyze-learned, Keeps, keeps-all, numbered-keeps, numbered-fits, numbered-falsifies, Back, backjump-back, back-outermost, back-fits}
 use Rattle.validity.proofs.Descent.{EndsAt, Ended, descend-keeps, descend-next}
@@ -61,10 +61,10 @@ pub record Settled (c : Core) (x : Conflict) : Type 0 where
   pub status : T (statusValid (x .core) (statusAt (x .back)))
 
 -- going back changes the levels alone
-record Sized (c d : Core) : Type 0 where
-  variables : d .variables ≡ c .variables
-  inputs : d .inputs ≡ c .inputs
-  made : d .made ≡ c .made
+pub record Sized (c d : Core) : Type 0 where
+  pub variables : d .variables ≡ c .variables
+  pub inputs : d .inputs ≡ c .inputs
+  pub made : d .made ≡ c .made
 
 from-sized : (ls : List Level) (c : Core) → Sized c (backFrom ls c)
 unfolding backFrom withLevels
@@ -72,10 +72,14 @@ from-sized [] c = record { variables = refl; inputs = refl; made = refl }
 from-sized (l ∷ []) c = record { variables = refl; inputs = refl; made = refl }
 from-sized (l ∷ o ∷ ls) c = record { variables = refl; inputs = refl; made = refl }
 
+pub back-sized : (d : ℕ) (c : Core) → Sized c (backUp d c)
+unfolding backUp
+back-sized d c = from-sized (drop (depth c - d) (levels c)) c
+
 settled-sized : (d : ℕ) (c : Core) → Sized c (settled d c)
-unfolding settled backUp
+unfolding settled
 settled-sized zero c = record { variables = refl; inputs = refl; made = refl }
-settled-sized (suc d) c = from-sized (drop (depth c - suc d) (levels c)) c
+settled-sized (suc d) c = back-sized (suc d) c
 
 settled-fits : (d : ℕ) (c n : Core) → Keeps c n → CoreFits n → d ≤ depth c → CoreFits (settled d n)
 unfolding settled depth
@@ -149,10 +153,11 @@ clear-status (k ∷ ks) box c = neither (falsified k box) (anyOf (falsifies box)
 valid-of : (s : Search) → CoreFits (s .core) → Sizes s → T (statusValid (s .core) (s .status)) → Valid s
 valid-of s f z t = record { shape = fits-shaped (s .core) f; tests = fits-valid s f z t }
 
-solved-valid : (s : Search) (c : Core) → Sizes s → Along (s .core) c → Finishes (kept c) (c .deepest .box) → Valid (solvedBy s c .state)
-unfolding solvedBy withStatus statusValid anyFalsified
-solved-valid s c z a f =
-    valid-of (withStatus s c solved) (a .fits)
+-- without a dead end, in a state with the same sizes that passes its mark's test
+pub status-valid : (s : Search) (c : Core) (m : Status) → Sizes s → Along (s .core) c → T (statusValid c m) → Valid (withStatus s c m)
+unfolding withStatus
+status-valid s c m z a t =
+    valid-of (withStatus s c m) (a .fits)
     (record {
       some = rw (a .variables) (z .some);
       few = rw (a .variables) (z .few);
@@ -161,6 +166,12 @@ solved-valid s c z a f =
       conflicts = z .conflicts;
       made = rw (a .made) (z .made);
     })
+    t
+
+solved-valid : (s : Search) (c : Core) → Sizes s → Along (s .core) c → Finishes (kept c) (c .deepest .box) → Valid (solvedBy s c .state)
+unfolding solvedBy statusValid anyFalsified
+solved-valid s c z a f =
+    status-valid s c solved z a
     (and-in (not (anyOf isOpen (c .deepest .box))) (not (anyOf (falsifies (c .deepest .box)) (kept c))) (fixed-status (c .deepest .box) (f .fixed)) (clear-status (kept c) (c .deepest .box) (f .clear)))
 
 counted-valid : (s : Search) (c : Core) (x : Conflict) → Sizes s → Along (s .core) c → Settled c x → s .conflicts < s .budget → Valid (counted s x .state)

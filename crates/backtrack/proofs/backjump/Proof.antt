@@ -2,38 +2,21 @@
 use native.Mathlib.Omega.{arith}
 use mathlib.Core.Path.{_≡_, _∙_}
 use denote.Ref.{now}
-use lib.Dec.{lit<, lit≤}
-use lib.IntN.{pos, _+ℤ_}
+use lib.Dec.{lit≤}
+use lib.IntN.{pos, _+ℤ_, _-ℤ_}
 use lib.ListN.{length-set}
 use mir.Facts.{toZ-ofZ}
 use mir.Syntax.{w64}
 use mir.Val.{SFits, toZ, ofZ}
-use Rattle.model.specs.Ranges.{maxBound}
-use Rattle.integer.specs.Size.{Within, weaken}
-use Rattle.integer.specs.Tests.{back}
+use Rattle.integer.specs.Size.{weaken}
 use Rattle.lists.proofs.Bools.{true-of}
 use Rattle.linear.proofs.Ranges.{lower-within}
 use Rattle.layout.specs.Rows.{numberIn}
 use Rattle.propagate.proofs.Tracking.{shiftable, told-set, raised-closes}
-use Rattle.backtrack.proofs.Moving.{flipped-above, flipped-settable}
+use Rattle.backtrack.proofs.Moving.{flipped-above, flipped-rise}
 use borrow.Author.Needs.{needs}
 use Rattle.backtrack.proofs.backjump.Statement.{statement}
 use Rattle.backtrack.proofs.backjump.Tie as tie
-
--- the lower bound, and the value after it, as they are read
-size : (s : tie.Start) → Within maxBound (numberIn (now (s .args .lower)) (s .args .i))
-size s = lower-within _ (now (s .args .lower)) (now (s .args .upper)) (true-of _ (s .pre .0 .fits .bounds)) (s .args .i) (s .pre .0 .variable)
-
-value : (s : tie.Start) → toZ w64 (ofZ w64 (numberIn (now (s .args .lower)) (s .args .i))) ≡ numberIn (now (s .args .lower)) (s .args .i)
-value s = back (lit< tt) (size s)
-
-next : (c : tie.After-next-value) →
-    let s = c .before .before .before .before .before .before .before .before .before .before .before .before .before in
-    toZ w64 (ofZ w64 (c .next-value .result)) ≡ numberIn (now (s .args .lower)) (s .args .i) +ℤ pos 1
-unfolding numberIn
-next c =
-    let f : SFits w64 (c .next-value .result) = search needs in
-    toZ-ofZ f ∙ rw (value (c .before .before .before .before .before .before .before .before .before .before .before .before .before)) at (c .next-value .ensures)
 
 mul-earlier : tie.Need-mul-earlier
 mul-earlier c = search needs
@@ -60,42 +43,41 @@ measure-requires c κs =
     let t = c .before .before .before .before .take-back .ensures in
     rw (c .before .before .before .kept-count .ensures) (c .before .before .before .before .before .before .before .before .before .before .pre .0 .fits, (omega (arith, t .0), t .1))
 
-mul-next-value : tie.Need-mul-next-value
-mul-next-value c = search needs
+-- by how much the lower bound rises, as it is read
+rise : (c : tie.After-flip) →
+    let s = c .before .before .before .before .before .before .before .before .before .before .before .before .before .before in
+    toZ w64 (ofZ w64 (c .flip .result)) ≡ numberIn (now (s .args .lower)) (s .args .i) +ℤ pos 1 -ℤ numberIn (now (s .args .lower)) (s .args .i)
+rise c =
+    let f : SFits w64 (c .flip .result) = search needs in
+    toZ-ofZ f ∙ c .flip .ensures .0
 
-element-copy-out-next-value : tie.Need-element-copy-out-next-value
-element-copy-out-next-value c = search needs
-
-next-value-requires : tie.Need-next-value-requires
-unfolding numberIn
-next-value-requires c κs =
-    let s = c .before .before .before .before .before .before .before .before .before .before .before .before in
-    rw (value s) (weaken (lit≤ tt) (size s))
-
-raise-lower-requires : tie.Need-raise-lower-requires
-unfolding numberIn
-raise-lower-requires c κs =
-    let s = c .before .before .before .before .before .before .before .before .before .before .before .before .before .before .before .before in
+flip-requires : tie.Need-flip-requires
+flip-requires c κs =
+    let s = c .before .before .before .before .before .before .before .before .before .before .before .before .before in
     let p = s .pre .0 in
-    let k = c .before .before .before .before .before .before .before .before .before .kept-count .ensures in
-    let z = flipped-settable _ _ _ _ _ (now (s .args .below)) _ (p .fits) (p .variable) (p .lowers) (p .next) in
-    rw (next (c .before .before .before), k) (z, shiftable _ _ _ _ _ _ _ _ _ _ (p .fits) (rw k at (c .before .before .before .before .before .measure .ensures)) (p .variable) (z .change) (record { within = omega arith }))
+    (omega (arith, p .fits .few, p .variable), weaken (lit≤ tt) (lower-within _ (now (s .args .lower)) (now (s .args .upper)) (true-of _ (p .fits .bounds)) (s .args .i) (p .variable)))
+
+shift-requires : tie.Need-shift-requires
+shift-requires c κs =
+    let s = c .before .before .before .before .before .before .before .before .before .before .before .before .before .before .before in
+    let p = s .pre .0 in
+    let k = c .before .before .before .before .before .before .before .before .kept-count .ensures in
+    rw (rise (c .before), k)
+    (shiftable _ _ _ _ _ _ _ _ _ _ (p .fits) (rw k at (c .before .before .before .before .measure .ensures)) (p .variable) (flipped-rise (numberIn (now (s .args .lower)) (s .args .i))) (record { within = omega arith }))
 
 returns : tie.Need-returns
-unfolding numberIn
 returns c =
-    let s = c .before .before .before .before .before .before .before .before .before .before .before .before .before .before .before .before .before in
+    let s = c .before .before .before .before .before .before .before .before .before .before .before .before .before .before .before .before in
     let a = s .args in
     let p = s .pre .0 in
-    let k = c .before .before .before .before .before .before .before .before .before .before .kept-count .ensures in
-    let e = next (c .before .before .before .before) in
-    let set = rw e at (c .raise-lower .ensures .0) in
-    let t = rw (e, k) at (c .raise-lower .ensures .1) in
+    let k = c .before .before .before .before .before .before .before .before .before .kept-count .ensures in
+    let set = c .before .before .flip .ensures .1 in
+    let t = rw (rise (c .before .before), k) at (c .shift .ensures) in
     record {
       bound = set .bound;
       why = set .why;
-      told = rw (set .bound) (told-set _ _ _ _ _ _ _ _ _ _ _ _ _ _ (rw k at (c .before .before .before .before .before .before .measure .ensures)) (p .next) (length-set (now (a .lower)) _ _ ∙ p .lowers) (p .uppers)
-          (raised-closes _ _ _ _ (a .i) _ (p .variable) (omega (arith, p .fits .few, p .lowers)) (flipped-above _ _ _ _ _ (now (a .below)) _ (p .fits) (p .variable))) t);
+      told = rw (set .bound) (told-set _ _ _ _ _ _ _ _ _ _ _ _ _ _ (rw k at (c .before .before .before .before .before .measure .ensures)) (p .next) (length-set (now (a .lower)) _ _ ∙ p .lowers) (p .uppers)
+          (raised-closes _ _ _ _ (a .i) _ (p .variable) (omega (arith, p .fits .few, p .lowers)) (flipped-above (numberIn (now (a .lower)) (a .i)))) t);
     }
 
 pub backjump-spec : {M : Type 1} → statement M
@@ -109,8 +91,6 @@ backjump-spec =
     take-back-requires
     kept-count-requires
     measure-requires
-    mul-next-value
-    element-copy-out-next-value
-    next-value-requires
-    raise-lower-requires
+    flip-requires
+    shift-requires
     returns)

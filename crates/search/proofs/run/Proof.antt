@@ -3,7 +3,8 @@ use borrow.Author.Needs.{needs}
 use native.Mathlib.Omega.{arith}
 use mathlib.Core.Path.{refl}
 use Rattle.lists.proofs.Bools.{clash, said-no, said-yes}
-use Rattle.search.proofs.Proceeding.{sizes, after-sizes}
+use Rattle.propagate.proofs.States.{sizes}
+use Rattle.search.proofs.Proceeding.{after-sizes}
 use Rattle.search.proofs.Showing.{valid-view, run-shown, run-refused}
 use Rattle.search.proofs.run.Statement.{statement}
 use Rattle.search.proofs.run.Tie as tie

@@ -8,6 +8,7 @@ use lib.ListN.{length}
 use Rattle.layout.specs.Rows.{rowsLength}
 use Rattle.state.specs.View.{view, statusOf}
 use Rattle.state.specs.Change.{Whole}
+use Rattle.state.proofs.Shape.{elements-kept}
 use Rattle.propagate.specs.Divided.{Everyone}
 use Rattle.propagate.proofs.Steps.{scan-fits}
 use Rattle.propagate.proofs.Tracking.{scan-box}
@@ -15,7 +16,7 @@ use Rattle.propagate.proofs.Warning.{testable, warned}
 use Rattle.backtrack.proofs.Saving.{saved-none}
 use Rattle.engine.proofs.Running.{Running}
 use Rattle.engine.proofs.Arms.{exits}
-use Rattle.engine.proofs.Starting.{startOf, start-counts, start-depth, running-starts, elements-kept}
+use Rattle.engine.proofs.Starting.{startOf, start-counts, start-depth, running-starts}
 use Rattle.engine.proofs.Carrying.{tracked-none}
 use Rattle.engine.proofs.Rounds.{ready}
 use Rattle.engine.proofs.advance.advance.Tie as tie

@@ -1,0 +1,2 @@
+-- Laws of striking out a solution.
+pub mod Striking
