@@ -28,8 +28,8 @@ use Rattle.search.specs.Seen.{valuesOf}
 use Rattle.search.specs.declared.Opened.{Opened}
 use Rattle.search.specs.declared.Ran.{Ran}
 use Rattle.search.specs.declared.Verdict.the-variants as verdict
-use Rattle.calls.specs.Calls.{Opens, Call, stepped, traced, ran, Makes, told, ListFrom, stateIn, journalOf, NoRun, untilRun, stepsIn, stepsOf, SameAnswer, CallAfter, Decided, Opening, RunOf, CallsHold}
-use Rattle.calls.proofs.Shown.{caseOf, case-valid, case-goes, case-none}
+use Rattle.calls.specs.Calls.{Opens, Call, ran, Makes, told, ListFrom, stateIn, journalOf, NoRun, untilRun, stepsIn, stepsOf, SameAnswer, CallAfter, Decided, Opening, RunOf, CallsHold}
+use Rattle.calls.proofs.Shown.{caseOf, case-valid, case-plain}
 use Rattle.calls.proofs.Lists.{journal-end, journal-prefix, CallTells, call-tells, Follows, follows, one-more, steps-more, no-run}
 
 -- a run's answer is that of the model's
@@ -38,9 +38,9 @@ pub record RunTells (q : Ran) (o : Outcome) : Type 0 where
   pub values : q .values ≡ valuesOf (o .verdict)
 
 -- ---- an accepted file
-record Fresh (o : Opened) (m : model.Search) : Type 0 where
-  done : o .answer ≡ Done
-  start : view (o .state) ≡ m
+pub record Fresh (o : Opened) (m : model.Search) : Type 0 where
+  pub done : o .answer ≡ Done
+  pub start : view (o .state) ≡ m
 
 stateOr : model.Search → Result model.Search → model.Search
 stateOr d (ok s) = s
@@ -60,7 +60,7 @@ opened-by ShortBuffer s m e = impossible (cc)
 opened-by InvalidSearch s m e = impossible (cc)
 opened-by DivisorRange s m e = impossible (cc)
 
-fresh : (f : List ℕ) → Accepted f → (o : Opened) → Opens f o → Fresh o (openProblem (problemIn f))
+pub fresh : (f : List ℕ) → Accepted f → (o : Opened) → Opens f o → Fresh o (openProblem (problemIn f))
 unfolding seenOpened
 fresh f a o e =
     let q : opening (openFile f) .answer ≡ ok (openProblem (problemIn f)) = rw (demand-3 .opens f a) (unfold opening in refl) in
@@ -71,7 +71,7 @@ fresh f a o e =
 decided : (p : Problem) (q : Ran) (v : ModelVerdict) → q .verdict ≡ caseOf v → q .values ≡ valuesOf v → Decides p v → Decided p q
 decided p q v e u d =
     record {
-      none-iff = ((λ h. d .none-iff .0 (case-none v (sym e ∙ h))), (λ h. e ∙ ap caseOf (d .none-iff .1 h) ∙ (unfold caseOf in refl)));
+      none-iff = ((λ h. d .none-iff .0 (case-plain v verdict.NoSolution tt (sym e ∙ h))), (λ h. e ∙ ap caseOf (d .none-iff .1 h) ∙ (unfold caseOf in refl)));
       else-first = λ n. first (d .else-first (λ h. n (e ∙ ap caseOf h ∙ (unfold caseOf in refl))));
     }
   where
@@ -182,7 +182,7 @@ module _ (f : List ℕ) (a : Accepted f) (o : Opened) (h : Opens f o) (q : Ran) 
         blocks = journal (suc (t .last)) m;
         whole = sym run-count;
         call = call;
-        ended = ((λ e. t .reached (sym first ∙ case-goes (run m .verdict) (sym (run-is .verdict) ∙ e))), (λ e. case-valid (run m .verdict) (sym (run-is .verdict) ∙ e)));
+        ended = ((λ e. t .reached (sym first ∙ case-plain (run m .verdict) verdict.GoOn tt (sym (run-is .verdict) ∙ e))), (λ e. case-valid (run m .verdict) (sym (run-is .verdict) ∙ e)));
         decides = enough;
         or-spent = ⊎-elim (λ (e : points (p .domain) < p .budget). inl (enough (omega arith))) (λ (e : p .budget ≤ points (p .domain)). or-spent (t .smaller (p .budget) (points (p .domain)) e)) (lt-or-le (points (p .domain)) (p .budget));
       }

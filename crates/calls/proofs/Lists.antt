@@ -1,19 +1,18 @@
 -- A list of calls that somebody makes takes turns of the model's list.
-use Prim.Native.Nat.{ℕ, zero, suc, _+_, _-_, _*_, _/_, _≤_, _<_}
+use Prim.Native.Nat.{ℕ, zero, suc, _+_, _-_, _/_, _≤_, _<_}
 use native.Mathlib.Numerals.{add-one}
 use native.Mathlib.Omega.{arith}
-use mathlib.Core.Bool.{Bool, true, cond}
+use mathlib.Core.Bool.{Bool}
 use mathlib.Core.List.{List, [], _∷_, _++_, append-nil, append-assoc}
-use mathlib.Core.Logic.{_⊎_, inl, inr, ⊎-elim}
-use mathlib.Core.Path.{_≡_, refl, sym, ap, ap₂, subst, _∙_}
-use lib.ListN.{length, take, drop, length-append}
+use mathlib.Core.Logic.{⊎-elim}
+use mathlib.Core.Path.{_≡_, refl, sym, ap, ap₂, _∙_}
+use lib.ListN.{length, take, length-append}
 use lib.Seq.{take-at, drop-at, take-append-seam, take-length}
 use Rattle.model.specs.Bytes.{blockLength}
-use Rattle.model.specs.Problem.{Problem, Result, ok}
+use Rattle.model.specs.Problem.{Problem, ok}
 use Rattle.model.specs.Search as model
-use Rattle.model.specs.Validity.{valid}
-use Rattle.model.specs.Step.{goOn, Outcome, blockIn, step, stepCall, checked, runCall, run, withoutBlock}
-use Rattle.model.specs.Trace.{Trace, Traced as ModelTraced, lastStep, advance, joined, written, tracedBy, traceCall}
+use Rattle.model.specs.Step.{blockIn, step, stepCall, checked, runCall, run}
+use Rattle.model.specs.Trace.{Trace, lastStep, advance, joined, written, tracedBy, traceCall}
 use Rattle.model.specs.Demand.{after, stateAfter, answerAt, blocksIn, journal, stepsTogether, Steps}
 use Rattle.lists.proofs.Bools.{lt-or-le}
 use Rattle.soundness.proofs.Together.{state-add, journal-add, Long, journal-long}
@@ -28,7 +27,7 @@ use Rattle.calls.specs.Calls.{Call, stepped, traced, ran, Makes, told, L
 use Rattle.calls.proofs.Shown.{caseOf, Tells, run-tells, trace-tells, step-tells}
 
 -- ---- blocks in a buffer
-blocks-back : (bs : List (List ℕ)) (rest : List ℕ) → Long bs → blocksAt (length bs) (joined bs ++ rest) ≡ bs
+pub blocks-back : (bs : List (List ℕ)) (rest : List ℕ) → Long bs → blocksAt (length bs) (joined bs ++ rest) ≡ bs
 unfolding blocksAt joined
 blocks-back [] rest h = refl
 blocks-back (b ∷ bs) rest h =

@@ -4,13 +4,13 @@ use native.Mathlib.Omega.{arith}
 use mathlib.Core.Bool.{Bool, true, false, cond}
 use mathlib.Core.List.{List, [], _∷_}
 use mathlib.Core.Option.{Option, none, some}
-use mathlib.Core.Path.{_≡_, refl, sym, ap, _∙_}
+use mathlib.Core.Path.{_≡_, refl, sym, ap, subst, _∙_}
 use lib.IntN.{ℤ}
 use lib.ListN.{length}
 use Rattle.model.specs.Problem.{Result, ok, error}
 use Rattle.model.specs.Search as model
 use Rattle.model.specs.Step.{Verdict as ModelVerdict, goOn, noSolution, outOfBudget, solution, Outcome, blockIn as blocksIn, stepCall, runCall}
-use Rattle.model.specs.Trace.{Trace, Traced as ModelTraced, lastStep, written, traceCall}
+use Rattle.model.specs.Trace.{Trace, lastStep, written, traceCall}
 use Rattle.state.specs.View.{view}
 use Rattle.state.specs.declared.Search.{Search}
 use Rattle.validity.proofs.Steps.{impossible}
@@ -48,19 +48,34 @@ case-valid noSolution e = impossible (cc)
 case-valid outOfBudget e = impossible (cc)
 case-valid (solution x) e = impossible (cc)
 
-pub case-goes : (v : ModelVerdict) → caseOf v ≡ GoOn → v ≡ goOn
-unfolding caseOf
-case-goes goOn e = refl
-case-goes noSolution e = impossible (cc)
-case-goes outOfBudget e = impossible (cc)
-case-goes (solution x) e = impossible (cc)
+-- a verdict without values is known by its case
+abbrev Plain : Verdict → Type 0
+Plain GoOn = Unit {0}
+Plain NoSolution = Unit {0}
+Plain OutOfBudget = Unit {0}
+Plain Solution = ⊥
+Plain Invalid = ⊥
 
-pub case-none : (v : ModelVerdict) → caseOf v ≡ NoSolution → v ≡ noSolution
+abbrev pub plainOf : Verdict → ModelVerdict
+plainOf GoOn = goOn
+plainOf NoSolution = noSolution
+plainOf OutOfBudget = outOfBudget
+plainOf Solution = goOn
+plainOf Invalid = goOn
+
+pub case-plain : (v : ModelVerdict) (k : Verdict) → Plain k → caseOf v ≡ k → v ≡ plainOf k
 unfolding caseOf
-case-none goOn e = impossible (cc)
-case-none noSolution e = refl
-case-none outOfBudget e = impossible (cc)
-case-none (solution x) e = impossible (cc)
+case-plain goOn k h e = ap plainOf e
+case-plain noSolution k h e = ap plainOf e
+case-plain outOfBudget k h e = ap plainOf e
+case-plain (solution x) k h e = absurd (subst Plain (sym e) h)
+
+pub case-solution : (v : ModelVerdict) → caseOf v ≡ Solution → (x : List ℤ) × (v ≡ solution x)
+unfolding caseOf
+case-solution goOn e = impossible (cc)
+case-solution noSolution e = impossible (cc)
+case-solution outOfBudget e = impossible (cc)
+case-solution (solution x) e = (x, refl)
 
 -- ---- what an answer that is not refused tells
 pub record Tells (r : Traced) (new : List ℕ) (t : Trace) (bytes : List ℕ) : Type 0 where

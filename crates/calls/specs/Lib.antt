@@ -1,2 +1,3 @@
--- The claim.
+-- The claims.
 pub mod Calls
+pub mod Listing

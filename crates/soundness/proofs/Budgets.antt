@@ -3,12 +3,12 @@ use Prim.Native.Nat.{ℕ, zero, suc, _+_, _-_, _≤_, _<_}
 use native.Mathlib.Omega.{arith}
 use mathlib.Core.Logic.{_⊎_, inl, inr}
 use mathlib.Core.Option.{Option, none, some}
-use mathlib.Core.Path.{_≡_, refl, sym, ap, subst, _∙_}
+use mathlib.Core.Path.{_≡_, refl, sym, ap, _∙_}
 use Rattle.model.specs.Problem.{Problem, variables}
 use Rattle.model.specs.Search.{Core, Status, undecided, infeasible, solved, Search, levelOf, coreOf, openProblem}
 use Rattle.model.specs.Move.{descend}
 use Rattle.model.specs.Conflict.{atConflict}
-use Rattle.model.specs.Step.{Verdict, goOn, noSolution, outOfBudget, solution, Outcome, withStatus, solvedBy, budgetSpent, counted, onConflict, endedAt, ended, again, stepBy, step, continue, runFor, withoutBlock, run}
+use Rattle.model.specs.Step.{Verdict, goOn, noSolution, outOfBudget, solution, Outcome, solvedBy, budgetSpent, counted, onConflict, endedAt, ended, again, stepBy, step, continue, runFor, withoutBlock, run}
 use Rattle.model.specs.Demand.{withBudget, verdictWith}
 use Rattle.validity.proofs.Steps.{spent-or-counted, impossible}
 

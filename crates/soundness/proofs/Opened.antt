@@ -1,10 +1,9 @@
 -- The state of a search from an opening: no solution is lost, fewer points are left after each conflict, and a point reached is the first solution.
-use Prim.Native.Nat.{ℕ, zero, suc, _+_, _-_, _≤_, _<_}
+use Prim.Native.Nat.{ℕ, zero, suc, _-_, _≤_, _<_}
 use native.Mathlib.Omega.{arith}
 use mathlib.Core.List.{List, [], _∷_, _++_, map}
-use mathlib.Core.Logic.{_⊎_, inl, inr, ⊎-elim}
-use mathlib.Core.Option.{Option, none, some}
-use mathlib.Core.Path.{_≡_, refl, sym, ap, subst, _∙_}
+use mathlib.Core.Logic.{inl, inr, ⊎-elim}
+use mathlib.Core.Path.{_≡_, refl, sym, subst, _∙_}
 use lib.Dec.{T}
 use lib.IntN.{ℤ, pos, zero-*ℤ}
 use lib.ListN.{getD, length, drop, replicate, length-drop}
@@ -12,34 +11,36 @@ use native.Mathlib.Nat.{sub-zero}
 use Rattle.model.specs.Constraint.{Constraint, Box, modulus, falsified, rounded}
 use Rattle.model.specs.File.{noConstraint}
 use Rattle.model.specs.Problem.{Problem, variables}
-use Rattle.model.specs.Search.{constraint, Level, Core, Status, undecided, infeasible, solved, Search, depth, levels, withLevels, withDeepest, kept, numberAt, raiseLower, lowerUpper, decideAt}
-use Rattle.model.specs.Move.{Stop, descend}
-use Rattle.model.specs.Conflict.{Conflict, analyze, numbered, backjumpLevel, backFrom, backUp, settled, conflictOf, learning, nothingLearned, noLearning, conflictBy, atConflict}
-use Rattle.model.specs.Points.{Point, Inside, dot, value, Meets, MeetsAll, Solution, Before, First}
+use Rattle.model.specs.Search.{constraint, Level, Core, depth, levels, withLevels, withDeepest, kept, numberAt, raiseLower, lowerUpper, decideAt}
+use Rattle.model.specs.Move.{descend}
+use Rattle.model.specs.Conflict.{analyze, numbered, backjumpLevel, backFrom, backUp, settled, conflictOf, learning, nothingLearned, noLearning, conflictBy, atConflict}
+use Rattle.model.specs.Points.{Point, Inside, dot, value, Meets, MeetsAll, Solution, FirstOf}
 use Rattle.model.specs.Step.{lowers}
 use Rattle.validity.proofs.Boxes.{Fixed, Ordered, Nested, nested-refl, nested-inside, set-lower-nested, set-upper-nested, set-lower-ordered, set-upper-ordered, set-lower-inside, set-upper-inside, lowers-inside, fixed-only}
-use Rattle.soundness.proofs.Sizes.{size, size-nested}
+use Rattle.soundness.proofs.Sizes.{size-nested}
 use Rattle.validity.proofs.Constraints.{Inequality, rounded-meets, fixed-meets}
 use Rattle.validity.proofs.Moves.{Clear, Falsifies, Finishes, Raises, Lowers, Decides}
 use Rattle.validity.proofs.States.{Every, CoreFits, raise-fits, lower-fits, decide-fits, deepest-ordered}
 use Rattle.validity.proofs.Elements.{every-right, every-append, every-map, every-getD}
 use Rattle.validity.proofs.Conflicts.{analyze-learned, MeetsInequalities, analyze-meets, Keeps, keeps-all, numbered-keeps, numbered-every, Back, backjump-back}
-use Rattle.soundness.proofs.Remaining.{Chain, Remains, remaining, chain-ordered, chain-domain, chain-smaller, remains-smaller, remaining-smaller, chain-decided, remains-decided, remaining-decided, FalsifiedTo, RemainsAfter, remainingAfter, ChainAfter, remains-back, remaining-back, chain-back, falsified-to, remains-later}
-use Rattle.validity.proofs.Descent.{EndsAt, Ended, descend-keeps}
+use Rattle.soundness.proofs.Remaining.{Chain, Remains, remaining, inside-remains, chain-ordered, chain-domain, chain-smaller, remains-smaller, remaining-smaller, chain-decided, remains-decided, decided-remains, remaining-decided, RemainsAfter, remainingAfter, ChainAfter, remains-back, back-remains, remaining-back, chain-back, falsified-to, remains-later}
+use Rattle.validity.proofs.Descent.{Ended, descend-keeps}
 use Rattle.validity.proofs.Steps.{Settled}
 
 -- met by every point that meets the problem's inequalities, inside the limits or not
 abbrev pub Implied : Problem → Constraint → Type 0
 Implied p k = (x : Point) → MeetsInequalities x (p .constraints) → Meets x k
 
--- the state of a search from an opening of p, with at most `room` points left
-pub record Sound (p : Problem) (room : ℕ) (c : Core) : Type 0 where
+-- the state of a search from an opening of p, with at most `room` points left. Left are the solutions that are not struck out: those in what remains
+pub record Sound (p : Problem) (Left : Point → Type 0) (room : ℕ) (c : Core) : Type 0 where
   pub fits : CoreFits c
   pub variables : c .variables ≡ variables p
   pub inputs : c .inputs ≡ map rounded (p .constraints)
   pub implied : Every (λ k. Inequality k → Implied p k) (kept c)
   pub chain : Chain (p .domain) (c .deepest) (c .outer)
-  pub cover : (x : Point) → Solution p x → Remains x (c .deepest) (c .outer)
+  pub solves : (x : Point) → Left x → Solution p x
+  pub cover : (x : Point) → Left x → Remains x (c .deepest) (c .outer)
+  pub exact : (x : Point) → Solution p x → Remains x (c .deepest) (c .outer) → Left x
   pub left : remaining (c .deepest) (c .outer) ≤ room
 
 -- ---- a solution meets what is kept: the inputs as it does the problem's constraints, the cuts as they follow from them
@@ -55,17 +56,17 @@ cuts-met : (p : Problem) (x : Point) (ks : List Constraint) → MeetsInequalitie
 cuts-met p x [] m e i = tt
 cuts-met p x (k ∷ ks) m e i = (i .0 (e .0) x m, cuts-met p x ks m (e .1) (i .1))
 
-kept-met : (p : Problem) (room : ℕ) (c : Core) (x : Point) → Sound p room c → Solution p x → Every (Meets x) (kept c)
+kept-met : (p : Problem) (Left : Point → Type 0) (room : ℕ) (c : Core) (x : Point) → Sound p Left room c → Solution p x → Every (Meets x) (kept c)
 unfolding kept
-kept-met p room c x s z =
+kept-met p Left room c x s z =
     every-append (Meets x) (c .inputs) (c .cuts) (rw (s .inputs) (rounded-met x (p .constraints) (z .meets)))
     (cuts-met p x (c .cuts) (meets-inequalities x (p .constraints) (z .meets)) (s .fits .inequalities)
     (every-right (λ k. Inequality k → Implied p k) (c .inputs) (c .cuts) (unfold kept in s .implied)))
 
-module _ (p : Problem) (room : ℕ) where
+module _ (p : Problem) (Left : Point → Type 0) (room : ℕ) where
   -- a smaller box that keeps the solutions
-  smaller : (c : Core) (l : Level) → Sound p room c → CoreFits (withDeepest c l) → l .decided ≡ c .deepest .decided → Ordered (l .box) →
-      Nested (l .box) (c .deepest .box) → ((x : Point) → Solution p x → Inside x (c .deepest .box) → Inside x (l .box)) → Sound p room (withDeepest c l)
+  smaller : (c : Core) (l : Level) → Sound p Left room c → CoreFits (withDeepest c l) → l .decided ≡ c .deepest .decided → Ordered (l .box) →
+      Nested (l .box) (c .deepest .box) → ((x : Point) → Solution p x → Inside x (c .deepest .box) → Inside x (l .box)) → Sound p Left room (withDeepest c l)
   unfolding withDeepest withLevels kept
   smaller c l s f e o n k =
       record {
@@ -74,27 +75,29 @@ module _ (p : Problem) (room : ℕ) where
         inputs = s .inputs;
         implied = s .implied;
         chain = chain-smaller (c .deepest) l e (p .domain) (c .outer) o n (s .chain);
-        cover = λ x z. remains-smaller (c .deepest) l e x (c .outer) (k x z) (s .cover x z);
+        solves = s .solves;
+        cover = λ x z. remains-smaller (c .deepest) l e x (c .outer) (k x (s .solves x z)) (s .cover x z);
+        exact = λ x z r. s .exact x z (remains-smaller l (c .deepest) (sym e) x (c .outer) (nested-inside x (l .box) (c .deepest .box) n) r);
         left = omega (arith, s .left, remaining-smaller (c .deepest) l e (c .outer) (size-nested (l .box) (c .deepest .box) o n));
       }
 
-  sound-raise : (c : Core) (j i : ℕ) (v : ℤ) → Sound p room c → Raises (kept c) (c .deepest .box) j i v → Sound p room (withDeepest c (raiseLower i v (constraint (numberAt c j)) (c .deepest)))
+  sound-raise : (c : Core) (j i : ℕ) (v : ℤ) → Sound p Left room c → Raises (kept c) (c .deepest .box) j i v → Sound p Left room (withDeepest c (raiseLower i v (constraint (numberAt c j)) (c .deepest)))
   sound-raise c j i v s m =
       let box = c .deepest .box in
       smaller c (raiseLower i v (constraint (numberAt c j)) (c .deepest)) s (raise-fits c j i v (s .fits) m) (unfold raiseLower in refl)
       (unfold raiseLower in set-lower-ordered i v box (chain-ordered (p .domain) (c .deepest) (c .outer) (s .chain)) (m .fits))
       (unfold raiseLower in set-lower-nested i v box (omega (arith, m .better)))
-      (λ x z q. unfold raiseLower in set-lower-inside i v box x q (m .implied x q (every-getD (Meets x) (kept c) j noConstraint (m .constraint) (kept-met p room c x s z))))
+      (λ x z q. unfold raiseLower in set-lower-inside i v box x q (m .implied x q (every-getD (Meets x) (kept c) j noConstraint (m .constraint) (kept-met p Left room c x s z))))
 
-  sound-lower : (c : Core) (j i : ℕ) (v : ℤ) → Sound p room c → Lowers (kept c) (c .deepest .box) j i v → Sound p room (withDeepest c (lowerUpper i v (constraint (numberAt c j)) (c .deepest)))
+  sound-lower : (c : Core) (j i : ℕ) (v : ℤ) → Sound p Left room c → Lowers (kept c) (c .deepest .box) j i v → Sound p Left room (withDeepest c (lowerUpper i v (constraint (numberAt c j)) (c .deepest)))
   sound-lower c j i v s m =
       let box = c .deepest .box in
       smaller c (lowerUpper i v (constraint (numberAt c j)) (c .deepest)) s (lower-fits c j i v (s .fits) m) (unfold lowerUpper in refl)
       (unfold lowerUpper in set-upper-ordered i v box (chain-ordered (p .domain) (c .deepest) (c .outer) (s .chain)) (m .fits))
       (unfold lowerUpper in set-upper-nested i v box (omega (arith, m .better)))
-      (λ x z q. unfold lowerUpper in set-upper-inside i v box x q (m .implied x q (every-getD (Meets x) (kept c) j noConstraint (m .constraint) (kept-met p room c x s z))))
+      (λ x z q. unfold lowerUpper in set-upper-inside i v box x q (m .implied x q (every-getD (Meets x) (kept c) j noConstraint (m .constraint) (kept-met p Left room c x s z))))
 
-  sound-decide : (c : Core) (i : ℕ) → Sound p room c → Decides (kept c) (c .deepest .box) i → Sound p room (withLevels c (decideAt i (c .deepest)) (levels c))
+  sound-decide : (c : Core) (i : ℕ) → Sound p Left room c → Decides (kept c) (c .deepest .box) i → Sound p Left room (withLevels c (decideAt i (c .deepest)) (levels c))
   unfolding withLevels kept levels
   sound-decide c i s m =
       let o = chain-ordered (p .domain) (c .deepest) (c .outer) (s .chain) in
@@ -104,12 +107,14 @@ module _ (p : Problem) (room : ℕ) where
         inputs = s .inputs;
         implied = s .implied;
         chain = chain-decided (p .domain) i (c .deepest) (c .outer) (m .first) (s .chain);
+        solves = s .solves;
         cover = λ x z. remains-decided x i (c .deepest) (c .outer) (s .cover x z);
+        exact = λ x z r. s .exact x z (decided-remains x i (c .deepest) (c .outer) o r);
         left = omega (arith, s .left, remaining-decided i (c .deepest) (c .outer) o (m .first));
       }
 
-  pub descend-sound : (c : Core) → Sound p room c → Ended (Sound p room) (descend c)
-  descend-sound c s = descend-keeps (Sound p room) (λ d h. deepest-ordered d (h .fits)) sound-raise sound-lower sound-decide c s
+  pub descend-sound : (c : Core) → Sound p Left room c → Ended (Sound p Left room) (descend c)
+  descend-sound c s = descend-keeps (Sound p Left room) (λ d h. deepest-ordered d (h .fits)) sound-raise sound-lower sound-decide c s
 
 -- ---- the solution
 clear-meets : (ks : List Constraint) (box : Box) → Fixed box → Clear ks box → Every (Meets (lowers box)) ks
@@ -121,18 +126,19 @@ inputs-met : (x : Point) (ks rest : List Constraint) → Every (Meets x) (map ro
 inputs-met x [] rest e = tt
 inputs-met x (k ∷ ks) rest e = (rounded-meets k x .0 (e .0), inputs-met x ks rest (e .1))
 
-pub finish-first : (p : Problem) (room : ℕ) (c : Core) → Sound p room c → Finishes (kept c) (c .deepest .box) → First p (lowers (c .deepest .box))
+pub finish-first : (p : Problem) (Left : Point → Type 0) (room : ℕ) (c : Core) → Sound p Left room c → Finishes (kept c) (c .deepest .box) → FirstOf Left (lowers (c .deepest .box))
 unfolding kept
-finish-first p room c s f =
+finish-first p Left room c s f =
     let box = c .deepest .box in
     let o = chain-ordered (p .domain) (c .deepest) (c .outer) (s .chain) in
     let here = lowers-inside box o in
     let met = clear-meets (c .inputs ++ c .cuts) box (f .fixed) (f .clear) in
+    let solution : Solution p (lowers box) = record {
+      inside = nested-inside (lowers box) box (p .domain) (chain-domain (p .domain) (c .deepest) (c .outer) (s .chain)) here;
+      meets = inputs-met (lowers box) (p .constraints) (c .cuts) (subst (λ (ks : List Constraint). Every (Meets (lowers box)) (ks ++ c .cuts)) (s .inputs) met);
+    } in
     record {
-      solves = record {
-        inside = nested-inside (lowers box) box (p .domain) (chain-domain (p .domain) (c .deepest) (c .outer) (s .chain)) here;
-        meets = inputs-met (lowers box) (p .constraints) (c .cuts) (subst (λ (ks : List Constraint). Every (Meets (lowers box)) (ks ++ c .cuts)) (s .inputs) met);
-      };
+      solves = s .exact (lowers box) solution (inside-remains (lowers box) (c .deepest) (c .outer) here);
       first = λ v z.
           ⊎-elim (λ h. inl (fixed-only box v (f .fixed) h)) (λ h. inr h)
           (remains-later (p .domain) (c .deepest) (c .outer) (lowers box) v (s .chain) here (s .cover v z));
@@ -150,34 +156,38 @@ nothing-met : (n : ℕ) (x : Point) → Meets x (nothingLearned n .cut)
 unfolding nothingLearned modulus value
 nothing-met n x = rw (zeros-dot n x) (record { le = tt })
 
-cut-by : (q : ℕ) (p : Problem) (room : ℕ) (c : Core) (j : ℕ) → modulus (getD (kept c) j noConstraint) ≡ q → Sound p room c → Falsifies (kept c) (c .deepest .box) j →
+cut-by : (q : ℕ) (p : Problem) (Left : Point → Type 0) (room : ℕ) (c : Core) (j : ℕ) → modulus (getD (kept c) j noConstraint) ≡ q → Sound p Left room c → Falsifies (kept c) (c .deepest .box) j →
     Implied p (conflictBy q c j (getD (kept c) j noConstraint) .cut)
 unfolding conflictBy learning noLearning conflictOf
-cut-by zero p room c j e s f x m =
+cut-by zero p Left room c j e s f x m =
     analyze-meets c j x (s .fits) (f .at) e (every-map (λ k. Inequality k → Implied p k) (λ k. Inequality k → Meets x k) (kept c) (λ k i own. i own x m) (s .implied))
-cut-by (suc q) p room c j e s f x m = nothing-met (c .variables) x
+cut-by (suc q) p Left room c j e s f x m = nothing-met (c .variables) x
 
-pub cut-implied : (p : Problem) (room : ℕ) (c : Core) (j : ℕ) → Sound p room c → Falsifies (kept c) (c .deepest .box) j → Implied p (atConflict c j .cut)
+pub cut-implied : (p : Problem) (Left : Point → Type 0) (room : ℕ) (c : Core) (j : ℕ) → Sound p Left room c → Falsifies (kept c) (c .deepest .box) j → Implied p (atConflict c j .cut)
 unfolding atConflict
-cut-implied p room c j s f = cut-by (modulus (getD (kept c) j noConstraint)) p room c j refl s f
+cut-implied p Left room c j s f = cut-by (modulus (getD (kept c) j noConstraint)) p Left room c j refl s f
 
 -- what is left after the levels down to the first of `ds` are dropped
-record Leaves (p : Problem) (room : ℕ) (ds : List Level) : Type 0 where
+record Leaves (p : Problem) (Left : Point → Type 0) (room : ℕ) (ds : List Level) : Type 0 where
   chain : ChainAfter (p .domain) ds
-  cover : (x : Point) → Solution p x → RemainsAfter x ds
+  solves : (x : Point) → Left x → Solution p x
+  cover : (x : Point) → Left x → RemainsAfter x ds
+  exact : (x : Point) → Solution p x → RemainsAfter x ds → Left x
   less : remainingAfter ds < room
 
-leaves : (p : Problem) (room : ℕ) (c : Core) (j : ℕ) (k : Constraint) (level : Level) (rest : List Level) → Sound p room c → ((x : Point) → Solution p x → Meets x k) →
-    drop j (levels c) ≡ level ∷ rest → T (falsified k (level .box)) → Leaves p room (drop j (levels c))
+leaves : (p : Problem) (Left : Point → Type 0) (room : ℕ) (c : Core) (j : ℕ) (k : Constraint) (level : Level) (rest : List Level) → Sound p Left room c → ((x : Point) → Solution p x → Meets x k) →
+    drop j (levels c) ≡ level ∷ rest → T (falsified k (level .box)) → Leaves p Left room (drop j (levels c))
 unfolding levels
-leaves p room c j k level rest s i e f =
+leaves p Left room c j k level rest s i e f =
     let l = c .deepest in
     let ls = c .outer in
     let o = chain-ordered (p .domain) l ls (s .chain) in
     record {
       chain = chain-back (p .domain) j l ls (s .chain);
+      solves = s .solves;
       cover = λ x z.
-          remains-back k x j l l ls (i x z) refl (nested-refl (l .box)) (falsified-to (p .domain) k j l level ls rest (s .chain) e f) (s .cover x z);
+          remains-back k x j l l ls (i x (s .solves x z)) refl (nested-refl (l .box)) (falsified-to (p .domain) k j l level ls rest (s .chain) e f) (s .cover x z);
+      exact = λ x z r. s .exact x z (back-remains x j l l ls refl r);
       less = omega (arith, s .left, remaining-back (p .domain) j l l ls refl o (s .chain));
     }
 
@@ -187,27 +197,27 @@ remains-none x l [] r = r
 remains-none x l (o ∷ ls) r = remains-none x o ls r
 
 -- back to a later one: a sound state with fewer points
-pub record Backed (p : Problem) (room : ℕ) (c : Core) : Type 0 where
+pub record Backed (p : Problem) (Left : Point → Type 0) (room : ℕ) (c : Core) : Type 0 where
   pub left : ℕ
   pub less : left < room
-  pub sound : Sound p left c
+  pub sound : Sound p Left left c
 
-backed : (p : Problem) (room : ℕ) (n : Core) (ds : List Level) → 1 < length ds → Leaves p room ds → CoreFits (backFrom ds n) → n .variables ≡ variables p →
-    n .inputs ≡ map rounded (p .constraints) → Every (λ k. Inequality k → Implied p k) (kept n) → Backed p room (backFrom ds n)
+backed : (p : Problem) (Left : Point → Type 0) (room : ℕ) (n : Core) (ds : List Level) → 1 < length ds → Leaves p Left room ds → CoreFits (backFrom ds n) → n .variables ≡ variables p →
+    n .inputs ≡ map rounded (p .constraints) → Every (λ k. Inequality k → Implied p k) (kept n) → Backed p Left room (backFrom ds n)
 unfolding backFrom withLevels kept
-backed p room n [] h l f v i e = let z : ⊥ = omega arith in absurd z
-backed p room n (a ∷ []) h l f v i e = let z : ⊥ = omega arith in absurd z
-backed p room n (a ∷ o ∷ ls) h l f v i e =
+backed p Left room n [] h l f v i e = let z : ⊥ = omega arith in absurd z
+backed p Left room n (a ∷ []) h l f v i e = let z : ⊥ = omega arith in absurd z
+backed p Left room n (a ∷ o ∷ ls) h l f v i e =
     record {
       left = remainingAfter (a ∷ o ∷ ls);
       less = l .less;
-      sound = record { fits = f; variables = v; inputs = i; implied = e; chain = l .chain; cover = l .cover; left = omega arith };
+      sound = record { fits = f; variables = v; inputs = i; implied = e; chain = l .chain; solves = l .solves; cover = l .cover; exact = l .exact; left = omega arith };
     }
 
 -- what a conflict with backjump level d leaves
-abbrev pub After : Problem → ℕ → ℕ → Core → Type 0
-After p room zero c = ((x : Point) → Solution p x → ⊥) × (1 ≤ room)
-After p room (suc d) c = Backed p room c
+abbrev pub After : Problem → (Point → Type 0) → ℕ → ℕ → Core → Type 0
+After p Left room zero c = ((x : Point) → Left x → ⊥) × (1 ≤ room)
+After p Left room (suc d) c = Backed p Left room c
 
 -- numbering the cut leaves the levels as they are
 dropped-same : (d : ℕ) (c n : Core) → Keeps c n → drop (depth n - d) (levels n) ≡ drop (depth c - d) (levels c)
@@ -218,35 +228,35 @@ dropped-many : (d : ℕ) (c : Core) → suc d ≤ depth c → 1 < length (drop (
 unfolding depth levels
 dropped-many d c h = simp length-drop (omega arith)
 
-after-back : (p : Problem) (room d : ℕ) (c n : Core) (k : Constraint) → Sound p room c → ((x : Point) → Solution p x → Meets x k) → Back k c d → Keeps c n →
-    Every (λ k. Inequality k → Implied p k) (kept n) → CoreFits (settled d n) → After p room d (settled d n)
+after-back : (p : Problem) (Left : Point → Type 0) (room d : ℕ) (c n : Core) (k : Constraint) → Sound p Left room c → ((x : Point) → Solution p x → Meets x k) → Back k c d → Keeps c n →
+    Every (λ k. Inequality k → Implied p k) (kept n) → CoreFits (settled d n) → After p Left room d (settled d n)
 unfolding settled backUp
-after-back p room zero c n k s i b same e f =
-    let l = leaves p room c (depth c - 0) k (b .level) (b .rest) s i (b .dropped) (b .false) in (
+after-back p Left room zero c n k s i b same e f =
+    let l = leaves p Left room c (depth c - 0) k (b .level) (b .rest) s i (b .dropped) (b .false) in (
       λ x z. remains-none x (c .deepest) (c .outer) (unfold depth levels in subst (λ (j : ℕ). RemainsAfter x (drop j (c .deepest ∷ c .outer))) (sub-zero (length (c .outer))) (l .cover x z)),
       omega (arith, l .less),
     )
-after-back p room (suc d) c n k s i b same e f =
+after-back p Left room (suc d) c n k s i b same e f =
     let drops = dropped-same (suc d) c n same in
-    backed p room n (drop (depth n - suc d) (levels n)) (rw drops (dropped-many d c (b .reach)))
-    (subst (λ (ds : List Level). Leaves p room ds) (sym drops) (leaves p room c (depth c - suc d) k (b .level) (b .rest) s i (b .dropped) (b .false))) f
+    backed p Left room n (drop (depth n - suc d) (levels n)) (rw drops (dropped-many d c (b .reach)))
+    (subst (λ (ds : List Level). Leaves p Left room ds) (sym drops) (leaves p Left room c (depth c - suc d) k (b .level) (b .rest) s i (b .dropped) (b .false))) f
     (same .variables ∙ s .variables) (same .inputs ∙ s .inputs) e
 
 -- at an inequality d is the least depth that falsifies the cut, at a divisor constraint the least that falsifies the constraint; every solution meets both
-after-by : (q : ℕ) (p : Problem) (room : ℕ) (c : Core) (j : ℕ) → modulus (getD (kept c) j noConstraint) ≡ q → Sound p room c → Falsifies (kept c) (c .deepest .box) j →
+after-by : (q : ℕ) (p : Problem) (Left : Point → Type 0) (room : ℕ) (c : Core) (j : ℕ) → modulus (getD (kept c) j noConstraint) ≡ q → Sound p Left room c → Falsifies (kept c) (c .deepest .box) j →
     CoreFits (conflictBy q c j (getD (kept c) j noConstraint) .core) →
-    After p room (conflictBy q c j (getD (kept c) j noConstraint) .back) (conflictBy q c j (getD (kept c) j noConstraint) .core)
+    After p Left room (conflictBy q c j (getD (kept c) j noConstraint) .back) (conflictBy q c j (getD (kept c) j noConstraint) .core)
 unfolding conflictBy learning noLearning conflictOf
-after-by zero p room c j e s f t =
+after-by zero p Left room c j e s f t =
     let k = analyze c (getD (kept c) j noConstraint) .cut in
-    let i : Implied p k = unfold conflictBy learning noLearning conflictOf in cut-by zero p room c j e s f in
-    after-back p room (backjumpLevel k c) c (numbered c k .core) k s (λ x z. i x (meets-inequalities x (p .constraints) (z .meets))) (backjump-back k c (analyze-learned c j (s .fits) f e .false))
+    let i : Implied p k = unfold conflictBy learning noLearning conflictOf in cut-by zero p Left room c j e s f in
+    after-back p Left room (backjumpLevel k c) c (numbered c k .core) k s (λ x z. i x (meets-inequalities x (p .constraints) (z .meets))) (backjump-back k c (analyze-learned c j (s .fits) f e .false))
     (numbered-keeps c k) (numbered-every (λ k. Inequality k → Implied p k) c k (s .implied) (λ own. i)) t
-after-by (suc q) p room c j e s f t =
+after-by (suc q) p Left room c j e s f t =
     let k = getD (kept c) j noConstraint in
-    after-back p room (backjumpLevel k c) c c k s (λ x z. every-getD (Meets x) (kept c) j noConstraint (f .at) (kept-met p room c x s z)) (backjump-back k c (f .false)) (keeps-all c) (s .implied) t
+    after-back p Left room (backjumpLevel k c) c c k s (λ x z. every-getD (Meets x) (kept c) j noConstraint (f .at) (kept-met p Left room c x s z)) (backjump-back k c (f .false)) (keeps-all c) (s .implied) t
 
-pub conflict-after : (p : Problem) (room : ℕ) (c : Core) (j : ℕ) → Sound p room c → Falsifies (kept c) (c .deepest .box) j → Settled c (atConflict c j) →
-    After p room (atConflict c j .back) (atConflict c j .core)
+pub conflict-after : (p : Problem) (Left : Point → Type 0) (room : ℕ) (c : Core) (j : ℕ) → Sound p Left room c → Falsifies (kept c) (c .deepest .box) j → Settled c (atConflict c j) →
+    After p Left room (atConflict c j .back) (atConflict c j .core)
 unfolding atConflict
-conflict-after p room c j s f t = after-by (modulus (getD (kept c) j noConstraint)) p room c j refl s f (t .fits)
+conflict-after p Left room c j s f t = after-by (modulus (getD (kept c) j noConstraint)) p Left room c j refl s f (t .fits)

@@ -11,7 +11,7 @@ use Rattle.model.specs.Constraint.{Constraint, Box, falsified}
 use Rattle.model.specs.Search.{Level, raiseLower, decideAt, flipAt}
 use Rattle.model.specs.Points.{Point, Inside, Meets, Before}
 use Rattle.validity.proofs.Boxes.{Ordered, Nested, FirstOpen, first-open, nested-refl, nested-trans, nested-inside, lowHalf, highHalf, low-nested, low-ordered, high-nested, high-ordered, halves-inside, halves-before}
-use Rattle.soundness.proofs.Sizes.{size, size-positive, size-nested, halves-size}
+use Rattle.soundness.proofs.Sizes.{size, size-positive, halves-size}
 use Rattle.validity.proofs.Constraints.{falsified-empty, falsified-nested}
 use Rattle.validity.proofs.Steps.{impossible}
 
@@ -28,6 +28,10 @@ Remains x l (o ∷ ls) = Inside x (l .box) ⊎ Remains x (flipAt (l .decided) o)
 abbrev pub remaining : Level → List Level → ℕ
 remaining l [] = size (l .box)
 remaining l (o ∷ ls) = size (l .box) + remaining (flipAt (l .decided) o) ls
+
+pub inside-remains : (x : Point) (l : Level) (ls : List Level) → Inside x (l .box) → Remains x l ls
+inside-remains x l [] h = h
+inside-remains x l (o ∷ ls) h = inl h
 
 pub chain-ordered : (domain : Box) (l : Level) (ls : List Level) → Chain domain l ls → Ordered (l .box)
 chain-ordered domain l [] c = c .0
@@ -66,21 +70,23 @@ unfolding decideAt lowHalf
 chain-decided domain i l ls f c =
     (low-ordered i (l .box) (chain-ordered domain l ls c), nested-refl (lowHalf i (l .box)), f, c)
 
-high-remains : (x : Point) (i : ℕ) (l : Level) (ls : List Level) → Inside x (highHalf i (l .box)) → Remains x (flipAt i l) ls
-unfolding flipAt raiseLower highHalf
-high-remains x i l [] h = h
-high-remains x i l (o ∷ ls) h = inl h
-
 half-remains : (x : Point) (i : ℕ) (l : Level) (ls : List Level) → Inside x (lowHalf i (l .box)) ⊎ Inside x (highHalf i (l .box)) → Remains x (decideAt i l) (l ∷ ls)
 unfolding decideAt lowHalf
 half-remains x i l ls (inl h) = inl h
-half-remains x i l ls (inr h) = inr (high-remains x i l ls h)
+half-remains x i l ls (inr h) = inr (inside-remains x (flipAt i l) ls (unfold flipAt raiseLower highHalf in h))
 
 pub remains-decided : (x : Point) (i : ℕ) (l : Level) (ls : List Level) → Remains x l ls → Remains x (decideAt i l) (l ∷ ls)
 unfolding decideAt flipAt raiseLower
 remains-decided x i l [] h = half-remains x i l [] (halves-inside i (l .box) x h)
 remains-decided x i l (o ∷ ls) (inl h) = half-remains x i l (o ∷ ls) (halves-inside i (l .box) x h)
 remains-decided x i l (o ∷ ls) (inr h) = inr (inr h)
+
+-- the halves hold nothing else
+pub decided-remains : (x : Point) (i : ℕ) (l : Level) (ls : List Level) → Ordered (l .box) → Remains x (decideAt i l) (l ∷ ls) → Remains x l ls
+unfolding decideAt lowHalf
+decided-remains x i l ls o (inl h) = inside-remains x l ls (nested-inside x (lowHalf i (l .box)) (l .box) (low-nested i (l .box) o) h)
+decided-remains x i l ls o (inr h) =
+    remains-smaller (flipAt i l) l (unfold flipAt raiseLower in refl) x ls (λ g. nested-inside x (highHalf i (l .box)) (l .box) (high-nested i (l .box)) (unfold flipAt raiseLower highHalf in g)) h
 
 pub remaining-decided : (i : ℕ) (l : Level) (ls : List Level) → Ordered (l .box) → FirstOpen i (l .box) → remaining (decideAt i l) (l ∷ ls) ≡ remaining l ls
 unfolding decideAt flipAt raiseLower lowHalf highHalf
@@ -110,7 +116,7 @@ ChainAfter domain [] = Unit {0}
 ChainAfter domain (l ∷ []) = Unit {0}
 ChainAfter domain (l ∷ o ∷ ls) = Chain domain (flipAt (l .decided) o) ls
 
-right : {A B : Type 0} → A ⊎ B → (A → ⊥) → B
+pub right : {A B : Type 0} → A ⊎ B → (A → ⊥) → B
 right (inl a) f = absurd (f a)
 right (inr b) f = b
 
@@ -126,6 +132,14 @@ remains-back k x (suc (suc j)) l l₁ [] m e n f r = falsified-empty k x (l .box
 remains-back k x (suc j) l l₁ (o ∷ ls) m e n f r =
     remains-back k x j o (flipAt (l₁ .decided) o) ls m refl (high-nested (l₁ .decided) (o .box)) (f .1)
     (right r (λ h. falsified-empty k x (l .box) (f .0) (nested-inside x (l₁ .box) (l .box) n h) m))
+
+-- what going back leaves was left before
+pub back-remains : (x : Point) (j : ℕ) (l l₁ : Level) (ls : List Level) → l₁ .decided ≡ l .decided → RemainsAfter x (drop j (l ∷ ls)) → Remains x l₁ ls
+back-remains x zero l l₁ [] e r = absurd r
+back-remains x zero l l₁ (o ∷ ls) e r = inr (subst (λ (i : ℕ). Remains x (flipAt i o) ls) (sym e) r)
+back-remains x (suc zero) l l₁ [] e r = absurd r
+back-remains x (suc (suc j)) l l₁ [] e r = absurd r
+back-remains x (suc j) l l₁ (o ∷ ls) e r = inr (back-remains x j o (flipAt (l₁ .decided) o) ls (unfold flipAt raiseLower in refl) r)
 
 -- going back leaves fewer points
 pub remaining-back : (domain : Box) (j : ℕ) (l l₁ : Level) (ls : List Level) → l₁ .decided ≡ l .decided → Ordered (l₁ .box) → Chain domain l ls →
@@ -167,7 +181,7 @@ falsified-to domain k (suc j) l level (o ∷ ls) rest c e f =
     (falsified-nested k (l .box) (o .box) (c .0) n (falsified-top k j o ls r), r)
 
 -- ---- dictionary order
-above-later : (domain : Box) (i : ℕ) (o : Level) (ls : List Level) (u x : Point) → Chain domain o ls → FirstOpen i (o .box) → Inside u (lowHalf i (o .box)) →
+pub above-later : (domain : Box) (i : ℕ) (o : Level) (ls : List Level) (u x : Point) → Chain domain o ls → FirstOpen i (o .box) → Inside u (lowHalf i (o .box)) →
     Remains x (flipAt i o) ls → Before u x
 unfolding flipAt raiseLower highHalf
 above-later domain i o [] u x c f h r = halves-before i (o .box) u x f h r

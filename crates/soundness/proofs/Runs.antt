@@ -1,30 +1,26 @@
 -- Runs of a problem under any budget, in a file or not: the verdict is right, and there is only one right verdict.
-use Prim.Native.Nat.{ℕ, zero, suc, _+_, _-_, _≤_, _<_}
+use Prim.Native.Nat.{ℕ, zero, suc, _+_, _-_, _<_}
 use native.Mathlib.Omega.{arith}
 use mathlib.Core.List.{List, [], _∷_, _++_, map}
-use mathlib.Core.Logic.{_⊎_, inl, inr, _↔_}
-use mathlib.Core.Path.{_≡_, refl, sym, ap, subst, _∙_}
+use mathlib.Core.Path.{_≡_, refl, sym, ap, _∙_}
 use lib.Dec.{T}
 use lib.IntN.{natAbs}
 use lib.ListN.{length, replicate, length-replicate}
 use Rattle.model.specs.Lists.{tab, allOf}
 use Rattle.model.specs.Constraint.{Constraint, modulus, inRange, divisorInRange, rounded}
-use Rattle.model.specs.Problem.{Problem, variables, domainInRange, boundsInRange, constraintsInRange, divisorsInRange}
-use Rattle.model.specs.Search.{noReasons, Reasons, Core, undecided, Search, kept, levels, levelOf, coreOf, openProblem}
+use Rattle.model.specs.Problem.{Problem, variables, domainInRange, constraintsInRange, divisorsInRange}
+use Rattle.model.specs.Search.{noReasons, Search, kept, levels, levelOf, coreOf, openProblem}
 use Rattle.model.specs.Validity.{reasonValid, reasonsValid}
-use Rattle.model.specs.Points.{Point, Inside, Solution, Before, First, points}
+use Rattle.model.specs.Points.{Point, Solution, First}
 use Rattle.model.specs.Step.{Verdict, goOn, noSolution, outOfBudget, solution, Outcome, step, continue, runFor, withoutBlock, run}
-use Rattle.model.specs.Demand.{withBudget, verdictWith, Decides}
-use Rattle.integer.specs.Parts.{up, down, _⊑_, _⊏_, lt-in}
 use Rattle.integer.specs.Tests.{and-left, and-right}
-use Rattle.validity.proofs.Boxes.{Ordered, Nested, nested-refl}
-use Rattle.soundness.proofs.Sizes.{size, points-size}
+use Rattle.validity.proofs.Boxes.{nested-refl}
+use Rattle.soundness.proofs.Sizes.{size}
 use Rattle.validity.proofs.Constraints.{Inequality, rounded-meets, rounded-divisor, rounded-length, rounded-in-range}
-use Rattle.validity.proofs.States.{Every, ConstraintFits, LevelFits, CoreFits, level-ordered}
+use Rattle.validity.proofs.States.{Every, ConstraintFits, CoreFits, level-ordered}
 use Rattle.validity.proofs.Conflicts.{MeetsInequalities}
-use Rattle.soundness.proofs.Opened.{Implied, Sound}
-use Rattle.soundness.proofs.OneStep.{Open, Says, StepSays, step-says}
-use Rattle.validity.proofs.Steps.{impossible}
+use Rattle.soundness.proofs.Opened.{Implied}
+use Rattle.soundness.proofs.OneStep.{Open, Says, step-says, shown-first}
 
 -- ---- opening: a problem with its limits and constraints in range, each constraint of n coefficients
 pub record ProblemFits (p : Problem) : Type 0 where
@@ -72,7 +68,8 @@ opened-fits p f =
       stacked = tt;
     }
 
-pub opened-open : (p : Problem) → ProblemFits p → Open p (openProblem p)
+-- every solution is left
+pub opened-open : (p : Problem) → ProblemFits p → Open p (Solution p) 0 (openProblem p)
 unfolding openProblem levels
 opened-open p f =
     let c = opened-fits p f in
@@ -84,7 +81,9 @@ opened-open p f =
         inputs = refl;
         implied = rounded-implied p (p .constraints) (λ x m. m);
         chain = (level-ordered _ _ (levelOf p) (c .levels .0), nested-refl (p .domain));
+        solves = λ x z. z;
         cover = λ x z. z .inside;
+        exact = λ x z r. z;
         left = omega arith;
       };
       total = omega arith;
@@ -100,27 +99,27 @@ Right p noSolution = (x : Point) → Solution p x → ⊥
 Right p outOfBudget = p .budget < size (p .domain)
 Right p (solution x) = First p x
 
-continue-right : (p : Problem) (s : Search) (o : Outcome) (v : Verdict) (go : Search → Outcome) → o .verdict ≡ v → Says p s o v →
-    (Open p (o .state) → o .state .conflicts ≡ suc (s .conflicts) → Right p (go (o .state) .verdict)) → Right p (continue v o go .verdict)
+continue-right : (p : Problem) (s : Search) (o : Outcome) (v : Verdict) (go : Search → Outcome) → o .verdict ≡ v → Says p (Solution p) 0 s o v →
+    (Open p (Solution p) 0 (o .state) → o .state .conflicts ≡ suc (s .conflicts) → Right p (go (o .state) .verdict)) → Right p (continue v o go .verdict)
 unfolding continue
 continue-right p s o goOn go e h next = next (h .0) (h .1)
-continue-right p s o noSolution go e h next = rw e (h .0)
+continue-right p s o noSolution go e h next = rw e (h .none-left)
 continue-right p s o outOfBudget go e h next = rw e (h .1)
-continue-right p s o (solution x) go e h next = rw e (h .0)
+continue-right p s o (solution x) go e h next = rw e (shown-first p (Solution p) 0 (o .state) x h)
 
-run-for-right : (p : Problem) (fuel : ℕ) (s : Search) → Open p s → s .conflicts + fuel ≡ s .budget → Right p (runFor fuel s .verdict)
+run-for-right : (p : Problem) (fuel : ℕ) (s : Search) → Open p (Solution p) 0 s → s .conflicts + fuel ≡ s .budget → Right p (runFor fuel s .verdict)
 unfolding runFor
 run-for-right p zero s o h =
-    let t = step-says p s o in
+    let t = step-says p (Solution p) 0 s o in
     last (step s) (step s .verdict) (t .says)
   where
-    last : (a : Outcome) (v : Verdict) → Says p s a v → Right p v
+    last : (a : Outcome) (v : Verdict) → Says p (Solution p) 0 s a v → Right p v
     last a goOn q = let z : ⊥ = omega (arith, q .1, q .0 .afford, q .0 .budget, o .budget) in absurd z
-    last a noSolution q = q .0
+    last a noSolution q = q .none-left
     last a outOfBudget q = q .1
-    last a (solution x) q = q .0
+    last a (solution x) q = shown-first p (Solution p) 0 (a .state) x q
 run-for-right p (suc fuel) s o h =
-    let t = step-says p s o in
+    let t = step-says p (Solution p) 0 s o in
     continue-right p s (step s) (step s .verdict) (runFor fuel) refl (t .says)
     (λ n c. run-for-right p fuel (step s .state) n (omega (arith, c, n .budget, o .budget)))
 

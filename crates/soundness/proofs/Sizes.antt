@@ -1,19 +1,20 @@
--- The number of points in a box is the product of its variables' numbers of values, and `allPoints` lists each point once.
+-- The number of points in a box is the product of its variables' numbers of values, and `allPoints` lists each point once, in dictionary order.
 use Prim.Native.Nat.{ℕ, zero, suc, _+_, _-_, _*_, _≤_, _<_}
 use native.Mathlib.Nat.{mul-le-mul}
 use native.Mathlib.Omega.{arith}
 use mathlib.Core.Bool.{Bool, true, false, not, cond}
 use mathlib.Core.List.{List, [], _∷_, _++_, map, nil≢cons, cons≢nil}
 use mathlib.Core.Logic.{_⊎_, inl, inr, ⊎-elim, _↔_}
-use mathlib.Core.Path.{_≡_, refl, ap}
+use mathlib.Core.Path.{_≡_, refl, sym, ap, subst}
 use lib.Dec.{T}
 use lib.IntN.{ℤ, natAbs, _-ℤ_}
 use lib.Signed.{leZ}
 use lib.ListN.{length, length-append, length-map}
 use Rattle.model.specs.Constraint.{Box, lowerAt, upperAt, setLower, setUpper, nextValue}
-use Rattle.model.specs.Points.{Point, Inside, valuesBetween, valuesFrom, values, prefixed, allPoints, points}
+use Rattle.model.specs.Points.{Point, Inside, valuesBetween, valuesFrom, values, prefixed, allPoints, points, Before}
 use Rattle.model.specs.Demand.{In, NoRepeats}
-use Rattle.integer.specs.Parts.{up, down, _⊑_, _⊏_, le-in, le-out, lt-in, nle-in, eq-in, eq-out}
+use Rattle.model.specs.Enumeration.{BeforeAll, Ascending}
+use Rattle.integer.specs.Parts.{up, down, _⊑_, _⊏_, le-in, le-out, lt-in, lt-out, nle-in, eq-in, eq-out}
 use Rattle.integer.specs.Order.{≤-or-<}
 use Rattle.validity.proofs.Boxes.{Ordered, Nested, OpenAt, gap-parts, next-parts, lowHalf, highHalf}
 
@@ -150,28 +151,62 @@ points-every (b ∷ box) (x ∷ v) = (
       (omega (arith, le-out), omega (arith, le-out), points-every box v .1 (r .1)),
 )
 
--- ---- and once
-append-once : (us vs : List Point) → NoRepeats us → NoRepeats vs → ((w : Point) → In w us → In w vs → ⊥) → NoRepeats (us ++ vs)
-append-once [] vs a b d = b
-append-once (u ∷ us) vs a b d =
-    (λ m. ⊎-elim (a .0) (d u (inl refl)) (append-out u us vs m), append-once us vs (a .1) b (λ w m. d w (inr m)))
+-- ---- in dictionary order, and so each once
+pub before-asym : (u v : Point) → Before u v → Before v u → ⊥
+before-asym [] v h g = h
+before-asym (x ∷ u) [] h g = h
+before-asym (x ∷ u) (y ∷ v) (inl h) (inl g) = omega (arith, lt-in x y (h .lt), lt-in y x (g .lt))
+before-asym (x ∷ u) (y ∷ v) (inl h) (inr g) = omega (arith, lt-in x y (h .lt), ap up (g .0), ap down (g .0))
+before-asym (x ∷ u) (y ∷ v) (inr h) (inl g) = omega (arith, lt-in y x (g .lt), ap up (h .0), ap down (h .0))
+before-asym (x ∷ u) (y ∷ v) (inr h) (inr g) = before-asym u v (h .1) (g .1)
 
-behind-once : (l : ℤ) (vs : List Point) → NoRepeats vs → NoRepeats (behind l vs)
-behind-once l [] a = tt
-behind-once l (v ∷ vs) a = (λ m. a .0 (behind-out l vs (l ∷ v) m .1), behind-once l vs (a .1))
+pub not-before-itself : (u v : Point) → u ≡ v → Before u v → ⊥
+not-before-itself u v e h = before-asym u v h (subst (λ (w : Point). Before v w) (sym e) (subst (λ (w : Point). Before w v) e h))
 
-apart : (n : ℕ) (l : ℤ) (vs : List Point) (w : Point) → Led (λ x. x ≡ l) vs w → Led (Among n (nextValue l)) vs w → ⊥
-apart n l vs [] h k = h
-apart n l vs (x ∷ w) h k = omega (arith, eq-in x l (h .0), next-parts l)
+pub before-each : (v : Point) (us : List Point) → BeforeAll v us → (w : Point) → In w us → Before v w
+before-each v [] h w m = absurd m
+before-each v (u ∷ us) h w (inl e) = subst (Before v) (sym e) (h .0)
+before-each v (u ∷ us) h w (inr m) = before-each v us (h .1) w m
 
-prefixed-once : (n : ℕ) (l : ℤ) (vs : List Point) → NoRepeats vs → NoRepeats (prefixed (valuesFrom n l) vs)
+pub before-all : (v : Point) (us : List Point) → ((w : Point) → In w us → Before v w) → BeforeAll v us
+before-all v [] f = tt
+before-all v (u ∷ us) f = (f u (inl refl), before-all v us (λ w m. f w (inr m)))
+
+append-ascending : (us vs : List Point) → Ascending us → Ascending vs → ((u w : Point) → In u us → In w vs → Before u w) → Ascending (us ++ vs)
+append-ascending [] vs a b f = b
+append-ascending (u ∷ us) vs a b f = (
+  before-all u (us ++ vs) (λ w m. ⊎-elim (before-each u us (a .0) w) (f u w (inl refl)) (append-out w us vs m)),
+  append-ascending us vs (a .1) b (λ x w m. f x w (inr m)),
+)
+
+behind-ascending : (l : ℤ) (vs : List Point) → Ascending vs → Ascending (behind l vs)
+behind-ascending l [] a = tt
+behind-ascending l (v ∷ vs) a = (each vs (a .0), behind-ascending l vs (a .1))
+  where
+    each : (us : List Point) → BeforeAll v us → BeforeAll (l ∷ v) (behind l us)
+    each [] h = tt
+    each (u ∷ us) h = (inr (refl, h .0), each us (h .1))
+
+led-before : (n : ℕ) (l : ℤ) (vs : List Point) (u w : Point) → Led (λ x. x ≡ l) vs u → Led (Among n (nextValue l)) vs w → Before u w
+led-before n l vs [] w h k = absurd h
+led-before n l vs (x ∷ u) [] h k = absurd k
+led-before n l vs (x ∷ u) (y ∷ w) h k = inl (record { lt = lt-out x y (omega (arith, eq-in x l (h .0), next-parts l)) })
+
+prefixed-ascending : (n : ℕ) (l : ℤ) (vs : List Point) → Ascending vs → Ascending (prefixed (valuesFrom n l) vs)
 unfolding prefixed valuesFrom
-prefixed-once zero l vs a = tt
-prefixed-once (suc n) l vs a =
-    append-once (behind l vs) (prefixed (valuesFrom n (nextValue l)) vs) (behind-once l vs a) (prefixed-once n (nextValue l) vs a)
-    (λ w m k. apart n l vs w (behind-out l vs w m) (prefixed-out n (nextValue l) vs w k))
+prefixed-ascending zero l vs a = tt
+prefixed-ascending (suc n) l vs a =
+    append-ascending (behind l vs) (prefixed (valuesFrom n (nextValue l)) vs) (behind-ascending l vs a) (prefixed-ascending n (nextValue l) vs a)
+    (λ u w m k. led-before n l vs u w (behind-out l vs u m) (prefixed-out n (nextValue l) vs w k))
+
+pub points-ascending : (box : Box) → Ascending (allPoints box)
+unfolding allPoints values
+points-ascending [] = (tt, tt)
+points-ascending (b ∷ box) = prefixed-ascending _ (b .lower) (allPoints box) (points-ascending box)
+
+ascending-once : (vs : List Point) → Ascending vs → NoRepeats vs
+ascending-once [] a = tt
+ascending-once (v ∷ vs) a = (λ m. not-before-itself v v refl (before-each v vs (a .0) v m), ascending-once vs (a .1))
 
 pub points-once : (box : Box) → NoRepeats (allPoints box)
-unfolding allPoints values
-points-once [] = (λ m. m, tt)
-points-once (b ∷ box) = prefixed-once _ (b .lower) (allPoints box) (points-once box)
+points-once box = ascending-once (allPoints box) (points-ascending box)

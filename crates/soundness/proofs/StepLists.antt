@@ -1,5 +1,5 @@
 -- Lists of turns from a valid state of an opened search: counts, cuts, and the verdict that every later turn repeats.
-use Prim.Native.Nat.{ℕ, zero, suc, _+_, _-_, _≤_, _<_}
+use Prim.Native.Nat.{ℕ, zero, suc, _+_, _≤_, _<_}
 use native.Mathlib.Omega.{arith}
 use mathlib.Core.Bool.{Bool, true, false}
 use mathlib.Core.List.{List, [], _∷_, _++_}
@@ -8,17 +8,17 @@ use mathlib.Core.Path.{_≡_, refl, sym, ap, ap₂, subst, _∙_}
 use lib.Dec.{T}
 use lib.ListN.{length, length-append}
 use Rattle.model.specs.Ranges.{maxVariables}
-use Rattle.model.specs.Problem.{Problem, variables, Result, ok, error}
-use Rattle.model.specs.Search.{Status, undecided, infeasible, solved, Search}
+use Rattle.model.specs.Problem.{Problem, variables, ok}
+use Rattle.model.specs.Search.{Status, infeasible, solved, Search}
 use Rattle.model.specs.Validity.{valid}
 use Rattle.model.specs.Points.{Point}
 use Rattle.model.specs.Step.{Verdict, goOn, noSolution, outOfBudget, solution, Outcome, blockIn, lowers, again, stepBy, step, continue, runFor, checked, stepCall}
-use Rattle.model.specs.Demand.{after, stateAfter, answerAt, blocksIn, journal, MeetsCuts}
+use Rattle.model.specs.Demand.{after, stateAfter, blocksIn, journal, MeetsCuts}
 use Rattle.soundness.proofs.Sizes.{size}
 use Rattle.validity.specs.Valid.{Valid}
 use Rattle.validity.proofs.Conflicts.{MeetsInequalities}
 use Rattle.validity.proofs.Steps.{step-valid, impossible}
-use Rattle.soundness.proofs.OneStep.{Open, Says, StepSays, step-says}
+use Rattle.soundness.proofs.OneStep.{Open, Solved, Over, Says, StepSays, step-says}
 
 -- ---- a valid state is not refused
 pub checked-true : (t : Bool) (o : Outcome) → T t → checked t o ≡ ok o
@@ -66,81 +66,93 @@ again-repeats o c e =
       block = ap (λ (x : Outcome). x .block) e;
     }
 
-says-repeats : (p : Problem) (s : Search) (v : Verdict) → StepSays p s (step s) → step s .verdict ≡ v → Says p s (step s) v → ¬ (v ≡ goOn) → Repeats (step s)
-unfolding stepBy
-says-repeats p s goOn t e h n = absurd (n refl)
-says-repeats p s noSolution t e h n = again-repeats (step s) (t .count) (rw e (marked (step s .state) infeasible noSolution (h .1) refl))
-says-repeats p s (solution x) t e h n =
-    again-repeats (step s) (t .count) (rw e (marked (step s .state) solved (solution x) (h .1) (rw (h .2) refl)))
-says-repeats p s outOfBudget t e h n =
-    let same = h .0 in
-    record {
-      state = ap (λ (x : Search). step x .state) same;
-      verdict = ap (λ (x : Search). step x .verdict) same;
-      count = ap (λ (x : Search). step x .count) same;
-      block = rw same (no-block (step s .block) (omega (arith, t .blocks, ap (λ (x : Search). x .conflicts) same)));
-    }
+-- a marked state
+again-stays : (s : Search) (v : Verdict) → step s ≡ again s v → Repeats (step s)
+again-stays s v e = subst Repeats (sym e) (unfold again in again-repeats (again s v) (unfold again in refl) (unfold again in e))
 
-pub repeats : (p : Problem) (s : Search) → Open p s → ¬ (step s .verdict ≡ goOn) → Repeats (step s)
-repeats p s o n = let t = step-says p s o in says-repeats p s (step s .verdict) t refl (t .says) n
+module _ (p : Problem) (Left : Point → Type 0) (struck : ℕ) where
+  pub solved-again : (s : Search) → Solved p Left struck s → step s ≡ again s (solution (lowers (s .core .deepest .box)))
+  unfolding stepBy
+  solved-again s d = marked s solved (solution (lowers (s .core .deepest .box))) (d .at .status) refl
 
--- ---- the states of a list: without a verdict, or after it
-pub record Done (p : Problem) (s : Search) : Type 0 where
-  pub state : step s .state ≡ s
-  pub count : step s .count ≡ s .conflicts
-  pub block : step s .block ≡ none
-  pub few : s .conflicts ≤ size (p .domain)
+  pub over-again : (s : Search) → Over p Left struck s → step s ≡ again s noSolution
+  unfolding stepBy
+  over-again s d = marked s infeasible noSolution (d .status) refl
 
-pub data Reached (p : Problem) (s : Search) : Type 0 where
-  still : Open p s → Reached p s
-  done : Done p s → Reached p s
+  says-repeats : (s : Search) (v : Verdict) → StepSays p Left struck s (step s) → step s .verdict ≡ v → Says p Left struck s (step s) v → ¬ (v ≡ goOn) → Repeats (step s)
+  says-repeats s goOn t e h n = absurd (n refl)
+  says-repeats s noSolution t e h n = again-repeats (step s) (t .count) (rw e (over-again (step s .state) h))
+  says-repeats s (solution x) t e h n = again-repeats (step s) (t .count) (rw (e, h .1) (solved-again (step s .state) (h .0)))
+  says-repeats s outOfBudget t e h n =
+      let same = h .0 in
+      record {
+        state = ap (λ (x : Search). step x .state) same;
+        verdict = ap (λ (x : Search). step x .verdict) same;
+        count = ap (λ (x : Search). step x .count) same;
+        block = rw same (no-block (step s .block) (omega (arith, t .blocks, ap (λ (x : Search). x .conflicts) same)));
+      }
 
-repeats-done : (p : Problem) (s : Search) → StepSays p s (step s) → Repeats (step s) → Done p (step s .state)
-repeats-done p s t r = record { state = r .state; count = r .count ∙ t .count; block = r .block; few = t .few }
+  pub repeats : (s : Search) → Open p Left struck s → ¬ (step s .verdict ≡ goOn) → Repeats (step s)
+  repeats s o n = let t = step-says p Left struck s o in says-repeats s (step s .verdict) t refl (t .says) n
 
-says-next : (p : Problem) (s : Search) (v : Verdict) → StepSays p s (step s) → step s .verdict ≡ v → Says p s (step s) v → Reached p (step s .state)
-says-next p s goOn t e h = still (h .0)
-says-next p s noSolution t e h = done (repeats-done p s t (says-repeats p s noSolution t e h (λ n. impossible (cc))))
-says-next p s outOfBudget t e h = done (repeats-done p s t (says-repeats p s outOfBudget t e h (λ n. impossible (cc))))
-says-next p s (solution x) t e h = done (repeats-done p s t (says-repeats p s (solution x) t e h (λ n. impossible (cc))))
+  -- ---- the states of a list: without a verdict, or marked with it. One that is out of budget is as before its turn
+  pub data Reached (s : Search) : Type 0 where
+    still : Open p Left struck s → Reached s
+    found : Solved p Left struck s → Reached s
+    over : Over p Left struck s → Reached s
 
--- what one turn gives, whatever was reached
-pub record Stepped (p : Problem) (s : Search) : Type 0 where
-  pub next : Reached p (step s .state)
-  count : step s .count ≡ step s .state .conflicts
-  few : step s .state .conflicts ≤ size (p .domain)
-  blocks : length (blockIn (step s .block)) + s .conflicts ≡ step s .state .conflicts
-  cuts : variables p ≤ maxVariables → (x : Point) → MeetsInequalities x (p .constraints) → MeetsCuts (variables p) x (blockIn (step s .block))
+  pub repeats-reached : (s : Search) → Reached s → ¬ (step s .verdict ≡ goOn) → Repeats (step s)
+  repeats-reached s (still o) n = repeats s o n
+  repeats-reached s (found d) n = again-stays s _ (solved-again s d)
+  repeats-reached s (over d) n = again-stays s _ (over-again s d)
 
-pub stepped : (p : Problem) (s : Search) → Reached p s → Stepped p s
-unfolding blockIn
-stepped p s (still o) =
-    let t = step-says p s o in
-    record { next = says-next p s (step s .verdict) t refl (t .says); count = t .count; few = t .few; blocks = t .blocks; cuts = t .cuts }
-stepped p s (done d) =
-    let e = ap (λ (x : Search). x .conflicts) (d .state) in
-    record {
-      next = rw (d .state) (done d);
-      count = d .count ∙ sym e;
-      few = omega (arith, d .few, e);
-      blocks = omega (arith, e, ap (λ (b : Option (List ℕ)). length (blockIn b)) (d .block));
-      cuts = λ m x z. subst (λ (b : Option (List ℕ)). MeetsCuts (variables p) x (blockIn b)) (sym (d .block)) tt;
-    }
+  pub reached-few : (s : Search) → Reached s → s .conflicts + struck ≤ size (p .domain)
+  reached-few s (still o) = omega (arith, o .total)
+  reached-few s (found d) = omega (arith, d .at .total)
+  reached-few s (over d) = d .total
 
-reached-few : (p : Problem) (s : Search) → Reached p s → s .conflicts ≤ size (p .domain)
-reached-few p s (still o) = omega (arith, o .total)
-reached-few p s (done d) = d .few
+  pub says-next : (s : Search) (v : Verdict) → Open p Left struck s → Says p Left struck s (step s) v → Reached (step s .state)
+  says-next s goOn o h = still (h .0)
+  says-next s noSolution o h = over h
+  says-next s outOfBudget o h = still (subst (Open p Left struck) (sym (h .0)) o)
+  says-next s (solution x) o h = found (h .0)
+
+  -- what one turn gives, whatever was reached
+  pub record Stepped (s : Search) : Type 0 where
+    pub next : Reached (step s .state)
+    pub count : step s .count ≡ step s .state .conflicts
+    pub blocks : length (blockIn (step s .block)) + s .conflicts ≡ step s .state .conflicts
+    pub cuts : variables p ≤ maxVariables → (x : Point) → MeetsInequalities x (p .constraints) → MeetsCuts (variables p) x (blockIn (step s .block))
+
+  again-stepped : (s : Search) (v : Verdict) → Reached s → step s ≡ again s v → Stepped s
+  unfolding again blockIn
+  again-stepped s v r e =
+      let same = ap (λ (o : Outcome). o .state) e in
+      let none-given = ap (λ (o : Outcome). o .block) e in
+      record {
+        next = subst Reached (sym same) r;
+        count = ap (λ (o : Outcome). o .count) e ∙ ap (λ (x : Search). x .conflicts) (sym same);
+        blocks = omega (arith, ap (λ (x : Search). x .conflicts) same, ap (λ (b : Option (List ℕ)). length (blockIn b)) none-given);
+        cuts = λ m x z. subst (λ (b : Option (List ℕ)). MeetsCuts (variables p) x (blockIn b)) (sym none-given) tt;
+      }
+
+  pub stepped : (s : Search) → Reached s → Stepped s
+  stepped s (still o) =
+      let t = step-says p Left struck s o in
+      record { next = says-next s (step s .verdict) o (t .says); count = t .count; blocks = t .blocks; cuts = t .cuts }
+  stepped s (found d) = again-stepped s _ (found d) (solved-again s d)
+  stepped s (over d) = again-stepped s _ (over d) (over-again s d)
 
 -- ---- every list
 pub blocks-taken : (s : Search) → Valid s → blocksIn (stepCall s) ≡ blockIn (step s .block)
 unfolding blocksIn
 blocks-taken s v = ap blocksIn (call-taken s v)
 
-pub reached-after : (p : Problem) (k : ℕ) (s : Search) → Valid s → Reached p s → Reached p (stateAfter k s)
+pub reached-after : (p : Problem) (Left : Point → Type 0) (struck : ℕ) (k : ℕ) (s : Search) → Valid s → Reached p Left struck s → Reached p Left struck (stateAfter k s)
 unfolding stateAfter
-reached-after p zero s v r = r
-reached-after p (suc k) s v r =
-    reached-after p k (after s (stepCall s)) (rw (after-step s v) (step-valid s v)) (rw (after-step s v) (stepped p s r .next))
+reached-after p Left struck zero s v r = r
+reached-after p Left struck (suc k) s v r =
+    reached-after p Left struck k (after s (stepCall s)) (rw (after-step s v) (step-valid s v)) (rw (after-step s v) (stepped p Left struck s r .next))
 
 -- a list is its first turn, and the list from there
 state-first : (k : ℕ) (s : Search) → Valid s → stateAfter (suc k) s ≡ stateAfter k (step s .state)
@@ -151,36 +163,36 @@ journal-first : (k : ℕ) (s : Search) → Valid s → journal (suc k) s ≡ blo
 unfolding journal
 journal-first k s v = ap₂ (λ (bs : List (List ℕ)) (x : Search). bs ++ journal k x) (blocks-taken s v) (after-step s v)
 
-pub list-conflicts : (p : Problem) (k : ℕ) (s : Search) → Valid s → Reached p s → stateAfter k s .conflicts ≡ length (journal k s) + s .conflicts
-list-conflicts p zero s v r = unfold stateAfter journal in omega arith
-list-conflicts p (suc k) s v r =
-    let t = stepped p s r in
+pub list-conflicts : (p : Problem) (Left : Point → Type 0) (struck : ℕ) (k : ℕ) (s : Search) → Valid s → Reached p Left struck s → stateAfter k s .conflicts ≡ length (journal k s) + s .conflicts
+list-conflicts p Left struck zero s v r = unfold stateAfter journal in omega arith
+list-conflicts p Left struck (suc k) s v r =
+    let t = stepped p Left struck s r in
     rw (state-first k s v, journal-first k s v)
-    (omega (arith, t .blocks, length-append (blockIn (step s .block)) (journal k (step s .state)), list-conflicts p k (step s .state) (step-valid s v) (t .next)))
+    (omega (arith, t .blocks, length-append (blockIn (step s .block)) (journal k (step s .state)), list-conflicts p Left struck k (step s .state) (step-valid s v) (t .next)))
 
 pub state-next : (k : ℕ) (s : Search) → Valid s → stateAfter (suc k) s ≡ step (stateAfter k s) .state
 unfolding stateAfter
 state-next zero s v = after-step s v
 state-next (suc k) s v = rw (after-step s v) (state-next k (step s .state) (step-valid s v))
 
-pub list-counted : (p : Problem) (k : ℕ) (s : Search) → Valid s → Reached p s → step (stateAfter k s) .count ≡ length (journal (suc k) s) + s .conflicts
-list-counted p k s v r = stepped p (stateAfter k s) (reached-after p k s v r) .count ∙ ap (λ (x : Search). x .conflicts) (sym (state-next k s v)) ∙ list-conflicts p (suc k) s v r
+pub list-counted : (p : Problem) (Left : Point → Type 0) (struck : ℕ) (k : ℕ) (s : Search) → Valid s → Reached p Left struck s → step (stateAfter k s) .count ≡ length (journal (suc k) s) + s .conflicts
+list-counted p Left struck k s v r = stepped p Left struck (stateAfter k s) (reached-after p Left struck k s v r) .count ∙ ap (λ (x : Search). x .conflicts) (sym (state-next k s v)) ∙ list-conflicts p Left struck (suc k) s v r
 
-pub list-few : (p : Problem) (k : ℕ) (s : Search) → Valid s → Reached p s → length (journal k s) + s .conflicts ≤ size (p .domain)
-list-few p k s v r = omega (arith, list-conflicts p k s v r, reached-few p (stateAfter k s) (reached-after p k s v r))
+pub list-few : (p : Problem) (Left : Point → Type 0) (struck : ℕ) (k : ℕ) (s : Search) → Valid s → Reached p Left struck s → length (journal k s) + s .conflicts + struck ≤ size (p .domain)
+list-few p Left struck k s v r = omega (arith, list-conflicts p Left struck k s v r, reached-few p Left struck (stateAfter k s) (reached-after p Left struck k s v r))
 
-cuts-append : (n : ℕ) (x : Point) (a b : List (List ℕ)) → MeetsCuts n x a → MeetsCuts n x b → MeetsCuts n x (a ++ b)
+pub cuts-append : (n : ℕ) (x : Point) (a b : List (List ℕ)) → MeetsCuts n x a → MeetsCuts n x b → MeetsCuts n x (a ++ b)
 cuts-append n x [] b h g = g
 cuts-append n x (c ∷ a) b h g = (h .0, cuts-append n x a b (h .1) g)
 
 -- every point that meets the problem's inequalities meets every cut, inside the limits or not
-pub list-cuts : (p : Problem) (k : ℕ) (s : Search) → variables p ≤ maxVariables → Valid s → Reached p s → (x : Point) → MeetsInequalities x (p .constraints) → MeetsCuts (variables p) x (journal k s)
+pub list-cuts : (p : Problem) (Left : Point → Type 0) (struck : ℕ) (k : ℕ) (s : Search) → variables p ≤ maxVariables → Valid s → Reached p Left struck s → (x : Point) → MeetsInequalities x (p .constraints) → MeetsCuts (variables p) x (journal k s)
 unfolding journal
-list-cuts p zero s m v r x z = tt
-list-cuts p (suc k) s m v r x z =
-    let t = stepped p s r in
+list-cuts p Left struck zero s m v r x z = tt
+list-cuts p Left struck (suc k) s m v r x z =
+    let t = stepped p Left struck s r in
     rw (blocks-taken s v, after-step s v)
-    (cuts-append (variables p) x (blockIn (step s .block)) (journal k (step s .state)) (t .cuts m x z) (list-cuts p k (step s .state) m (step-valid s v) (t .next) x z))
+    (cuts-append (variables p) x (blockIn (step s .block)) (journal k (step s .state)) (t .cuts m x z) (list-cuts p Left struck k (step s .state) m (step-valid s v) (t .next) x z))
 
 -- ---- the verdict is reached, and a run gives it
 pub record Ends (s : Search) (o : Outcome) : Type 0 where
@@ -230,14 +242,14 @@ continue-ends s noSolution go w e r next = ends-now s w (λ n. impossible (cc)) 
 continue-ends s outOfBudget go w e r next = ends-now s w (λ n. impossible (cc)) (r (λ n. impossible (cc)))
 continue-ends s (solution x) go w e r next = ends-now s w (λ n. impossible (cc)) (r (λ n. impossible (cc)))
 
-goes-open : (p : Problem) (s : Search) → Open p s → step s .verdict ≡ goOn → Open p (step s .state) × (step s .state .conflicts ≡ suc (s .conflicts))
-goes-open p s o e = subst (λ (v : Verdict). Says p s (step s) v) e (step-says p s o .says)
+goes-open : (p : Problem) (Left : Point → Type 0) (struck : ℕ) (s : Search) → Open p Left struck s → step s .verdict ≡ goOn → Open p Left struck (step s .state) × (step s .state .conflicts ≡ suc (s .conflicts))
+goes-open p Left struck s o e = subst (λ (v : Verdict). Says p Left struck s (step s) v) e (step-says p Left struck s o .says)
 
-pub run-ends-list : (p : Problem) (fuel : ℕ) (s : Search) → Valid s → Open p s → s .conflicts + fuel ≡ s .budget → Ends s (runFor fuel s)
+pub run-ends-list : (p : Problem) (Left : Point → Type 0) (struck : ℕ) (fuel : ℕ) (s : Search) → Valid s → Open p Left struck s → s .conflicts + fuel ≡ s .budget → Ends s (runFor fuel s)
 unfolding runFor
-run-ends-list p zero s v o h =
-    let n : ¬ (step s .verdict ≡ goOn) = λ e. let g = goes-open p s o e in omega (arith, g .1, g .0 .afford, g .0 .budget, o .budget) in
-    ends-now s v n (repeats p s o n)
-run-ends-list p (suc fuel) s v o h =
-    continue-ends s (step s .verdict) (runFor fuel) v refl (repeats p s o)
-    (λ e. let g = goes-open p s o e in run-ends-list p fuel (step s .state) (step-valid s v) (g .0) (omega (arith, g .1, g .0 .budget, o .budget)))
+run-ends-list p Left struck zero s v o h =
+    let n : ¬ (step s .verdict ≡ goOn) = λ e. let g = goes-open p Left struck s o e in omega (arith, g .1, g .0 .afford, g .0 .budget, o .budget) in
+    ends-now s v n (repeats p Left struck s o n)
+run-ends-list p Left struck (suc fuel) s v o h =
+    continue-ends s (step s .verdict) (runFor fuel) v refl (repeats p Left struck s o)
+    (λ e. let g = goes-open p Left struck s o e in run-ends-list p Left struck fuel (step s .state) (step-valid s v) (g .0) (omega (arith, g .1, g .0 .budget, o .budget)))

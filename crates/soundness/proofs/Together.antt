@@ -4,15 +4,16 @@ use native.Mathlib.Omega.{arith}
 use mathlib.Core.Bool.{Bool, true, false, cond}
 use mathlib.Core.List.{List, [], _∷_, _++_, append-nil, append-assoc}
 use mathlib.Core.Option.{Option, none, some}
-use mathlib.Core.Path.{_≡_, refl, sym, ap, subst, _∙_}
+use mathlib.Core.Path.{_≡_, refl, sym, ap, _∙_}
 use lib.Dec.{eqb}
 use lib.ListN.{length}
 use Rattle.model.specs.Bytes.{blockLength}
 use Rattle.model.specs.Problem.{Problem}
 use Rattle.model.specs.Search.{Core, Status, undecided, infeasible, solved, Search}
 use Rattle.model.specs.Move.{descend}
-use Rattle.model.specs.Conflict.{Conflict, atConflict}
+use Rattle.model.specs.Conflict.{atConflict}
 use Rattle.model.specs.Validity.{valid}
+use Rattle.model.specs.Points.{Point}
 use Rattle.model.specs.Step.{Verdict, goOn, noSolution, outOfBudget, solution, Outcome, blockIn, solvedBy, budgetSpent, counted, onConflict, endedAt, ended, again, stepBy, step, checked, stepCall, run}
 use Rattle.format.proofs.RecordCut.{length-record}
 use Rattle.model.specs.Trace.{Trace, withBlocks, lastStep, advanced, advance}
@@ -21,7 +22,7 @@ use Rattle.validity.proofs.States.{sizes-fit}
 use Rattle.validity.specs.Valid.{Valid}
 use Rattle.validity.proofs.Steps.{step-valid, run-ends, impossible}
 use Rattle.validity.proofs.Repeating.{advance-one, run-same}
-use Rattle.soundness.proofs.StepLists.{after-step, blocks-taken, valid-after, Repeats, repeats, Reached, still, done, stepped, reached-after, state-next, fixed-after, later-same}
+use Rattle.soundness.proofs.StepLists.{after-step, blocks-taken, valid-after, Repeats, repeats-reached, Reached, stepped, reached-after, state-next, fixed-after, later-same}
 
 -- ---- lists one after the other
 pub state-add : (k t : ℕ) (s : Search) → stateAfter (k + t) s ≡ stateAfter t (stateAfter k s)
@@ -74,17 +75,7 @@ unfolding journal blockIn
 journal-none zero s v e b = refl
 journal-none (suc k) s v e b = rw (blocks-taken s v, after-step s v, b, e) (journal-none k s v e b)
 
-module _ (p : Problem) where
-  repeats-reached : (s : Search) → Reached p s → ¬ (step s .verdict ≡ goOn) → Repeats (step s)
-  repeats-reached s (still o) n = repeats p s o n
-  repeats-reached s (done d) n =
-      record {
-        state = ap (λ (x : Search). step x .state) (d .state);
-        verdict = ap (λ (x : Search). step x .verdict) (d .state);
-        count = ap (λ (x : Search). step x .count) (d .state);
-        block = ap (λ (x : Search). step x .block) (d .state) ∙ d .block;
-      }
-
+module _ (p : Problem) (Left : Point → Type 0) (struck : ℕ) where
   -- ---- turns that one call takes
   last-together : (t : ℕ) (s : Search) → Valid s → Repeats (step s) → lastStep (step s) ≡ stepsTogether (suc t) s
   unfolding lastStep stepsTogether journal
@@ -100,15 +91,15 @@ module _ (p : Problem) where
   unfolding withBlocks stepsTogether stateAfter journal
   more-together t s v e = rw (blocks-taken s v, after-step s v)
 
-  by-verdict : (t : ℕ) (s : Search) → Valid s → Reached p s → (w : Verdict) → step s .verdict ≡ w → advance (suc t) (step s .state) ≡ stepsTogether t (step s .state) →
+  by-verdict : (t : ℕ) (s : Search) → Valid s → Reached p Left struck s → (w : Verdict) → step s .verdict ≡ w → advance (suc t) (step s .state) ≡ stepsTogether t (step s .state) →
       advanced w (step s) (advance (suc t)) ≡ stepsTogether (suc t) s
   unfolding advanced
   by-verdict t s v r goOn e h = ap (withBlocks (blockIn (step s .block))) h ∙ more-together t s v e
-  by-verdict t s v r noSolution e h = last-together t s v (repeats-reached s r (λ n. impossible (cc)))
-  by-verdict t s v r outOfBudget e h = last-together t s v (repeats-reached s r (λ n. impossible (cc)))
-  by-verdict t s v r (solution x) e h = last-together t s v (repeats-reached s r (λ n. impossible (cc)))
+  by-verdict t s v r noSolution e h = last-together t s v (repeats-reached p Left struck s r (λ n. impossible (cc)))
+  by-verdict t s v r outOfBudget e h = last-together t s v (repeats-reached p Left struck s r (λ n. impossible (cc)))
+  by-verdict t s v r (solution x) e h = last-together t s v (repeats-reached p Left struck s r (λ n. impossible (cc)))
 
-  one-together : (s : Search) → Valid s → lastStep (step s) ≡ stepsTogether zero s
+  pub one-together : (s : Search) → Valid s → lastStep (step s) ≡ stepsTogether zero s
   unfolding lastStep stepsTogether stateAfter journal
   one-together s v = rw (blocks-taken s v, after-step s v, append-nil)
 
@@ -116,17 +107,17 @@ module _ (p : Problem) where
   unfolding advance
   advance-more t s = refl
 
-  pub together : (t : ℕ) (s : Search) → Valid s → Reached p s → advance (suc t) s ≡ stepsTogether t s
+  pub together : (t : ℕ) (s : Search) → Valid s → Reached p Left struck s → advance (suc t) s ≡ stepsTogether t s
   together zero s v r = advance-one s (sizes-fit s (v .tests) .conflicts) ∙ one-together s v
-  together (suc t) s v r = advance-more t s ∙ by-verdict t s v r (step s .verdict) refl (together t (step s .state) (step-valid s v) (stepped p s r .next))
+  together (suc t) s v r = advance-more t s ∙ by-verdict t s v r (step s .verdict) refl (together t (step s .state) (step-valid s v) (stepped p Left struck s r .next))
 
   -- ---- a run, from any state of a list whose first verdict comes with turn `last`
-  module _ (s : Search) (v : Valid s) (r : Reached p s) (last : ℕ) (before : (k : ℕ) → k < last → step (stateAfter k s) .verdict ≡ goOn) (reached : ¬ (step (stateAfter last s) .verdict ≡ goOn))
+  module _ (s : Search) (v : Valid s) (r : Reached p Left struck s) (last : ℕ) (before : (k : ℕ) → k < last → step (stateAfter k s) .verdict ≡ goOn) (reached : ¬ (step (stateAfter last s) .verdict ≡ goOn))
       (later : (k : ℕ) → last ≤ k → (step (stateAfter k s) .verdict ≡ step (stateAfter last s) .verdict) × (step (stateAfter k s) .count ≡ step (stateAfter last s) .count)) where
     -- the state after the verdict stays
     pub stays : (k : ℕ) → last < k → stateAfter k s ≡ stateAfter (suc last) s
     stays k h =
-        let q = repeats-reached (stateAfter last s) (reached-after p last s v r) reached in
+        let q = repeats-reached p Left struck (stateAfter last s) (reached-after p Left struck last s v r) reached in
         let next = state-next last s v in
         let z : k ≡ suc last + (k - suc last) = omega arith in
         ap (λ (i : ℕ). stateAfter i s) z ∙ state-add (suc last) (k - suc last) s ∙ fixed-after (k - suc last) (stateAfter (suc last) s) (valid-after (suc last) s v) (rw next (q .state))
@@ -139,7 +130,7 @@ module _ (p : Problem) where
         let w = valid-after k s v in
         let f = x .budget - x .conflicts in
         let q = run-same x w in
-        let t = together f x w (reached-after p k s v r) in
+        let t = together f x w (reached-after p Left struck k s v r) in
         let e : stateAfter f x ≡ stateAfter (k + f) s = sym (state-add k f s) in
         let verdict : run x .verdict ≡ step (stateAfter (k + f) s) .verdict =
         sym (q .verdict) ∙ ap (λ (y : Trace). y .verdict) t ∙ ap (λ (y : Search). step y .verdict) e in
@@ -150,3 +141,16 @@ module _ (p : Problem) where
       where
         not-less : (a b : ℕ) → ¬ (a < b) → b ≤ a
         not-less a b n = omega arith
+
+-- ---- the blocks of turns that one call takes
+advanced-long : (v : Verdict) (o : Outcome) (go : Search → Trace) → Long (blockIn (o .block)) → Long (go (o .state) .blocks) → Long (advanced v o go .blocks)
+unfolding advanced withBlocks lastStep
+advanced-long goOn o go h g = long-append (blockIn (o .block)) (go (o .state) .blocks) h g
+advanced-long noSolution o go h g = h
+advanced-long outOfBudget o go h g = h
+advanced-long (solution x) o go h g = h
+
+pub advance-long : (n : ℕ) (s : Search) → Long (advance n s .blocks)
+unfolding advance step
+advance-long zero s = tt
+advance-long (suc n) s = advanced-long (step s .verdict) (step s) (advance n) (step-long (s .status) s) (advance-long n (step s .state))

@@ -1,31 +1,17 @@
 -- There is one right verdict: what it says with enough budget, and for another problem with the same solutions.
-use Prim.Native.Nat.{ℕ, zero, suc, _+_, _≤_, _<_}
+use Prim.Native.Nat.{ℕ, _≤_}
 use native.Mathlib.Omega.{arith}
-use mathlib.Core.List.{List, [], _∷_}
 use mathlib.Core.Logic.{_⊎_, inl, inr, _↔_}
-use mathlib.Core.Path.{_≡_, refl, sym, ap, subst}
-use lib.IntN.{ℤ}
-use lib.Signed.{_<ℤ_}
-use Rattle.model.specs.Constraint.{Constraint}
+use mathlib.Core.Path.{_≡_, refl, sym, ap}
 use Rattle.model.specs.Problem.{Problem, variables, domainInRange, constraintsInRange, divisorsInRange}
 use Rattle.model.specs.Points.{Point, Solution, Before, First, points}
-use Rattle.model.specs.Search.{openProblem}
-use Rattle.model.specs.Step.{Verdict, goOn, noSolution, outOfBudget, solution, run}
+use Rattle.model.specs.Step.{Verdict, goOn, noSolution, outOfBudget, solution}
 use Rattle.model.specs.Demand.{withBudget, verdictWith, Decides, Agree, SameSolutions}
-use Rattle.integer.specs.Parts.{up, down, lt-in}
-use Rattle.soundness.proofs.Sizes.{size, points-size}
+use Rattle.soundness.proofs.Sizes.{size, points-size, before-asym}
 use Rattle.validity.proofs.Steps.{impossible}
 use Rattle.soundness.proofs.Runs.{ProblemFits, Right, run-right}
 
 -- ---- there is one first solution
-before-asym : (u v : Point) → Before u v → Before v u → ⊥
-before-asym [] v h g = h
-before-asym (x ∷ u) [] h g = h
-before-asym (x ∷ u) (y ∷ v) (inl h) (inl g) = omega (arith, lt-in x y (h .lt), lt-in y x (g .lt))
-before-asym (x ∷ u) (y ∷ v) (inl h) (inr g) = omega (arith, lt-in x y (h .lt), ap up (g .0), ap down (g .0))
-before-asym (x ∷ u) (y ∷ v) (inr h) (inl g) = omega (arith, lt-in y x (g .lt), ap up (h .0), ap down (h .0))
-before-asym (x ∷ u) (y ∷ v) (inr h) (inr g) = before-asym u v (h .1) (g .1)
-
 one-first : (u v : Point) → (v ≡ u) ⊎ Before u v → (u ≡ v) ⊎ Before v u → u ≡ v
 one-first u v (inl h) g = sym h
 one-first u v (inr h) (inl g) = g
