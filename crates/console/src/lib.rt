@@ -1,14 +1,17 @@
-// What the programs do with the bytes of a problem file: print its verdict, or write its journal.
+// What the programs do with the bytes of a problem file: print its verdict, write its journal, or print its solutions.
 use libc::STDOUT_FILENO;
 use search::Verdict;
 use state::Search;
 ghost use Rattle.io.specs.Counts.{Counts};
 
+mod input;
+mod listing;
 mod text;
 mod told;
 
+pub use input::read_input;
+pub use listing::print_solutions;
 pub use text::print_ending;
-pub use told::input_failed;
 
 // One byte more than the longest input. Of a longer one this many bytes are read, which is no whole number of blocks: so it counts as truncated.
 pub const INPUT_LENGTH: usize = 65537;
@@ -83,9 +86,7 @@ fn print_search(opened: Search) {
 pub fn print_verdict(file: &[u8]) {
     let opened = search::open(file);
     let answer = opened.answer;
-    let error = problem::error_number(answer);
-    if error != 0 {
-        text::print_refused(error);
+    if text::print_refused(answer) {
         return;
     }
     let state = opened.state;

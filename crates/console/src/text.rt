@@ -1,6 +1,7 @@
-// The text of a verdict, gathered in a buffer that is written out when it is full.
+// The text of a verdict or a listing, gathered in a buffer that is written out when it is full.
 use crate::told::tell_output;
 use libc::STDOUT_FILENO;
+use problem::Answer;
 use report::LONGEST_LINE;
 use search::Verdict;
 ghost use Prim.Native.Nat.{_+_, _≤_};
@@ -16,12 +17,18 @@ fn write(out: &[u8], end: usize, failed: &mut bool)
     }
 }
 
-pub(crate) fn print_refused(error: usize) {
+// Prints why a file is refused. Returns whether it is.
+pub(crate) fn print_refused(answer: Answer) -> bool {
+    let error = problem::error_number(answer);
+    if error == 0 {
+        return false;
+    }
     let mut out = [0u8; LONGEST_LINE];
     let end = report::refused_line(&mut out, 0, error);
     let mut failed = false;
     write(&out, end, &mut failed);
     tell_output(failed);
+    true
 }
 
 // The place of the next line: where too little room is left, the text so far is written out.
@@ -53,17 +60,34 @@ pub(crate) fn put_ends(out: &mut [u8], at: usize, blocks: &[u8], failed: &mut bo
 }
 
 // Puts a verdict's line. 'Go on' is no verdict, and an opened search is never invalid: they have none.
-fn put_verdict(out: &mut [u8], at: usize, verdict: Verdict, values: &[i64; 32], n: usize) -> usize
-    requires { ⌜ at + longestLine ≤ length (now out) ⌝ }
+pub(crate) fn put_verdict(
+    out: &mut [u8],
+    at: usize,
+    verdict: Verdict,
+    values: &[i64; 32],
+    n: usize,
+    failed: &mut bool,
+) -> usize
+    requires { ⌜ (at ≤ length (now out)) × (longestLine ≤ length (now out)) ⌝ }
     ensures { λ r. ⌜ r ≤ length (now (out .entry)) ⌝ }
 {
+    let place = next_place(out, at, failed);
     match verdict {
-        Verdict::Solution => report::solution_line(out, at, values, n),
-        Verdict::NoSolution => report::none_line(out, at),
-        Verdict::OutOfBudget => report::spent_line(out, at),
-        Verdict::GoOn => at,
-        Verdict::Invalid => at,
+        Verdict::Solution => report::solution_line(out, place, values, n),
+        Verdict::NoSolution => report::none_line(out, place),
+        Verdict::OutOfBudget => report::spent_line(out, place),
+        Verdict::GoOn => place,
+        Verdict::Invalid => place,
     }
+}
+
+// Puts the line of the count of conflicts.
+fn put_count(out: &mut [u8], at: usize, count: usize, failed: &mut bool) -> usize
+    requires { ⌜ (at ≤ length (now out)) × (longestLine ≤ length (now out)) ⌝ }
+    ensures { λ r. ⌜ r ≤ length (now (out .entry)) ⌝ }
+{
+    let place = next_place(out, at, failed);
+    report::ends_line(out, place, count)
 }
 
 // Writes out the text with its last two lines: the verdict, and the count.
@@ -78,10 +102,33 @@ pub(crate) fn finish(
 )
     requires { ⌜ (at ≤ length (now out)) × (longestLine ≤ length (now out)) ⌝ }
 {
+    let after_verdict = put_verdict(out, at, verdict, values, n, failed);
+    let end = put_count(out, after_verdict, count, failed);
+    write(out, end, failed);
+}
+
+// Puts the line `ended`.
+pub(crate) fn put_ended(out: &mut [u8], at: usize, failed: &mut bool) -> usize
+    requires { ⌜ (at ≤ length (now out)) × (longestLine ≤ length (now out)) ⌝ }
+    ensures { λ r. ⌜ r ≤ length (now (out .entry)) ⌝ }
+{
     let place = next_place(out, at, failed);
-    let after_verdict = put_verdict(out, place, verdict, values, n);
-    let last = next_place(out, after_verdict, failed);
-    let end = report::ends_line(out, last, count);
+    report::ended_line(out, place)
+}
+
+// Writes out the text of a listing with its last two lines: the counts of conflicts and of solutions struck out.
+pub(crate) fn finish_listing(
+    out: &mut [u8],
+    at: usize,
+    count: usize,
+    struck: usize,
+    failed: &mut bool,
+)
+    requires { ⌜ (at ≤ length (now out)) × (longestLine ≤ length (now out)) ⌝ }
+{
+    let after_count = put_count(out, at, count, failed);
+    let last = next_place(out, after_count, failed);
+    let end = report::struck_line(out, last, struck);
     write(out, end, failed);
 }
 

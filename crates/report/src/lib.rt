@@ -3,12 +3,14 @@ mod line;
 mod text;
 
 pub use line::end_line;
+pub use line::ended_line;
 pub use line::ends_line;
 pub use line::none_line;
 pub use line::plan_line;
 pub use line::refused_line;
 pub use line::solution_line;
 pub use line::spent_line;
+pub use line::struck_line;
 pub use text::put_number;
 pub use text::put_signed;
 pub use text::put_text;

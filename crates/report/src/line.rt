@@ -1,5 +1,5 @@
-// The lines of the program `verdict`, document 01's 'Writer and program'. Each function puts a line into a lent buffer from a place on and answers the
-// place after it.
+// The lines of the programs `verdict`, document 01's 'Writer and program', and `solutions`. Each function puts a line into a lent buffer from a place on and
+// answers the place after it.
 use crate::text;
 use block::journal;
 use block::number;
@@ -123,12 +123,28 @@ pub fn spent_line(out: &mut [u8], at: usize) -> usize
     text::put_text(out, at, b"spent\n")
 }
 
+// `ended`: no decision led to the last solution, so none comes after it.
+pub fn ended_line(out: &mut [u8], at: usize) -> usize
+    requires { ⌜ at + longestLine ≤ length (now out) ⌝ }
+    ensures { λ r. ⌜ Ends longestLine at r ⌝ }
+{
+    text::put_text(out, at, b"ended\n")
+}
+
 // `ends 1`: the count of conflicts, document 01's 'dead ends'.
 pub fn ends_line(out: &mut [u8], at: usize, count: usize) -> usize
     requires { ⌜ at + longestLine ≤ length (now out) ⌝ }
     ensures { λ r. ⌜ Ends longestLine at r ⌝ }
 {
     put_last(out, at, b"ends ", count)
+}
+
+// `struck 1`: the count of solutions struck out.
+pub fn struck_line(out: &mut [u8], at: usize, count: usize) -> usize
+    requires { ⌜ at + longestLine ≤ length (now out) ⌝ }
+    ensures { λ r. ⌜ Ends longestLine at r ⌝ }
+{
+    put_last(out, at, b"struck ", count)
 }
 
 // `refused 4`: an error's number in the documents' tables.

@@ -43,9 +43,21 @@ fn spent() {
     write(&out, end);
 }
 
+fn ended() {
+    let mut out = [0u8; LONGEST_LINE];
+    let end = report::ended_line(&mut out, 0);
+    write(&out, end);
+}
+
 fn ends(count: usize) {
     let mut out = [0u8; LONGEST_LINE];
     let end = report::ends_line(&mut out, 0, count);
+    write(&out, end);
+}
+
+fn struck(count: usize) {
+    let mut out = [0u8; LONGEST_LINE];
+    let end = report::struck_line(&mut out, 0, count);
     write(&out, end);
 }
 
@@ -110,8 +122,11 @@ fn main() {
     solutions();
     none();
     spent();
+    ended();
     ends(0);
     ends(1000000000);
+    struck(0);
+    struck(4611686018427387904);
     refused(1);
     refused(9);
     refused(10);
