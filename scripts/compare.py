@@ -1,16 +1,17 @@
 #!/usr/bin/env python3
-"""Compares the programs `verdict` and `journal` with another implementation of docs/SPECIFICATION.md, on thousands of files.
+"""Compares the programs `verdict`, `journal` and `solutions` with another implementation of docs/SPECIFICATION.md, on thousands of files.
 
-    scripts/compare.py [--rounds N] [--seed S] [--budget B] [--keep FOLDER] [FILE ..]
-                       [--reference PROGRAM] [--generator PROGRAM [--kinds KIND,KIND,..]] [--verdict COMMAND] [--journal COMMAND] [--python]
+    scripts/compare.py [--rounds N] [--seed S] [--budget B] [--lines L] [--keep FOLDER] [FILE ..] [--reference PROGRAM]
+                       [--generator PROGRAM [--kinds KIND,KIND,..]] [--verdict COMMAND] [--journal COMMAND] [--solutions COMMAND] [--python]
 
 The other implementation is reference/ of this repository, or a PROGRAM (scripts/implementation.py says how it is called). Compared with it are COMMANDs,
-each with its arguments in one word: target/bin/verdict and target/bin/journal unless others are named; with --python reference/ itself in their place.
+each with its arguments in one word: target/bin/verdict, target/bin/journal and target/bin/solutions unless others are named; with --python reference/ itself
+in their place.
 In each round one file of each kind is made (reference/generate.py; with --generator the first 16 kinds come from `PROGRAM gen SEED KIND BUDGET`, and further
-KINDs that it has from `PROGRAM gen SEED KIND`) and compared: the text of `verdict`, and every byte of the journal. FILEs are compared first. B is the largest budget, 500 where
-none is given.
-Printed are each disagreement; for each kind how many files were compared, how many of them were refused, and their journal blocks; and how often
-each verdict was met. A file with a disagreement is put into FOLDER. The status is 1 where there is one.
+KINDs that it has from `PROGRAM gen SEED KIND`) and compared: the text of `verdict`, every byte of the journal, and the first L lines of the listing (300 where
+none is given), unless a PROGRAM takes too long over it. FILEs are compared first. B is the largest budget, 500 where none is given.
+Printed are each disagreement; for each kind how many files were compared, how many of them were refused, their journal blocks, and the solutions listed; how
+often each verdict was met, and each end of a listing. A file with a disagreement is put into FOLDER. The status is 1 where there is one.
 """
 import argparse
 import random
@@ -21,17 +22,31 @@ import sys
 from collections import Counter
 from pathlib import Path
 
-from implementation import ROOT, expected, run, solve
+from implementation import ROOT, expected, expected_listing, first_lines, run, solve
 from files import BLOCK
 from generate import BUDGETS, DAMAGE, FAMILIES, PROBLEMS, generate
 
 
-def answer(command, file):
-    """What a program writes. A failure is an answer too: it agrees with none."""
+def answer(command, file, lines=None):
+    """What a program writes, or its first lines. A failure is an answer too: it agrees with none."""
     try:
-        return run(shlex.split(command), file)
+        return first_lines(shlex.split(command), file, lines) if lines else run(shlex.split(command), file)
     except (subprocess.CalledProcessError, subprocess.TimeoutExpired) as error:
         return str(error).encode()
+
+
+def right_listing(options, file):
+    """The first lines expected; nothing where that takes too long."""
+    try:
+        return expected_listing(options.reference, file, options.lines)
+    except subprocess.TimeoutExpired:
+        return b""
+
+
+def listing_end(lines):
+    if not lines:
+        return "not listed"
+    return lines[-3] if lines[-1].startswith("struck") else "longer"
 
 
 class Maker:
@@ -68,24 +83,36 @@ class Comparison:
         self.options = options
         self.compared = {}
         self.verdicts = Counter()
+        self.ends = Counter()
         self.disagreements = 0
 
     def compare(self, kind, name, file):
         text, journal = expected(self.options.reference, file)
-        for (command, found), right in zip(self.answers(file), [text.encode(), journal]):
+        listing = right_listing(self.options, file)
+        rights = [text.encode(), journal] + ([listing] if listing else [])
+        for right, (command, found) in zip(rights, self.answers(file)):
             if found != right:
                 self.disagree(kind, name, file, command, found, right)
         refusal = text.startswith("refused")
         self.verdicts[text.strip() if refusal else text.splitlines()[-2].split()[0]] += 1
-        files, refused, blocks = self.compared.get(kind, (0, 0, 0))
-        self.compared[kind] = (files + 1, refused + refusal, blocks + len(journal) // BLOCK)
+        lines = listing.decode().splitlines()
+        if not refusal:
+            self.ends[listing_end(lines)] += 1
+        counts = (1, refusal, len(journal) // BLOCK, sum(line.startswith("solution") for line in lines))
+        self.compared[kind] = tuple(map(sum, zip(self.compared.get(kind, (0, 0, 0, 0)), counts)))
 
     def answers(self, file):
-        """What is compared, each with the command that gives it: a text and a journal."""
-        if self.options.python:
+        """What is compared, one after the other, each with the command that gives it: a text, a journal and a listing."""
+        options = self.options
+        if options.python:
             text, journal = solve.solve(file)
-            return [("reference/ verdict", text.encode()), ("reference/ journal", journal)]
-        return [(command, answer(command, file)) for command in (self.options.verdict, self.options.journal)]
+            yield "reference/ verdict", text.encode()
+            yield "reference/ journal", journal
+            yield "reference/ list", expected_listing(None, file, options.lines)
+            return
+        yield options.verdict, answer(options.verdict, file)
+        yield options.journal, answer(options.journal, file)
+        yield options.solutions, answer(options.solutions, file, options.lines)
 
     def disagree(self, kind, name, file, command, found, right):
         self.disagreements += 1
@@ -99,11 +126,11 @@ class Comparison:
             (folder / ("%s-%s.plan" % (kind, name))).write_bytes(file)
 
     def summary(self):
-        print("| kind | files | refused | journal blocks |\n|---|---|---|---|")
-        for kind, counts in self.compared.items():
-            print("| %s | %d | %d | %d |" % ((kind,) + counts))
-        print("| all | %d | %d | %d |" % tuple(map(sum, zip(*self.compared.values()))))
-        print("verdicts: " + ", ".join("%d %s" % (count, verdict) for verdict, count in sorted(self.verdicts.items())))
+        print("| kind | files | refused | journal blocks | solutions |\n|---|---|---|---|---|")
+        for kind, counts in [*self.compared.items(), ("all", tuple(map(sum, zip(*self.compared.values()))))]:
+            print("| %s | %d | %d | %d | %d |" % ((kind,) + counts))
+        for name, met in [("verdicts", self.verdicts), ("listings", self.ends)]:
+            print("%s: %s" % (name, ", ".join("%d %s" % (count, word) for word, count in sorted(met.items()))))
         print("%d disagreements" % self.disagreements)
 
 
@@ -112,6 +139,7 @@ def options_given():
     parser.add_argument("--rounds", type=int, default=200)
     parser.add_argument("--seed", type=int, default=1)
     parser.add_argument("--budget", type=int, default=500)
+    parser.add_argument("--lines", type=int, default=300)
     parser.add_argument("--keep")
     parser.add_argument("--reference")
     parser.add_argument("--generator")
@@ -119,15 +147,16 @@ def options_given():
     parser.add_argument("--python", action="store_true")
     parser.add_argument("--verdict", default=str(ROOT / "target/bin/verdict"))
     parser.add_argument("--journal", default=str(ROOT / "target/bin/journal"))
+    parser.add_argument("--solutions", default=str(ROOT / "target/bin/solutions"))
     parser.add_argument("files", nargs="*")
     return parser.parse_intermixed_args()
 
 
 def main():
     options = options_given()
-    for command in [] if options.python else [options.verdict, options.journal]:
+    for command in [] if options.python else [options.verdict, options.journal, options.solutions]:
         if shutil.which(shlex.split(command)[0]) is None:
-            sys.exit("there is no program %s: `rt check verdict` and `rt check journal` build ours" % command)
+            sys.exit("there is no program %s: `rt check verdict journal solutions` builds ours" % command)
     comparison = Comparison(options)
     for path in options.files:
         comparison.compare("given", Path(path).stem, Path(path).read_bytes())

@@ -7,13 +7,14 @@ What is expected comes from this repository's reference/ (which takes some minut
 called); never from this repository's programs.
 
 Written are the plan files below (crates/vectors/data), the names of these and of the larger files that stand there already (crates/vectors/args),
-what `vectors` must print for them (crates/vectors/stdout), and plan A with its outputs (examples, crates/verdict, crates/journal).
+what `vectors` must print for them (crates/vectors/stdout), plan A with its outputs (examples, crates/verdict, crates/journal), and the listing of
+examples/blueprint.plan (crates/solutions).
 """
 import argparse
 
-from implementation import ROOT, expected
-from files import (CONTENT, DIVISOR_OFFSET, MAGIC, MAX_BOUND, MAX_BUDGET, MAX_COEFFICIENT, MAX_DIVISOR, Constraint, constraint_content,
-                   constraint_of, head_fields, problem_file, sealed)
+from implementation import ROOT, expected, expected_listing, solve
+from files import (CONTENT, DIVISOR_OFFSET, MAGIC, MAX_BOUND, MAX_BUDGET, MAX_COEFFICIENT, MAX_DIVISOR, MAX_VARIABLES, Constraint,
+                   constraint_content, constraint_of, head_fields, problem_file, sealed)
 
 DATA = ROOT / "crates/vectors/data"
 DIGEST_PRIME = 2**55 - 55
@@ -47,6 +48,7 @@ PLAN_A_LIMITS = [(0, 1)] * 2
 PLAN_A_LINES = [[1, -1, -1], [0, -1, 1]]
 PLAN_A = problem_file(5, PLAN_A_LIMITS, PLAN_A_LINES)
 PLAN_B_LINES = [[-2, 6, -3], [1, -6, 3]]
+PLAN_C_LINES = [divided(3, 0, 1, 1), [2, -1, -1]]
 
 
 def torn_files():
@@ -238,11 +240,10 @@ def bad_divisor_files():
 
 def divisor_files():
     """Divisor lines: when they are false, what a dead end on them gives, and what they leave alone."""
-    plan_c = [divided(3, 0, 1, 1), [2, -1, -1]]
-    yield "plan-c", problem_file(5, [(0, 2)] * 2, plan_c)
-    yield "plan-c-budget-0", problem_file(0, [(0, 2)] * 2, plan_c)
-    yield "plan-c-budget-1", problem_file(1, [(0, 2)] * 2, plan_c)
-    yield "plan-c-lines-exchanged", problem_file(5, [(0, 2)] * 2, plan_c[::-1])
+    yield "plan-c", problem_file(5, [(0, 2)] * 2, PLAN_C_LINES)
+    yield "plan-c-budget-0", problem_file(0, [(0, 2)] * 2, PLAN_C_LINES)
+    yield "plan-c-budget-1", problem_file(1, [(0, 2)] * 2, PLAN_C_LINES)
+    yield "plan-c-lines-exchanged", problem_file(5, [(0, 2)] * 2, PLAN_C_LINES[::-1])
     # Items on dialogues and on talks are printed five to a passage.
     paper = [(2, 10), (1, 7), (1, 5), (2, 7), (4, 8)]
     fives = [divided(5, 0, 1, 1), divided(5, 0, 0, 0, 1, 1)]
@@ -302,17 +303,28 @@ def jump_files():
     yield "back-over-levels-and-divisors-last", problem_file(60, [(0, 1)] * 20, pigeons + [pair, four])
 
 
-GROUPS = [torn_files, bad_files, edge_files, bound_files, walk_files, range_files, cut_files, block_files, bad_divisor_files, divisor_files, jump_files]
+def listing_files():
+    """Solutions struck out at each depth, between cuts that are dropped, and with a budget at the conflicts that it takes and below."""
+    yield "struck-at-each-depth", problem_file(0, [(0, 1)] * 31, [[-1] + [1] * 31])
+    yield "struck-between-cuts-dropped", problem_file(297, [(0, 4)] * 11, CUTS)
+    yield "struck-between-cuts-dropped-spent", problem_file(296, [(0, 4)] * 11, CUTS)
+    for budget in [2, 3, 4]:
+        yield "plan-c-budget-%d" % budget, problem_file(budget, [(0, 2)] * 2, PLAN_C_LINES)
+
+
+GROUPS = [torn_files, bad_files, edge_files, bound_files, walk_files, range_files, cut_files, block_files, bad_divisor_files, divisor_files, jump_files,
+          listing_files]
 
 
 def printed(program, name, file):
-    """What `vectors` prints: the name, the verdict's text, a digest of the journal, and the verdict and count of a run."""
+    """What `vectors` prints: the name, the verdict's text, a digest of the journal, the verdict and count of a run, and below 32 variables the listing."""
     text, journal = expected(program, file)
     if text.startswith("refused"):
         return "%s\n%s" % (name, text)
     digest = int.from_bytes(journal, "big") % DIGEST_PRIME
     ending = "".join(text.splitlines(keepends=True)[-2:])
-    return "%s\n%sjournal %d\n%s" % (name, text, digest, ending)
+    listed = len(solve.read_input(file).limits) < MAX_VARIABLES
+    return "%s\n%sjournal %d\n%s%s" % (name, text, digest, ending, expected_listing(program, file).decode() if listed else "")
 
 
 def write_plan_a(program):
@@ -324,6 +336,14 @@ def write_plan_a(program):
     text, journal = expected(program, PLAN_A)
     (ROOT / "crates/verdict/stdout").write_text(text)
     (ROOT / "crates/journal/stdout").write_bytes(journal)
+
+
+def write_listing(program):
+    """The listing of an example."""
+    file = (ROOT / "examples/blueprint.plan").read_bytes()
+    folder = ROOT / "crates/solutions"
+    (folder / "stdin").write_bytes(file)
+    (folder / "stdout").write_bytes(expected_listing(program, file))
 
 
 def main():
@@ -340,6 +360,7 @@ def main():
     texts = [printed(program, name, file) for name, file in files.items()]
     (ROOT / "crates/vectors/stdout").write_text("".join(texts))
     write_plan_a(program)
+    write_listing(program)
     print("%d files" % len(files))
 
 

@@ -4,20 +4,21 @@
     scripts/variants.py [ROUNDS]
 
 Each variant replaces one piece of text in a module of reference/. In each round (60 unless ROUNDS says otherwise) one file of each kind is solved by the
-reference and by each variant that no earlier file has told apart. Printed are, for each variant, the round and kind of the first file with another text or
-journal. A variant that fails, or takes over a minute on a file, is told apart by it.
+reference and by each variant that no earlier file has told apart. Printed are, for each variant, the round and kind of the first file with another text,
+journal or beginning of its listing. A variant that fails, or takes over a minute on a file, is told apart by it.
 """
 import random
 import signal
 import sys
 import types
+from itertools import islice
 
-from implementation import ROOT
+from implementation import ROOT, solve
 from generate import DAMAGE, PROBLEMS, generate
-from solve import solve
 
 MODULES = ["files", "search", "solve"]
 SECONDS = 60
+LINES = 40
 
 # a module, a piece of its text, what stands there in the variant, and the variant's name
 VARIANTS = [
@@ -175,6 +176,11 @@ VARIANTS = [
         "return next((number for number, constraint in sorted(kept, key=lambda k: k[1].divisor > 0) if falsified(constraint, level)), None)",
         "inequalities tested before divisors",
     ),
+    ("search", "    after.status = UNDECIDED\n", "", "a solution struck out that stays marked"),
+    ("search", "    after.status = UNDECIDED\n", "    after.status = UNDECIDED\n    after.conflicts += 1\n", "a solution struck out counted as a conflict"),
+    ("search", "    after.status = UNDECIDED\n", "    after.status = UNDECIDED\n    after.cuts, after.made = [], 0\n", "cuts lost where a solution is struck out"),
+    ("search", "back_up(after, after.depth)", "back_up(after, 1)", "a solution struck out at depth 1"),
+    ("search", "    if search.depth == 0:\n        return ENDED", "    if search.depth <= 1:\n        return ENDED", "a listing ended at depth 1"),
     ("files", "MAX_DIVISOR = 2**20", "MAX_DIVISOR = 2**20 + 1", "divisors of 2^20 + 1 accepted"),
     ("files", "MAX_DIVISOR = 2**20", "MAX_DIVISOR = 2**20 - 1", "divisors of 2^20 refused"),
     ("files", "MIN_DIVISOR = 2", "MIN_DIVISOR = 1", "divisors of 1 accepted"),
@@ -214,8 +220,13 @@ VARIANTS = [
 ]
 
 
+def answers(solver):
+    """What a module `solve` makes of a file: the text and the journal, and the listing's first lines."""
+    return lambda file: (solver.solve(file), list(islice(solver.listing(file), LINES)))
+
+
 def variant(module, right, wrong):
-    """The function `solve` of the reference with one replacement."""
+    """The answers of the reference with one replacement."""
     texts = {name: (ROOT / "reference" / (name + ".py")).read_text() for name in MODULES}
     if texts[module].count(right) != 1:
         sys.exit("not once in %s: %s" % (module, right))
@@ -224,19 +235,19 @@ def variant(module, right, wrong):
     for name in MODULES:
         sys.modules[name] = types.ModuleType(name)
         exec(compile(texts[name], name, "exec"), sys.modules[name].__dict__)
-    solve_wrongly = sys.modules["solve"].solve
+    wrong_answers = answers(sys.modules["solve"])
     sys.modules.update({name: module for name, module in loaded.items() if module})
-    return solve_wrongly
+    return wrong_answers
 
 
 def too_long(*_):
     raise TimeoutError
 
 
-def answer(solve_wrongly, file):
+def answer(wrong_answers, file):
     signal.alarm(SECONDS)
     try:
-        return solve_wrongly(file)
+        return wrong_answers(file)
     except Exception as error:
         return error
     finally:
@@ -247,12 +258,13 @@ def main():
     rounds = int(sys.argv[1]) if len(sys.argv) > 1 else 60
     signal.signal(signal.SIGALRM, too_long)
     chosen = random.Random(5)
+    right_answers = answers(solve)
     left = {name: variant(module, right, wrong) for module, right, wrong, name in VARIANTS}
     for number in range(1, rounds + 1):
         for kind in [*PROBLEMS, *DAMAGE]:
             file = generate(chosen.randrange(10**6), kind)
-            expected = solve(file)
-            told = [name for name, solve_wrongly in left.items() if answer(solve_wrongly, file) != expected]
+            expected = right_answers(file)
+            told = [name for name, wrong_answers in left.items() if answer(wrong_answers, file) != expected]
             for name in told:
                 print("round %d, %s: %s" % (number, kind, name), flush=True)
                 del left[name]

@@ -1,22 +1,24 @@
 // The checks of one problem against plain enumeration: every way through the search, with a budget of as many conflicts as there are points and with
 // smaller ones.
+use crate::listing;
 use crate::opened;
-use crate::points::Enumerated;
-use crate::points::enumerate;
-use crate::ways::MARK;
-use crate::ways::NO_SOLUTION;
-use crate::ways::OUT_OF_BUDGET;
-use crate::ways::Outcome;
-use crate::ways::ROOM;
-use crate::ways::SOLUTION;
-use crate::ways::plain;
-use crate::ways::run;
-use crate::ways::same;
-use crate::ways::trace;
-use crate::ways::walk;
 use block::number::i32_at;
 use block::number::u32_at;
 use problem::Problem;
+use trials::points::Enumerated;
+use trials::points::enumerate;
+use trials::ways::MARK;
+use trials::ways::NO_SOLUTION;
+use trials::ways::OUT_OF_BUDGET;
+use trials::ways::Outcome;
+use trials::ways::ROOM;
+use trials::ways::SOLUTION;
+use trials::ways::open;
+use trials::ways::plain;
+use trials::ways::run;
+use trials::ways::same;
+use trials::ways::trace;
+use trials::ways::walk;
 ghost use Prim.Native.Nat.{_≤_, _<_};
 
 // What is wrong with a problem; or nothing.
@@ -34,11 +36,14 @@ const RUN: usize = 5;
 
 const TRACE: usize = 6;
 
-// What a problem showed: its solutions, and its conflicts.
+const LISTING: usize = 7;
+
+// What a problem showed: its solutions, its conflicts, and the solutions that were listed.
 pub struct Report {
     pub wrong: usize,
     pub found: usize,
     pub conflicts: usize,
+    pub listed: usize,
 }
 
 // The outcome that enumeration asks for, with so many conflicts in all and a budget of them.
@@ -71,8 +76,8 @@ fn cut_of(journal: &[u8; ROOM], k: usize) -> [i64; 33]
     cut
 }
 
-// Whether the blocks are numbered, and every solution meets the cut of each.
-fn are_blocks_right(journal: &[u8; ROOM], blocks: usize, p: Problem) -> bool {
+// Whether the blocks, at most 16, are numbered, and every solution meets the cut of each.
+pub fn are_blocks_right(journal: &[u8; ROOM], blocks: usize, p: Problem) -> bool {
     let mut k: usize = 0;
     while k < 16 {
         if k == blocks {
@@ -88,11 +93,11 @@ fn are_blocks_right(journal: &[u8; ROOM], blocks: usize, p: Problem) -> bool {
         }
         k += 1;
     }
-    false
+    k == blocks
 }
 
 // The budgets: the points, one less, half of them, 1 and 0.
-fn budget_of(points: usize, k: usize) -> usize {
+pub fn budget_of(points: usize, k: usize) -> usize {
     match k {
         0 => points,
         1 => std::num::wrapping_sub_usize(points, 1),
@@ -106,7 +111,7 @@ fn budget_of(points: usize, k: usize) -> usize {
 fn try_budget(p: Problem, budget: usize, want: Outcome, first: usize) -> usize
     requires { ⌜ first ≤ 2048 ⌝ }
 {
-    let s = opened::open(p, budget);
+    let s = open(p, budget);
     if !opened::is_right(s, p, budget) {
         return OPENING;
     }
@@ -150,10 +155,16 @@ pub fn check(p: Problem, first: usize) -> Report
     requires { ⌜ first ≤ 2048 ⌝ }
 {
     let e = enumerate(p, &[0i64; 33]);
-    let full = run(opened::open(p, e.points), 0);
+    let full = run(open(p, e.points), 0);
+    let all = listing::list(p, e, e.points, true);
+    let mut wrong = try_budgets(p, e, full.count, first);
+    if !listing::are_right(p, e, all) {
+        wrong = LISTING;
+    }
     Report {
-        wrong: try_budgets(p, e, full.count, first),
+        wrong,
         found: e.found,
         conflicts: full.count,
+        listed: all.shown,
     }
 }

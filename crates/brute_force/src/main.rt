@@ -1,22 +1,15 @@
-// Small problems against plain enumeration, and made-up states: how many cases of each kind were run, and each disagreement.
+// Small problems against plain enumeration: what the problems of each family showed, and each disagreement.
 mod agree;
-mod bounds;
-mod changes;
-mod compare;
-mod divided;
-mod family;
-mod litter;
-mod made_up;
-mod number;
+mod listing;
 mod opened;
-mod points;
 mod print;
-mod ways;
 
 use agree::Report;
-use family::Family;
-use made_up::Tried;
-use number::plus;
+use trials::family;
+use trials::family::Family;
+use trials::number::plus;
+use trials::print::disagreements;
+use trials::print::text;
 
 // Tries a problem of a family; the sums with it.
 fn try_problem(sum: Report, f: Family, i: usize) -> Report {
@@ -24,6 +17,7 @@ fn try_problem(sum: Report, f: Family, i: usize) -> Report {
     let r = agree::check(family::problem_of(f, k), i % 2048);
     let mut s = sum;
     s.conflicts = plus(s.conflicts, r.conflicts);
+    s.listed = plus(s.listed, r.listed);
     if 0 < r.found {
         s.found = plus(s.found, 1);
     }
@@ -40,6 +34,7 @@ fn try_family(f: Family) -> usize {
         wrong: 0,
         found: 0,
         conflicts: 0,
+        listed: 0,
     };
     let mut i: usize = 0;
     while i < f.problems {
@@ -51,31 +46,6 @@ fn try_family(f: Family) -> usize {
     }
     print::family(f, sum);
     sum.wrong
-}
-
-// The problems whose states are changed in a kind: two equations, and a divisor constraint after them for the last kinds.
-fn changed_family(kind: usize) -> Family {
-    if kind < made_up::NAMED {
-        return family::of(6, 4, 1, 0, 1, 3, 3, 1, 0);
-    }
-    family::of(6, 5, 1, 1, 1, 3, 3, 1, 0)
-}
-
-// Tries the made-up states of a kind, and prints how many.
-fn try_kind(kind: usize) -> usize {
-    let f = changed_family(kind);
-    let mut tried = Tried {
-        states: 0,
-        wrong: 0,
-    };
-    let mut i: usize = 0;
-    while i < 100 {
-        let p = family::problem_of(f, family::number_of(f, i));
-        tried = made_up::try_states(tried, p, kind);
-        i += 1;
-    }
-    print::kind(kind, tried);
-    tried.wrong
 }
 
 const FAMILIES: usize = 25;
@@ -118,24 +88,15 @@ fn divided_family_of(k: usize) -> Family {
     }
 }
 
-// Each family, and then each kind of made-up states.
-fn try_part(k: usize) -> usize {
-    if k < FAMILIES {
-        return try_family(family_of(k));
-    }
-    try_kind(k - FAMILIES)
-}
-
 fn main() {
-    print::text(
-        b"variables constraints equations divided boxes coefficient constant random problems solvable conflicts\n",
+    text(
+        b"variables constraints equations divided boxes coefficient constant random problems solvable conflicts listed\n",
     );
     let mut wrong: usize = 0;
     let mut k: usize = 0;
-    while k < FAMILIES + made_up::KINDS {
-        wrong = plus(wrong, try_part(k));
+    while k < FAMILIES {
+        wrong = plus(wrong, try_family(family_of(k)));
         k += 1;
     }
-    print::number(wrong);
-    print::text(b" disagreements\n");
+    disagreements(wrong);
 }

@@ -1,36 +1,14 @@
-// Problems written and opened, and whether the opened state is the problem's.
-use crate::compare::counts_same;
-use crate::compare::level_same;
-use crate::compare::numbers_same;
-use crate::compare::sizes_of;
-use crate::number::added;
+// Whether an opened state is the problem's.
 use integer::magnitude;
-use problem::Answer;
 use problem::Problem;
 use state::Level;
 use state::Search;
+use trials::compare::counts_same;
+use trials::compare::level_same;
+use trials::compare::numbers_same;
+use trials::compare::sizes_of;
+use trials::number::added;
 ghost use Prim.Native.Nat.{_+_, _<_};
-
-// The state of a problem of at most six constraints, written with a budget and opened; one without variables if it is refused. A divisor past the
-// constraints is not looked at.
-pub fn open(p: Problem, budget: usize) -> Search {
-    let mut q = p;
-    q.budget = budget;
-    q.divisors[63] = -1;
-    let mut file = [0u8; 3584];
-    problem::write(q, &mut file);
-    let end = 512 * (p.m % 7 + 1);
-    let o = search::open(&file[0..end]);
-    let answer = o.answer;
-    let mut s = o.state;
-    match answer {
-        Answer::Done => {}
-        _ => {
-            s.n = 0;
-        }
-    }
-    s
-}
 
 // Whether a number divides the coefficients of the constraint at a place.
 fn divides(d: u64, rows: &[i64; 2112], start: usize) -> bool

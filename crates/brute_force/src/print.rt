@@ -1,32 +1,9 @@
 // What the program prints.
 use crate::agree::Report;
-use crate::family::Family;
-use crate::made_up::Tried;
-use crate::number::plus;
-use libc::STDOUT_FILENO;
-
-pub fn text(s: &[u8]) {
-    io::write_all(STDOUT_FILENO, s);
-}
-
-pub fn number(k: usize) {
-    io::print_decimal(STDOUT_FILENO, k as u64);
-}
-
-// Line k of a text, from 0.
-fn line(lines: &[u8], k: usize) {
-    let mut seen: usize = 0;
-    let mut i: usize = 0;
-    while i < lines.len() {
-        if seen == k {
-            text(&lines[i..i + 1]);
-        }
-        if lines[i] == 10 {
-            seen = plus(seen, 1);
-        }
-        i += 1;
-    }
-}
+use trials::family::Family;
+use trials::print::line;
+use trials::print::number;
+use trials::print::text;
 
 // A family, and sums over its problems.
 pub fn family(f: Family, sum: Report) {
@@ -42,10 +19,11 @@ pub fn family(f: Family, sum: Report) {
         f.problems,
         sum.found,
         sum.conflicts,
+        sum.listed,
     ];
     number(f.n);
     let mut i: usize = 1;
-    while i < 11 {
+    while i < 12 {
         text(b" ");
         number(row[i]);
         i += 1;
@@ -58,20 +36,7 @@ pub fn disagreement(wrong: usize, k: usize) {
     text(b"disagreement: problem ");
     number(k);
     line(
-        b"\n: more conflicts than points\n: opened state\n: steps\n: cut\n: run\n: trace\n",
+        b"\n: more conflicts than points\n: opened state\n: steps\n: cut\n: run\n: trace\n: listing\n",
         wrong,
     );
-}
-
-// A kind of made-up states, and how many were tried.
-pub fn kind(k: usize, tried: Tried) {
-    number(tried.states);
-    line(
-        b" n of 0\n n of 33\n m of 65\n a budget of 1000000001\n a conflict more than the budget\n a cut made more than the conflicts\n a level more than the variables\n a constant of 1073741825\n a coefficient of -1073741825\n a wrong number of a cut\n a lower bound of -1048577\n an upper bound of 1048577\n a lower bound above the upper one\n a reason of a lower bound that no constraint has\n a reason of an upper bound that no constraint has\n a decided variable out of range\n a decided variable open\n a decided variable not open above\n an upper bound above that of the level above\n a lower bound below that of the level above\n marked solution with an open variable\n 'none' marked solution\n marked 'none' with a solution\n marked solution with a false constraint\n a budget of the conflicts counted\n other numbers where nothing is read\n a solution with no mark\n a divisor of -1\n a divisor of 1\n a divisor of 1048577\n marked solution with a false divisor constraint\n marked 'none' with a divisor constraint that is met\n marked solution with a divisor constraint that is met\n marked 'none' with a false divisor constraint\n a divisor constraint false at every level\n a divisor constraint false from level 1 on\n a divisor constraint false at the level gone back to\n a divisor constraint as a reason\n other numbers where nothing is read, with a divisor constraint\n",
-        k,
-    );
-    if 0 < tried.wrong {
-        number(tried.wrong);
-        text(b" disagreements\n");
-    }
 }

@@ -1,11 +1,15 @@
 // Stored problem files against what another implementation answers. An argument names a file; printed are its name, what `verdict` prints for it (by
-// `trace`), a digest of its journal (by `step`, a turn at a time), and the verdict and count of `run`. A file with an error has only its number.
+// `trace`), a digest of its journal (by `step`, a turn at a time), the verdict and count of `run`, and what `solutions` prints. A file with an error has
+// only its number.
 use console::MAX_TURNS;
 use libc::STDOUT_FILENO;
 use state::Search;
 
 // The largest prime below 2^55: a remainder times 256 and one byte more fit 64 bits.
 const PRIME: usize = 36028797018963913;
+
+// Problems of fewer variables are listed. Of those with more some have solutions without end.
+const UNLISTED: usize = 32;
 
 // The bytes so far and one more, read as a number with 256 as its base, modulo a prime.
 fn add_byte(digest: usize, byte: u8) -> usize {
@@ -63,6 +67,9 @@ fn print_file(file: &[u8]) {
     let verdict = ran.verdict;
     let values = ran.values;
     console::print_ending(verdict, &values, state.n, ran.count);
+    if state.n < UNLISTED {
+        console::print_solutions(file);
+    }
 }
 
 // The file that argument i names.

@@ -1,2 +1,0 @@
--- Laws for this program's proofs.
-pub mod Lengths

@@ -1,0 +1,84 @@
+-- `trials::family::problem_of` meets its contract. Assumes nothing.
+use borrow.Author.Needs.{needs}
+use Prim.Native.Nat.{_-_, _≤_}
+use mathlib.Core.Path.{_≡_}
+use lib.ListN.{length, length-set}
+use Rattle.trials.proofs.family.problem_of.Statement.{statement}
+use Rattle.trials.proofs.family.problem_of.Tie as tie
+
+abbrev Inv-loop : tie.InvT-loop
+Inv-loop f k lower₀ upper₀ left₀ i₀ lower upper left i = (i ≤ 6) × (length lower ≡ 32) × (length upper ≡ 32)
+
+abbrev μ-loop : tie.MeasureT-loop
+μ-loop f k lower₀ upper₀ left₀ i₀ lower upper left i = 6 - i
+
+loop-holds : tie.Need-loop-holds Inv-loop μ-loop
+loop-holds c = search needs
+
+digit-of-requires : tie.Need-digit-of-requires Inv-loop μ-loop
+digit-of-requires c κs = search needs
+
+mul-lower : tie.Need-mul-lower Inv-loop μ-loop
+mul-lower c = search needs
+
+array-copy-out-lower : tie.Need-array-copy-out-lower Inv-loop μ-loop
+array-copy-out-lower c = search needs
+
+mul-lower-2 : tie.Need-mul-lower-2 Inv-loop μ-loop
+mul-lower-2 c = search needs
+
+array-set-from-lower : tie.Need-array-set-from-lower Inv-loop μ-loop
+array-set-from-lower c = search needs
+
+mul-upper : tie.Need-mul-upper Inv-loop μ-loop
+mul-upper c = search needs
+
+array-copy-out-upper : tie.Need-array-copy-out-upper Inv-loop μ-loop
+array-copy-out-upper c = search needs
+
+mul-upper-2 : tie.Need-mul-upper-2 Inv-loop μ-loop
+mul-upper-2 c = search needs
+
+array-set-from-upper : tie.Need-array-set-from-upper Inv-loop μ-loop
+array-set-from-upper c = search needs
+
+add-i : tie.Need-add-i Inv-loop μ-loop
+add-i c = search needs
+
+loop-less : tie.Need-loop-less Inv-loop μ-loop
+loop-less c = search needs
+
+loop-again : tie.Need-loop-again Inv-loop μ-loop
+loop-again c = (search needs, simp length-set (search needs), simp length-set (search needs))
+
+divisors-of-requires : tie.Need-divisors-of-requires Inv-loop μ-loop
+divisors-of-requires c κs = search needs
+
+rows-of-requires : tie.Need-rows-of-requires Inv-loop μ-loop
+rows-of-requires c κs = search needs
+
+returns : tie.Need-returns Inv-loop μ-loop
+returns c = search needs
+
+pub problem-of-spec : {M : Type 1} → statement M
+problem-of-spec =
+    tie.close
+    (tie.spec
+    Inv-loop
+    μ-loop
+    loop-holds
+    digit-of-requires
+    mul-lower
+    array-copy-out-lower
+    mul-lower-2
+    array-set-from-lower
+    mul-upper
+    array-copy-out-upper
+    mul-upper-2
+    array-set-from-upper
+    add-i
+    loop-less
+    loop-again
+    divisors-of-requires
+    rows-of-requires
+    returns)

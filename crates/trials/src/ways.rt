@@ -1,0 +1,212 @@
+// From a problem to its opened state, and three ways from a state to its verdict: turns one by one, a run, and a trace in two parts.
+use crate::compare::numbers_same;
+use crate::number::plus;
+use problem::Answer;
+use problem::Problem;
+use search::Verdict;
+use state::Search;
+ghost use mathlib.Core.Path.{_≡_};
+ghost use Prim.Native.Nat.{_≤_};
+ghost use lib.ListN.{length};
+
+// A journal has room for 16 blocks, and this byte where no block was put.
+pub const ROOM: usize = 8192;
+
+pub const MARK: u8 = 238;
+
+// Verdicts as numbers; the last is this program's own, for a way that went wrong.
+pub const GO_ON: usize = 0;
+
+pub const NO_SOLUTION: usize = 1;
+
+pub const OUT_OF_BUDGET: usize = 2;
+
+pub const SOLUTION: usize = 3;
+
+pub const INVALID: usize = 4;
+
+const WRONG: usize = 5;
+
+// A verdict, its count and values, and how many blocks came on the way.
+pub struct Outcome {
+    pub verdict: usize,
+    pub count: usize,
+    pub blocks: usize,
+    pub values: [i64; 32],
+}
+
+// The state of a problem of at most six constraints, written with a budget and opened; one without variables if it is refused. A divisor past the
+// constraints is not looked at.
+pub fn open(p: Problem, budget: usize) -> Search {
+    let mut q = p;
+    q.budget = budget;
+    q.divisors[63] = -1;
+    let mut file = [0u8; 3584];
+    problem::write(q, &mut file);
+    let end = 512 * (p.m % 7 + 1);
+    let o = search::open(&file[0..end]);
+    let answer = o.answer;
+    let mut s = o.state;
+    match answer {
+        Answer::Done => {}
+        _ => {
+            s.n = 0;
+        }
+    }
+    s
+}
+
+// A verdict's number.
+fn code(verdict: Verdict) -> usize {
+    match verdict {
+        Verdict::GoOn => GO_ON,
+        Verdict::NoSolution => NO_SOLUTION,
+        Verdict::OutOfBudget => OUT_OF_BUDGET,
+        Verdict::Solution => SOLUTION,
+        Verdict::Invalid => INVALID,
+    }
+}
+
+pub fn outcome_of(verdict: Verdict, count: usize, blocks: usize, values: [i64; 32]) -> Outcome {
+    Outcome {
+        verdict: code(verdict),
+        count,
+        blocks,
+        values,
+    }
+}
+
+// An outcome with no values.
+pub fn plain(verdict: usize, count: usize, blocks: usize) -> Outcome {
+    Outcome {
+        verdict,
+        count,
+        blocks,
+        values: [0; 32],
+    }
+}
+
+pub fn same(a: Outcome, b: Outcome) -> bool {
+    if a.verdict != b.verdict {
+        return false;
+    }
+    if a.count != b.count {
+        return false;
+    }
+    if a.blocks != b.blocks {
+        return false;
+    }
+    numbers_same(&a.values, &b.values, 32)
+}
+
+pub fn journals_same(a: &[u8; ROOM], b: &[u8; ROOM]) -> bool {
+    let mut i: usize = 0;
+    while i < ROOM {
+        if a[i] != b[i] {
+            return false;
+        }
+        i += 1;
+    }
+    true
+}
+
+pub fn is_blank(block: &[u8; 512]) -> bool {
+    let mut i: usize = 0;
+    while i < 512 {
+        if block[i] != 0 {
+            return false;
+        }
+        i += 1;
+    }
+    true
+}
+
+// Puts a block, if there is one, after those in the journal; the new number of them.
+fn put(journal: &mut [u8; ROOM], blocks: usize, recorded: bool, block: &[u8; 512]) -> usize {
+    if !recorded {
+        return blocks;
+    }
+    if 15 < blocks {
+        return blocks;
+    }
+    let start = 512 * blocks;
+    let mut i: usize = 0;
+    while i < 512 {
+        journal[start + i] = block[i];
+        i += 1;
+    }
+    blocks + 1
+}
+
+// The outcome of turns that gave a verdict, if the answer and the block of the next turn are the verdict again and nothing.
+fn settled(last: Outcome, again: Outcome, block: &[u8; 512]) -> Outcome {
+    if !is_blank(block) {
+        return plain(WRONG, 0, 0);
+    }
+    if !same(again, last) {
+        return plain(WRONG, 0, 0);
+    }
+    last
+}
+
+// Turns one by one, with their blocks put in the journal, and one turn after the verdict.
+pub fn walk(s: Search, journal: &mut [u8; ROOM]) -> Outcome {
+    let mut state = s;
+    let mut last = plain(GO_ON, 0, 0);
+    let mut turns: usize = 0;
+    while turns < 18 {
+        let t = search::step(state);
+        let verdict = t.verdict;
+        let values = t.values;
+        let block = t.block;
+        let blocks = put(journal, last.blocks, t.recorded, &block);
+        let answer = outcome_of(verdict, t.count, blocks, values);
+        if last.verdict != GO_ON {
+            return settled(last, answer, &block);
+        }
+        last = answer;
+        let next = t.state;
+        state = next;
+        turns += 1;
+    }
+    plain(WRONG, 0, 0)
+}
+
+pub fn run(s: Search, blocks: usize) -> Outcome {
+    let r = search::run(s);
+    let verdict = r.verdict;
+    let values = r.values;
+    outcome_of(verdict, r.count, blocks, values)
+}
+
+// A trace into the first bytes of a buffer, and from where it stopped into the others. The first goes on only if its room is full.
+fn trace_in_parts(s: Search, buffer: &mut [u8], first: usize) -> Outcome
+    requires { ⌜ (length (now buffer) ≡ 8192) × (first ≤ 2048) ⌝ }
+{
+    let a = search::trace(s, &mut buffer[0..first]);
+    let verdict = a.verdict;
+    let part = a.blocks % 16;
+    if code(verdict) == GO_ON {
+        if part != first / 512 {
+            return plain(WRONG, 0, 0);
+        }
+    }
+    let next = a.state;
+    let at = 512 * part;
+    let b = search::trace(next, &mut buffer[at..]);
+    let verdict = b.verdict;
+    let values = b.values;
+    outcome_of(verdict, b.count, plus(part, b.blocks), values)
+}
+
+// A trace in two parts, whose blocks must be those of the journal.
+pub fn trace(s: Search, journal: &[u8; ROOM], first: usize) -> Outcome
+    requires { ⌜ first ≤ 2048 ⌝ }
+{
+    let mut own = [MARK; ROOM];
+    let o = trace_in_parts(s, &mut own, first);
+    if !journals_same(&own, journal) {
+        return plain(WRONG, 0, 0);
+    }
+    o
+}
