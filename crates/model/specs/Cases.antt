@@ -1,4 +1,4 @@
--- Computed cases beside the table: of lines, points and kept cuts here, of divisor lines, of turns and runs, of strikes, of validity, and of bytes. One theorem covers them.
+-- Computed cases beside the table: of lines, points and kept cuts here, of divisor lines, of turns and runs, of strikes and listings, of validity, and of bytes. One theorem covers them.
 use Prim.Native.Nat.{ℕ}
 use mathlib.Core.Bool.{Bool, true, false, _&&_, not}
 use mathlib.Core.List.{List, [], _∷_, _++_}
@@ -13,6 +13,7 @@ use Rattle.model.specs.Examples.{neg, linear, divided, between, A-second
 use Rattle.model.specs.SearchCases.{searchCases}
 use Rattle.model.specs.DivisorCases.{divisorCases}
 use Rattle.model.specs.ExclusionCases.{exclusionCases}
+use Rattle.model.specs.ListingCases.{listingCases}
 use Rattle.model.specs.ValidityCases.{validityCases}
 use Rattle.model.specs.FileCases.{checkRule, indivisible, fileCases}
 
@@ -96,8 +97,8 @@ unfoldable pub shortCases : List Bool
 shortCases = checkRule ∷ zeroLines ∷ opened ∷ unequal ∷ pointList ∷ indivisible ∷ []
 
 pub cases : List Bool
-cases = shortCases ++ (divisorCases ++ (searchCases ++ (exclusionCases ++ (newestKept ∷ (validityCases ++ fileCases)))))
+cases = shortCases ++ (divisorCases ++ (searchCases ++ (exclusionCases ++ (listingCases ++ (newestKept ∷ (validityCases ++ fileCases))))))
 
 pub cases-hold : T (all cases)
-unfolding cases shortCases divisorCases searchCases exclusionCases validityCases fileCases definitions
+unfolding cases shortCases divisorCases searchCases exclusionCases listingCases validityCases fileCases definitions
 cases-hold = tt

@@ -29,6 +29,7 @@ use Rattle.model.specs.Step.{Verdict, goOn, noSolution, outOfBudget, sol
 use Rattle.model.specs.Trace
 use Rattle.model.specs.Exclude
 use Rattle.model.specs.Points
+use Rattle.model.specs.Listing
 use Rattle.model.specs.Enumeration
 use Rattle.model.specs.Demand
 use Rattle.model.specs.Demand.{answerAt, journal}
@@ -184,10 +185,6 @@ abbrev pub writes : List Record → ℕ → Problem → Bool
 writes es k p = allPairs entryIs es (journal k (openProblem p))
 
 -- ---- bytes
-abbrev pub joined : List (List ℕ) → List ℕ
-joined [] = []
-joined (x ∷ xs) = x ++ joined xs
-
 -- a block: its first bytes, zeros, and the four bytes of its check
 abbrev pub filled : List ℕ → List ℕ → List ℕ
 filled content check = content ++ (replicate (508 - length content) 0 ++ check)
@@ -225,10 +222,11 @@ unfolding Lists.tab Lists.parts Lists.sum Lists.all Lists.allOf Lists.anyOf List
     Validity.shaped
     Step.lowers Step.withStatus Step.solvedBy Step.budgetSpent Step.recordOf Step.verdictAt Step.statusAt Step.counted Step.onConflict Step.endedAt
     Step.ended Step.again Step.stepBy Step.step Step.continue Step.runFor Step.withoutBlock Step.run Step.checked Step.stepCall Step.runCall
-    Trace.withBlocks Trace.lastStep Trace.advanced Trace.advance
+    Trace.withBlocks Trace.lastStep Trace.advanced Trace.advance Trace.joined
     Exclude.unchanged Exclude.excludeAt Exclude.excludeBy Exclude.exclude Exclude.excludeCall
     Points.valuesBetween Points.valuesFrom Points.values Points.prefixed Points.allPoints Points.points Points.dot Points.value
     Points.isMetBy Points.isMet Points.isSolution Points.allSolutions
+    Listing.endsWith Listing.listAfter Listing.goesOn Listing.listFrom Listing.roomAt Listing.list Listing.listedIn Listing.listedBy Listing.listCall
     Enumeration.traced Enumeration.excluded Enumeration.taken Enumeration.answeredBy Enumeration.answer Enumeration.walk Enumeration.says Enumeration.shownIn
     Enumeration.standsAfter Enumeration.stands Enumeration.shown Enumeration.struckIn Enumeration.strikes
     Demand.after Demand.stateAfter Demand.answerAt Step.blockIn Demand.blocksIn Demand.journal Demand.withBudget Demand.verdictWith

@@ -25,7 +25,7 @@ exclusionCode unsolved = 2
 abbrev sameLevel : Level → Level → Bool
 sameLevel l o = all (allPairs sameBounds (l .box) (o .box) ∷ allPairs sameReasons (l .reasons) (o .reasons) ∷ eqb (l .decided) (o .decided) ∷ [])
 
-abbrev sameState : Search → Search → Bool
+abbrev pub sameState : Search → Search → Bool
 sameState s t =
     all (
     eqb (s .core .variables) (t .core .variables) ∷
@@ -68,7 +68,7 @@ unmarked l ls =
 abbrev untouched : Level
 untouched = level (replicate 3 (to 1)) (replicate 3 (by domain domain))
 
-abbrev stepped : List Call → Search
+abbrev pub stepped : List Call → Search
 stepped cs = walk cs (openProblem stepping)
 
 abbrev struckAtTwo : Bool
@@ -94,7 +94,7 @@ noForm =
     (openProblem (planA 5) ∷ stepped (strike ∷ allTurns ∷ []) ∷ walk (allTurns ∷ []) (openProblem planB) ∷ walk (allTurns ∷ []) (openProblem (planA 0)) ∷ [])
 
 -- 9 comes first: the opened walk with a mark that it has not earned
-abbrev markedAs : Status → Search
+abbrev pub markedAs : Status → Search
 markedAs m = let s = openProblem (planA 5) in withStatus s (s .core) m
 
 abbrev foreign : Bool
@@ -129,7 +129,7 @@ saysExclusion a (exclusion e) = eqb (exclusionCode e) (exclusionCode a)
 saysExclusion a (refused e) = false
 
 -- k times a run and a strike
-abbrev rounds : ℕ → List Call
+abbrev pub rounds : ℕ → List Call
 rounds zero = []
 rounds (suc k) = strike ∷ allTurns ∷ rounds k
 
@@ -143,8 +143,17 @@ abbrev solves : List Point → Problem → Bool
 solves vs p = allPairs sameValues (allSolutions p) vs
 
 -- to 'ended'; a turn after it shows the last one again, which is not counted anew
+abbrev pub S-first : Point
+S-first = pos 0 ∷ pos 1 ∷ pos 0 ∷ []
+
+abbrev pub S-second : Point
+S-second = pos 0 ∷ pos 1 ∷ pos 1 ∷ []
+
+abbrev pub S-third : Point
+S-third = pos 1 ∷ pos 1 ∷ pos 1 ∷ []
+
 abbrev steppingForms : List Point
-steppingForms = (pos 0 ∷ pos 1 ∷ pos 0 ∷ []) ∷ (pos 0 ∷ pos 1 ∷ pos 1 ∷ []) ∷ (pos 1 ∷ pos 1 ∷ pos 1 ∷ []) ∷ []
+steppingForms = S-first ∷ S-second ∷ S-third ∷ []
 
 abbrev toEnded : Bool
 toEnded =
@@ -157,13 +166,13 @@ toEnded =
 
 -- plan C of docs/SPECIFICATION.md, limits 0 to 2: 3 | v1 + v2 and −v1 − v2 + 2. To 'none', which says here that there is no further form; under a smaller budget to
 -- 'spent', with the first forms shown
-abbrev planC : ℕ → Problem
+abbrev pub planC : ℕ → Problem
 planC b = problem (replicate 2 (to 2)) (divided 3 (pos 1 ∷ pos 1 ∷ []) (pos 0) ∷ linear (neg 1 ∷ neg 1 ∷ []) (pos 2) ∷ []) b
 
-abbrev C-first : Point
+abbrev pub C-first : Point
 C-first = pos 1 ∷ pos 2 ∷ []
 
-abbrev C-second : Point
+abbrev pub C-second : Point
 C-second = pos 2 ∷ pos 1 ∷ []
 
 abbrev toNone : Bool

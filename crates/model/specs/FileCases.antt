@@ -14,7 +14,8 @@ use Rattle.model.specs.File.{paddingZero, readError, readFile, fileOf, w
 use Rattle.model.specs.Search.{openProblem}
 use Rattle.model.specs.Journal.{cutIn}
 use Rattle.model.specs.Demand.{journal}
-use Rattle.model.specs.Examples.{neg, linear, divided, withDivisor, between, problem, A-first, A-domain, planA, sameBytes, sameProblem, isOk, joined, filled}
+use Rattle.model.specs.Trace.{joined}
+use Rattle.model.specs.Examples.{neg, linear, divided, withDivisor, between, problem, A-first, A-domain, planA, sameBytes, sameProblem, isOk, filled}
 
 -- ---- the check: of a block that begins with the words 1 and 2^32 − 1 and then holds zeros, at k = 3, it is 1 − 1 + 3 + 1
 abbrev pub checkRule : Bool

@@ -15,6 +15,7 @@ pub mod Step
 pub mod Trace
 pub mod Exclude
 pub mod Points
+pub mod Listing
 pub mod Demand
 pub mod Enumeration
 pub mod Examples
@@ -22,6 +23,7 @@ pub mod Table
 pub mod SearchCases
 pub mod DivisorCases
 pub mod ExclusionCases
+pub mod ListingCases
 pub mod FileCases
 pub mod ValidityCases
 pub mod Cases

@@ -34,7 +34,7 @@ advance zero s = record { verdict = goOn; count = s .conflicts; blocks = []; sta
 advance (suc limit) s = let o = step s in advanced (o .verdict) o (advance limit)
 
 -- ---- into a lent buffer: as many turns as it has room for blocks. They stand at its start; its other bytes stay
-unfoldable pub joined : List (List ℕ) → List ℕ
+unfoldable pub joined : {A : Type 0} → List (List A) → List A
 joined [] = []
 joined (b ∷ bs) = b ++ joined bs
 
