@@ -1,5 +1,6 @@
--- Laws of what is saved.
+-- Laws of what is saved, and of numbers copied.
 pub mod Saving
 pub mod Moving
 pub mod Mirroring
 pub mod Nesting
+pub mod Copying

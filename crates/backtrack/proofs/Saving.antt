@@ -114,7 +114,7 @@ rows-stay n m made rows =
 
 -- ---- numbers copied
 pub copied-none : (at : ℕ) (from before : List ℤ) → Copied 0 at from before before
-copied-none at from before = record { size = refl; inside = λ k h. absurd (omega arith); below = λ k h. refl }
+copied-none at from before = record { size = refl; inside = λ k h. absurd (omega arith); below = λ k h. refl; above = λ k h. refl }
 
 pub copied-more : (j at : ℕ) (from before after : List ℤ) (v : ℤ) → at + j < length after → v ≡ numberIn from j → Copied j at from before after → Copied (j + 1) at from before (set after (at + j) v)
 copied-more j at from before after v l e c =
@@ -126,6 +126,7 @@ copied-more j at from before after v l e c =
           (λ (q : k < j). number-other after (at + j) v (at + k) (λ z. omega arith) ∙ c .inside k q)
           (eq-or-lt-of-le (omega arith));
       below = λ k h. number-other after (at + j) v k (λ z. omega arith) ∙ c .below k h;
+      above = λ k h. number-other after (at + j) v k (λ z. omega arith) ∙ c .above k (omega arith);
     }
 
 -- ---- a level that a decision leaves

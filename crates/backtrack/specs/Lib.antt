@@ -3,3 +3,4 @@ pub mod Saved
 pub mod Jumps
 pub mod Mirror
 pub mod Level
+pub mod Struck

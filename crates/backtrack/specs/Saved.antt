@@ -37,11 +37,12 @@ pub record RowsMoved (n m made made₁ : ℕ) (rows rows₁ : List ℤ) : Type 0
   pub more : made ≤ made₁
   pub at : (j : ℕ) → j < m + keptCuts made₁ → placeOf m (droppedCuts made₁ - droppedCuts made) j < m + keptCuts made → rowAt n rows₁ j ≡ rowAt n rows (placeOf m (droppedCuts made₁ - droppedCuts made) j)
 
--- `count` numbers copied to place `at`; what stands before it stays
+-- `count` numbers copied to place `at`; all else stays
 pub record Copied (count at : ℕ) (from before after : List ℤ) : Type 0 where
   pub size : length after ≡ length before
   pub inside : (k : ℕ) → k < count → numberIn after (at + k) ≡ numberIn from k
   pub below : (k : ℕ) → k < at → numberIn after k ≡ numberIn before k
+  pub above : (k : ℕ) → at + count ≤ k → numberIn after k ≡ numberIn before k
 
 -- the arrays are as long as they are declared
 pub record Roomy (olds limits : List ℤ) (gones counts : List ℕ) : Type 0 where

@@ -2,6 +2,7 @@
 // to it.
 pub mod level;
 pub mod mirror;
+pub mod struck;
 
 use layout::MAX_ROWS;
 use propagate::bounds::lower_upper;

@@ -1,24 +1,21 @@
 -- The arms of the loop that end it.
-use Prim.Native.Nat.{ℕ, zero, suc, _+_, _-_, _*_, _≤_, _<_}
+use Prim.Native.Nat.{ℕ, suc, _-_, _≤_, _<_}
 use native.Mathlib.Omega.{arith}
-use mathlib.Core.Bool.{Bool, true, false}
-use mathlib.Core.List.{List, [], _∷_, _++_, append-nil}
-use mathlib.Core.Option.{Option, none, some}
-use mathlib.Core.Path.{_≡_, refl, sym, ap, ap₂, subst, _∙_}
+use mathlib.Core.Bool.{Bool}
+use mathlib.Core.List.{List, [], append-nil}
+use mathlib.Core.Option.{none, some}
+use mathlib.Core.Path.{_≡_, refl, sym, ap, _∙_}
 use lib.IntN.{ℤ}
 use lib.ListN.{set, length}
 use Rattle.model.specs.Search as model
-use Rattle.model.specs.Move.{Move, conflict, finish, Stop, follow, descend}
+use Rattle.model.specs.Move.{conflict, finish, follow, descend}
 use Rattle.model.specs.Step.{Outcome, blockIn, withStatus, solvedBy, budgetSpent}
-use Rattle.model.specs.Trace.{Trace, withBlocks, lastStep, advance}
-use Rattle.state.specs.View.{view}
+use Rattle.model.specs.Trace.{withBlocks, lastStep, advance}
 use Rattle.state.specs.declared.Level.{Level}
-use Rattle.state.specs.declared.Search.{Search}
 use Rattle.state.proofs.Cores.{levels-above}
-use Rattle.engine.specs.Advancing.{verdictOf, Buffered, traceOf, Advances}
+use Rattle.engine.specs.Advancing.{verdictOf, Buffered}
 use Rattle.engine.specs.declared.Ending.{Ending}
-use Rattle.engine.specs.declared.Ending.the-variants.{GoOn, NoSolution, OutOfBudget, Solution}
-use Rattle.engine.specs.declared.Advanced.{Advanced}
+use Rattle.engine.specs.declared.Ending.the-variants.{GoOn, OutOfBudget, Solution}
 use Rattle.engine.proofs.OneStep.{advance-finishes, advance-spent}
 use Rattle.engine.proofs.Running.{Running, Propagates, stepStart, coreHere}
 
@@ -33,18 +30,6 @@ pub record Reaches (s : model.Search) (limit : ℕ) (keep : Bool) (ending : Endi
   pub many : done ≡ length blocks
   pub trace : record { verdict = verdictOf ending t; count = t .conflicts; blocks = blocks; state = t } ≡ advance limit s
   pub buffer : Buffered keep blocks old now
-
--- they are what the code's state shows
-pub reached : {s t : model.Search} {limit : ℕ} {keep : Bool} {ending : Ending} {done : ℕ} {old now : List ℕ} (u : Search) → view u ≡ t → Reaches s limit keep ending done t old now →
-    Advances s limit keep (record { ending = ending; blocks = done; state = u }) old now
-unfolding traceOf view
-reached {s} {t} {limit} {keep} {ending} u e r =
-    record {
-      blocks = r .blocks;
-      many = r .many;
-      trace = subst (λ (x : model.Search). record { verdict = verdictOf ending x; count = x .conflicts; blocks = r .blocks; state = x } ≡ advance limit s) (sym e) (r .trace);
-      buffer = r .buffer;
-    }
 
 -- the level in hand is stored beside itself
 pub at-level : {s : model.Search} {limit : ℕ} {keep : Bool} {ending : Ending} {done : ℕ} {old now : List ℕ} (lines divisors : List ℤ) (n m budget conflicts made depth : ℕ) (status : model.Status) (rows : List ℤ) (numbers : List ℕ) (levels : List Level) (k l : Level) →

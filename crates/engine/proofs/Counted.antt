@@ -4,9 +4,9 @@ use native.Mathlib.Omega.{arith}
 use mathlib.Core.Bool.{Bool}
 use mathlib.Core.List.{List}
 use mathlib.Core.Logic.{⊎-elim}
-use mathlib.Core.Path.{_≡_, refl, sym, ap, ap₂, subst, _∙_}
-use lib.IntN.{ℤ, pos, _+ℤ_}
-use lib.ListN.{getD, set, length, length-set}
+use mathlib.Core.Path.{_≡_, sym, ap, ap₂, subst, _∙_}
+use lib.IntN.{ℤ}
+use lib.ListN.{getD, set, length}
 use Rattle.model.specs.Lists.{tab}
 use Rattle.model.specs.Ranges.{maxVariables}
 use Rattle.model.specs.Constraint.{falsified}
@@ -16,20 +16,15 @@ use Rattle.model.specs.Conflict.{numbered, atConflict}
 use Rattle.model.specs.Journal.{recordBytes}
 use Rattle.model.specs.Step as step
 use Rattle.lists.proofs.Tab.{length-tab}
-use Rattle.layout.specs.Rows.{numberIn, cell, constraintAt, inputAt, boxOf}
-use Rattle.state.specs.View.{flippedReason, noLevel, levelOf, levelAt, coreOver}
-use Rattle.state.specs.Change.{Whole, held, raised}
+use Rattle.layout.specs.Rows.{cell, constraintAt, inputAt, boxOf}
+use Rattle.state.specs.View.{noLevel, levelOf, coreOver}
+use Rattle.state.specs.Change.{Whole, held}
 use Rattle.state.specs.declared.Level.{Level}
-use Rattle.state.proofs.Levels.{level-flipped}
 use Rattle.state.proofs.Cores.{number-over, length-levels}
 use Rattle.record.specs.Written.{recordOf, Emitted}
 use Rattle.record.proofs.Narrow.{record-narrow}
-use Rattle.backtrack.specs.Saved.{Saved, Roomy}
-use Rattle.backtrack.specs.Jumps.{Flippable}
 use Rattle.backtrack.specs.Mirror.{BoundsKept, Mirrored}
 use Rattle.backtrack.proofs.Mirroring.{mirrored-kept, mirrored-less}
-use Rattle.propagate.proofs.Steps.{scan-fits}
-use Rattle.backtrack.proofs.Saving.{saved-moved, saved-stored, saved-less}
 use Rattle.engine.specs.Counting.{LearnedAt, DismissedAt, Counted}
 use Rattle.engine.specs.declared.Ending.the-variants.{NoSolution}
 use Rattle.engine.proofs.Measures.{stepWeight, slack-small}
@@ -37,13 +32,9 @@ use Rattle.engine.proofs.Running.{Running, Propagates, coreHere}
 use Rattle.engine.proofs.Arms.{stateAt, Reaches}
 use Rattle.engine.proofs.Conflicting.{conflictWith}
 use Rattle.engine.proofs.Counting.{blockFor, ends-none, goes-on}
-use Rattle.engine.proofs.Rounds.{depth-small, ready}
+use Rattle.engine.proofs.Rounds.{depth-small}
 use Rattle.engine.proofs.Concluding.{Keeps, keeps-learned, keeps-dismissed, Facts, is-learned, is-dismissed}
-use Rattle.engine.proofs.Stored.{stored-range, stored-under}
-
-whole-raised : (l : Level) (i : ℕ) (v : ℤ) (k : ℕ) → Whole l → Whole (raised l i v k)
-whole-raised l i v k w =
-    record { lower = length-set (l .lower) i v ∙ w .lower; upper = w .upper; below = length-set (l .below) i k ∙ w .below; above = w .above }
+use Rattle.engine.proofs.Returning.{Back, one-more, flippedTo, flipped-whole, flipped-is}
 
 -- ---- a conflict that the loop counts: where it is met, what it is, the level to go back to, and the buffer with its record
 pub record Meets (s : model.Search) (old : List ℕ) (limit : ℕ) (keep : Bool) (lines divisors : List ℤ) (n m budget : ℕ) (now : List ℕ) (rows : List ℤ) (numbers : List ℕ) (levels : List Level) (made conflicts depth : ℕ)
@@ -139,73 +130,25 @@ module _ {s : model.Search} {old : List ℕ} {limit : ℕ} {keep : Bool} {lines 
       ends-none s old limit keep lines divisors n m budget now rows numbers levels made conflicts depth level before start done here r (k .left) inside (k .afford) (k .j) (k .moved) _ _ (k .number) rows₁ numbers₁ made₁
       (is-at 0 z) next (emitted 0 z)
 
-  -- the decision to flip
+  -- the bounds of the levels above, there
+  pub mirrored-on : {lowers uppers lowers₁ uppers₁ : List ℤ} → BoundsKept depth (here .lower) (here .upper) lowers uppers lowers₁ uppers₁ → Mirrored n levels lowers uppers depth → Mirrored n stored lowers₁ uppers₁ (back - 1)
+  mirrored-on {lowers} {uppers} {lowers₁} {uppers₁} q b =
+      mirrored-less n stored lowers₁ uppers₁ (depth + 1) (mirrored-kept n (r .counts .few) levels lowers uppers lowers₁ uppers₁ depth here q inside b) (back - 1) (omega (arith, k .reach))
+
+  -- the level to go back to
   module _ (some : 1 ≤ back) (wo : Whole (getD stored (back - 1) noLevel)) where
-    one-more : back ≡ suc (back - 1)
-    one-more = omega arith
+    pub back-of : Back lines divisors n m rows numbers levels made depth here back made₁ rows₁
+    back-of = record { few = r .counts .few; deep = depth-small r; levelsLong = r .levelsLong; fits = k .moved .fits; some = some; reach = k .reach; shifted = k .kept .shifted; whole = wo }
 
-    abbrev outer : Level
-    outer = getD stored (back - 1) noLevel
-
-    abbrev variable : ℕ
-    variable = getD stored back noLevel .decided
-
-    pub variable-fits : variable < n
-    variable-fits = rw one-more (unfold levelAt levelOf in stored-under lines divisors n m rows numbers levels made depth here inside (k .moved .fits) (back - 1) (omega (arith, k .reach)) .variable)
-
-    abbrev flipped : Level
-    flipped = raised outer variable (numberIn (outer .lower) variable +ℤ pos 1) flippedReason
-
-    flipped-is : levelOf n flipped ≡ model.flipAt (levelAt n stored (suc (back - 1)) .decided) (levelAt n stored (back - 1))
-    flipped-is =
-        let i : variable ≡ levelAt n stored (suc (back - 1)) .decided = unfold levelAt levelOf in ap (λ (d : ℕ). getD stored d noLevel .decided) one-more in
-        let e : levelOf n outer ≡ levelAt n stored (back - 1) = unfold levelAt in refl in
-        level-flipped n outer wo (r .counts .few) variable variable-fits ∙ ap₂ model.flipAt i e
-
-    pub counted-on : Running s old limit keep lines divisors n m budget next rows₁ numbers₁ stored made₁ (conflicts + 1) (back - 1) flipped flipped (back - 1) (done + 1)
+    pub counted-on : Running s old limit keep lines divisors n m budget next rows₁ numbers₁ stored made₁ (conflicts + 1) (back - 1) (flippedTo back-of) (flippedTo back-of) (back - 1) (done + 1)
     counted-on =
+        let e = one-more back-of in
         goes-on s old limit keep lines divisors n m budget now rows numbers levels made conflicts depth level before start done here r (k .left) inside (k .afford) (k .j) (k .moved) _ _ (k .number) rows₁ numbers₁ made₁
-        (back - 1) (is-at (suc (back - 1)) one-more) (omega (arith, k .reach)) next (emitted (suc (back - 1)) one-more) (k .kept .apart) (k .kept .rowsLong) (k .kept .numbersLong) (k .kept .count) flipped
-        (whole-raised outer variable _ flippedReason wo) flipped-is
+        (back - 1) (is-at (suc (back - 1)) e) (omega (arith, k .reach)) next (emitted (suc (back - 1)) e) (k .kept .apart) (k .kept .rowsLong) (k .kept .numbersLong) (k .kept .count) (flippedTo back-of)
+        (flipped-whole back-of) (flipped-is back-of)
 
-    pub counted-less : (limit - (done + 1)) * stepWeight + slack (boxOf n (flipped .lower) (flipped .upper)) < (limit - done) * stepWeight + slack (boxOf n (level .lower) (level .upper))
+    pub counted-less : (limit - (done + 1)) * stepWeight + slack (boxOf n (flippedTo back-of .lower) (flippedTo back-of .upper)) < (limit - done) * stepWeight + slack (boxOf n (level .lower) (level .upper))
     unfolding coreOver model.levels levelOf
     counted-less =
         let f = counted-on .fits .levels .0 in
-        omega (arith, slack-small (boxOf n (flipped .lower) (flipped .upper)) (f .range) (omega (arith, f .box, r .counts .few)), k .left)
-
-    -- what going back there asks, of what is carried
-    module _ {olds limits : List ℤ} {gones counts : List ℕ} (v : Saved n m made rows levels olds limits gones counts depth) where
-      saved-all : Saved n m made₁ rows₁ stored olds limits gones counts depth
-      saved-all = saved-moved n m olds limits gones counts made made₁ rows rows₁ stored depth (k .kept .shifted) (saved-stored n m olds limits gones counts made rows levels depth depth here (omega arith) v)
-
-      pub saved-on : Saved n m made₁ rows₁ stored olds limits gones counts (back - 1)
-      saved-on = saved-less n m olds limits gones counts made₁ rows₁ stored depth (back - 1) (omega (arith, k .reach)) saved-all
-
-      pub flippable : Roomy olds limits gones counts → Flippable n m made₁ rows₁ (outer .lower) (outer .upper) variable (back - 1) olds limits gones counts
-      unfolding levelAt levelOf
-      flippable room =
-          let next = ready counted-on in
-          record {
-            inputs = next .inputs;
-            cuts = next .cuts;
-            fits =
-                record {
-                  few = next .few;
-                  count = scan-fits _ _ _ _ _ next .count;
-                  constraints = next .constraints;
-                  bounds = stored-range lines divisors n m rows numbers levels made depth here inside (k .moved .fits) (back - 1) (omega (arith, k .reach));
-                };
-            next = scan-fits _ _ _ _ _ next;
-            lowers = wo .lower;
-            uppers = wo .upper;
-            variable = variable-fits;
-            deep = omega (arith, k .reach, depth-small r);
-            room = room;
-            saved = saved-all .at (back - 1) (omega (arith, k .reach));
-          }
-
-    -- the bounds of the levels above, there
-    pub mirrored-on : {lowers uppers lowers₁ uppers₁ : List ℤ} → BoundsKept depth (here .lower) (here .upper) lowers uppers lowers₁ uppers₁ → Mirrored n levels lowers uppers depth → Mirrored n stored lowers₁ uppers₁ (back - 1)
-    mirrored-on {lowers} {uppers} {lowers₁} {uppers₁} q b =
-        mirrored-less n stored lowers₁ uppers₁ (depth + 1) (mirrored-kept n (r .counts .few) levels lowers uppers lowers₁ uppers₁ depth here q inside b) (back - 1) (omega (arith, k .reach))
+        omega (arith, slack-small (boxOf n (flippedTo back-of .lower) (flippedTo back-of .upper)) (f .range) (omega (arith, f .box, r .counts .few)), k .left)

@@ -1,37 +1,37 @@
 -- The arm of a counted conflict: 'none', or back to an earlier level and the next turn.
-use Prim.Native.Nat.{ℕ, zero, suc, _+_, _-_, _*_, _≤_, _<_}
+use Prim.Native.Nat.{ℕ, suc, _+_, _-_, _≤_, _<_}
 use native.Mathlib.Omega.{arith}
 use native.Mathlib.Numerals.{add-one}
-use mathlib.Core.Bool.{Bool, true, false}
+use mathlib.Core.Bool.{Bool}
 use mathlib.Core.List.{List, [], _∷_, _++_, append-assoc}
-use mathlib.Core.Option.{Option, none, some}
-use mathlib.Core.Path.{_≡_, refl, sym, ap, ap₂, subst, _∙_}
+use mathlib.Core.Option.{some}
+use mathlib.Core.Path.{_≡_, refl, sym, ap, subst, _∙_}
 use lib.IntN.{ℤ}
 use lib.ListN.{set, length, length-set, length-append}
 use Rattle.model.specs.Bytes.{blockLength}
 use Rattle.model.specs.Constraint.{Constraint}
 use Rattle.model.specs.Search as model
-use Rattle.model.specs.Move.{Move, conflict, Stop, follow, descend}
-use Rattle.model.specs.Conflict.{Conflict, backjumpLevel, backUp, settled, atConflict}
+use Rattle.model.specs.Move.{conflict, follow, descend}
+use Rattle.model.specs.Conflict.{Conflict, settled, atConflict}
 use Rattle.model.specs.Journal.{recordBytes}
-use Rattle.model.specs.Step.{Outcome, blockIn, recordOf, verdictAt, statusAt, counted}
-use Rattle.model.specs.Trace.{Trace, withBlocks, lastStep, advance, joined}
+use Rattle.model.specs.Step.{blockIn, recordOf, verdictAt, statusAt, counted}
+use Rattle.model.specs.Trace.{Trace, withBlocks, lastStep, advance}
 use Rattle.record.specs.Written.{Emitted}
 use Rattle.format.proofs.RecordCut.{length-record}
 use Rattle.validity.proofs.States.{CoreFits}
 use Rattle.validity.proofs.Steps.{conflict-settled}
-use Rattle.state.specs.View.{levelOf, levelAt, levelsFrom}
-use Rattle.propagate.specs.Divided.{coreApart, Apart}
+use Rattle.state.specs.View.{levelOf, levelAt}
+use Rattle.propagate.specs.Divided.{Apart}
 use Rattle.state.specs.Change.{Whole}
 use Rattle.state.specs.declared.Level.{Level}
-use Rattle.state.proofs.Cores.{level-here, levels-above, backed-up}
 use Rattle.engine.specs.Advancing.{verdictOf}
 use Rattle.engine.specs.declared.Ending.the-variants.{NoSolution}
 use Rattle.engine.proofs.OneStep.{advance-none, advance-on}
 use Rattle.engine.proofs.Conflicting.{conflictWith}
 use Rattle.engine.proofs.Buffers.{joined-length, buffer-more}
-use Rattle.engine.proofs.Running.{Counts, Running, Propagates, stepStart, coreHere}
+use Rattle.engine.proofs.Running.{Running, Propagates, stepStart, coreHere}
 use Rattle.engine.proofs.Arms.{stateAt, Reaches}
+use Rattle.engine.proofs.Returning.{backed-here}
 
 with-blocks : (a b : List (List ℕ)) (t : Trace) → withBlocks a (withBlocks b t) ≡ withBlocks (a ++ b) t
 unfolding withBlocks
@@ -83,10 +83,7 @@ module _ (s : model.Search) (old : List ℕ) (limit : ℕ) (keep : Bool) (lines 
     settled-back : (e : ℕ) → suc e ≤ depth → (flip : Level) → levelOf n flip ≡ model.flipAt (levelAt n (set levels depth here) (suc e) .decided) (levelAt n (set levels depth here) e) →
         settled (suc e) (coreHere lines divisors n m rows₁ numbers₁ levels made₁ depth here) ≡ coreHere lines divisors n m rows₁ numbers₁ (set levels depth here) made₁ e flip
     unfolding settled
-    settled-back e d flip f =
-        ap₂ (λ (q : model.Level) (qs : List model.Level). backUp (suc e) (coreApart n m made₁ rows₁ lines divisors numbers₁ q qs)) (sym (level-here n levels depth here deep)) (sym (levels-above n levels depth depth here (omega arith))) ∙
-        backed-up _ n m made₁ rows₁ numbers₁ (set levels depth here) depth e d ∙
-        ap (λ (q : model.Level). coreApart n m made₁ rows₁ lines divisors numbers₁ q (levelsFrom n (set levels depth here) e)) (sym f)
+    settled-back e d flip f = backed-here lines divisors n m made₁ rows₁ numbers₁ levels depth here deep e d flip f
 
     -- the next turn starts where this conflict went back to
     next-step : (e : ℕ) (flip : Level) → settled (suc e) (coreHere lines divisors n m rows₁ numbers₁ levels made₁ depth here) ≡ coreHere lines divisors n m rows₁ numbers₁ (set levels depth here) made₁ e flip →
@@ -128,7 +125,7 @@ module _ (s : model.Search) (old : List ℕ) (limit : ℕ) (keep : Bool) (lines 
           within = omega arith;
           blocks = r .blocks ++ (blockFor (suc e) ∷ []);
           many = omega (arith, r .many, length-append (r .blocks) (blockFor (suc e) ∷ []));
-          long = joined-length (r .blocks) (blockFor (suc e)) done (r .long) (unfold blockFor in length-record _);
+          long = joined-length blockLength (r .blocks) (blockFor (suc e)) done (r .long) (unfold blockFor in length-record _);
           room = r .room;
           ahead = next-step e flip after x;
           buffer = buffer-more keep (r .blocks) (blockFor (suc e)) old now next done (r .many) (r .long) (r .buffer) w;

@@ -5,17 +5,25 @@ use native.Mathlib.Omega.{arith}
 use mathlib.Core.Bool.{false}
 use mathlib.Core.List.{List}
 use mathlib.Core.Logic.{⊎-elim}
-use mathlib.Core.Path.{_≡_}
-use lib.IntN.{ℤ}
-use lib.ListN.{set, length}
+use mathlib.Core.Path.{_≡_, _∙_}
+use lib.IntN.{ℤ, pos, _+ℤ_}
+use lib.ListN.{set, length, length-set}
 use Rattle.model.specs.Constraint.{falsified}
 use Rattle.lists.proofs.Bools.{lt-or-le}
-use Rattle.layout.specs.Rows.{inputAt, boxOf}
+use Rattle.layout.specs.Rows.{numberIn, inputAt, boxOf}
 use Rattle.layout.proofs.Rows.{box-lower, box-upper}
 use Rattle.state.specs.View.{keptCuts}
 use Rattle.propagate.specs.Tracked.{Told}
 use Rattle.propagate.specs.Divided.{keptOver, Apart, Due, Everyone, Unmentioned, FirstIndivisible, Warned}
+use Rattle.linear.specs.Ranges.{BoxFits}
+use Rattle.propagate.proofs.Tracking.{scan-box}
+use Rattle.backtrack.specs.Jumps.{Flippable}
 use Rattle.propagate.proofs.Warning.{warned, raise-spared, lower-spared}
+
+-- the box of a level whose decision is flipped
+pub flipped-box : {n m made : ℕ} {rows lower upper : List ℤ} {i depth : ℕ} {olds limits : List ℤ} {gones counts : List ℕ} → Flippable n m made rows lower upper i depth olds limits gones counts →
+    {lower₁ : List ℤ} → lower₁ ≡ set lower i (numberIn lower i +ℤ pos 1) → BoxFits n lower₁ upper
+flipped-box {lower = lower} {i = i} f e = rw e (scan-box (f .next) (length-set lower i _ ∙ f .lowers) (f .uppers))
 
 module _ (n m made : ℕ) (rows lines divisors lower upper activities reaches : List ℤ) (a : Apart n m rows lines divisors) (i : ℕ) (v : ℤ) (h : i < n) where
   -- an upper bound falls where no input is falsified

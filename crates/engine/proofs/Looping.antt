@@ -3,29 +3,31 @@ use Prim.Native.Nat.{ℕ, suc, _≤_, _<_}
 use native.Mathlib.Omega.{arith}
 use mathlib.Core.Bool.{Bool, true, false}
 use mathlib.Core.List.{List}
+use mathlib.Core.Logic.{_⊎_}
 use mathlib.Core.Path.{_≡_, refl}
-use lib.IntN.{ℤ, pos, _+ℤ_}
-use lib.ListN.{length, set}
+use lib.IntN.{ℤ}
+use lib.ListN.{length}
 use Rattle.model.specs.Search as model
 use Rattle.model.specs.Ranges.{maxVariables}
 use Rattle.lists.proofs.Bools.{clash}
-use Rattle.layout.specs.Rows.{numberIn, rowsLength}
-use Rattle.state.specs.View.{flippedReason, statusOf}
-use Rattle.state.specs.Change.{Whole, held, raised}
+use Rattle.layout.specs.Rows.{rowsLength}
+use Rattle.validity.proofs.Steps.{impossible}
+use Rattle.state.specs.View.{statusOf}
+use Rattle.state.specs.Change.{Whole, held}
 use Rattle.state.specs.declared.Level.{Level}
 use Rattle.state.specs.declared.Status.{Status}
 use Rattle.state.specs.declared.Status.the-variants.{Undecided}
 use Rattle.propagate.specs.Ready.{Ready}
 use Rattle.propagate.specs.Divided.{Apart}
 use Rattle.engine.specs.declared.Ending.{Ending}
-use Rattle.engine.specs.declared.Ending.the-variants.{GoOn}
+use Rattle.engine.specs.declared.Ending.the-variants.{GoOn, NoSolution, OutOfBudget, Solution}
 use Rattle.engine.proofs.Arms.{stateAt, Reaches, exits}
 use Rattle.engine.proofs.Carrying.{Carried}
 use Rattle.engine.proofs.Running.{Running}
 
 -- While it goes, the state here is on the way that the model's turns take, and what is kept of the constraints and levels is right; once it ends, the
 -- level `before` at depth `start` completes the answer.
-pub record Looping (s : model.Search) (old : List ℕ) (limit : ℕ) (keep : Bool) (lines divisors : List ℤ) (n m budget : ℕ) (columns : List ℕ) (divided : ℕ) (inputs now : List ℕ) (rows : List ℤ) (numbers : List ℕ) (levels : List Level) (made conflicts depth : ℕ)
+pub record Looping (s : model.Search) (old : List ℕ) (limit : ℕ) (keep : Bool) (spare : ℕ) (lines divisors : List ℤ) (n m budget : ℕ) (columns : List ℕ) (divided : ℕ) (inputs now : List ℕ) (rows : List ℤ) (numbers : List ℕ) (levels : List Level) (made conflicts depth : ℕ)
     (before : Level) (start done : ℕ) (ending : Ending) (status : Status) (lower upper : List ℤ) (below above : List ℕ) (decided : ℕ) (activities reaches olds limits : List ℤ) (gones counts : List ℕ)
     (lowers uppers : List ℤ) (low : ℕ) (cuts : List ℕ) (told : ℕ) (going : Bool) : Type 0 where
   pub running : going ≡ true → Running s old limit keep lines divisors n m budget now rows numbers levels made conflicts depth (held lower upper below above decided) before start done
@@ -33,6 +35,8 @@ pub record Looping (s : model.Search) (old : List ℕ) (limit : ℕ) (keep : Boo
   pub more : going ≡ true → done < limit
   pub open-ended : going ≡ true → (ending ≡ GoOn) × (status ≡ Undecided)
   pub ended : going ≡ false → Reaches s limit keep ending done (stateAt lines divisors n m budget conflicts made start (statusOf status) rows numbers levels before) old now
+  -- a solution is the last that it finds where there is no room to strike it out, or no decision led to it
+  pub final : going ≡ false → ending ≡ Solution → (spare ≡ 0) ⊎ (start ≡ 0)
   pub apart : Apart n m rows lines divisors
   pub rowsLong : length rows ≡ rowsLength
   pub deep : start ≤ maxVariables
@@ -40,16 +44,29 @@ pub record Looping (s : model.Search) (old : List ℕ) (limit : ℕ) (keep : Boo
   pub bytes : length now ≡ length old
 
 -- an ended loop
-pub ends : {s : model.Search} {old : List ℕ} {limit : ℕ} {keep : Bool} {lines divisors : List ℤ} {n m budget : ℕ} {columns : List ℕ} {divided : ℕ} {inputs now : List ℕ} {rows : List ℤ} {numbers : List ℕ} {levels : List Level} {made conflicts depth : ℕ}
+pub ends : {s : model.Search} {old : List ℕ} {limit : ℕ} {keep : Bool} {spare : ℕ} {lines divisors : List ℤ} {n m budget : ℕ} {columns : List ℕ} {divided : ℕ} {inputs now : List ℕ} {rows : List ℤ} {numbers : List ℕ} {levels : List Level} {made conflicts depth : ℕ}
     {before : Level} {start done : ℕ} {ending : Ending} {status : Status} {lower upper : List ℤ} {below above : List ℕ} {decided : ℕ} {activities reaches olds limits : List ℤ} {gones counts : List ℕ}
     {lowers uppers : List ℤ} {low : ℕ} {cuts : List ℕ} {told : ℕ} →
     Reaches s limit keep ending done (stateAt lines divisors n m budget conflicts made start (statusOf status) rows numbers levels before) old now →
-    Apart n m rows lines divisors → length rows ≡ rowsLength → start ≤ maxVariables → length levels ≡ suc maxVariables → length now ≡ length old →
-    Looping s old limit keep lines divisors n m budget columns divided inputs now rows numbers levels made conflicts depth before start done ending status lower upper below above decided activities reaches olds limits gones counts lowers uppers low cuts told false
-ends r a l d v b =
-    record { running = λ e. clash e refl; carried = λ e. clash e refl; more = λ e. clash e refl; open-ended = λ e. clash e refl; ended = λ e. r; apart = a; rowsLong = l; deep = d; levelsLong = v; bytes = b }
+    (ending ≡ Solution → (spare ≡ 0) ⊎ (start ≡ 0)) → Apart n m rows lines divisors → length rows ≡ rowsLength → start ≤ maxVariables → length levels ≡ suc maxVariables → length now ≡ length old →
+    Looping s old limit keep spare lines divisors n m budget columns divided inputs now rows numbers levels made conflicts depth before start done ending status lower upper below above decided activities reaches olds limits gones counts lowers uppers low cuts told false
+ends r f a l d v b =
+    record { running = λ e. clash e refl; carried = λ e. clash e refl; more = λ e. clash e refl; open-ended = λ e. clash e refl; ended = λ e. r; final = λ e. f; apart = a; rowsLong = l; deep = d; levelsLong = v; bytes = b }
 
--- the measure: what is left of the turns and the slack, while the loop goes
+-- every other ending is final
+abbrev pub Unsolved : Ending → Type 0
+Unsolved GoOn = Unit {0}
+Unsolved NoSolution = Unit {0}
+Unsolved OutOfBudget = Unit {0}
+Unsolved Solution = ⊥
+
+pub unsolved : {A : Type 0} (e : Ending) → Unsolved e → e ≡ Solution → A
+unsolved GoOn u f = impossible (cc)
+unsolved NoSolution u f = impossible (cc)
+unsolved OutOfBudget u f = impossible (cc)
+unsolved Solution u f = absurd u
+
+-- the measure: what is left of the strikes, the turns and the slack, while the loop goes
 abbrev pub weight : Bool → ℕ → ℕ
 weight true k = suc k
 weight false k = 0
@@ -74,11 +91,6 @@ ready-with e r =
 
 pub whole-with : {lower upper : List ℤ} {below above : List ℕ} {d : ℕ} (e : ℕ) → Whole (held lower upper below above d) → Whole (held lower upper below above e)
 whole-with e w = record { lower = w .lower; upper = w .upper; below = w .below; above = w .above }
-
--- the level of a decision that was flipped, as the arrays in hand hold it
-pub flipped-level : (o k : Level) (i j : ℕ) (lower : List ℤ) (below : List ℕ) → o ≡ k → i ≡ j → lower ≡ set (o .lower) i (numberIn (o .lower) i +ℤ pos 1) → below ≡ set (o .below) i flippedReason →
-    raised k j (numberIn (k .lower) j +ℤ pos 1) flippedReason ≡ held lower (o .upper) below (o .above) (o .decided)
-flipped-level o k i j lower below e f l b = rw (← e, ← f, l, b)
 
 pub running-with : {s : model.Search} {old : List ℕ} {limit : ℕ} {keep : Bool} {lines divisors : List ℤ} {n m budget : ℕ} {now : List ℕ} {rows : List ℤ} {numbers : List ℕ} {levels : List Level} {made conflicts depth : ℕ}
     {l k a b : Level} {start done : ℕ} → l ≡ k → a ≡ b → Running s old limit keep lines divisors n m budget now rows numbers levels made conflicts depth l a start done →

@@ -1,12 +1,9 @@
 -- The loop's measure: each turn left counts more than the slack of any box.
-use Prim.Native.Nat.{ℕ, zero, suc, _+_, _-_, _*_, _^_, _≤_, _<_}
+use Prim.Native.Nat.{ℕ, _+_, _-_, _*_, _^_, _≤_, _<_}
 use native.Mathlib.Omega.{arith}
-use mathlib.Core.Bool.{Bool, true, false, _&&_}
-use mathlib.Core.List.{List, [], _∷_}
-use mathlib.Core.Path.{_≡_, refl}
+use mathlib.Core.List.{[], _∷_}
 use lib.Dec.{T}
-use lib.IntN.{ℤ, negℤ, natAbs, _-ℤ_}
-use lib.Signed.{leZ}
+use lib.IntN.{negℤ, natAbs, _-ℤ_}
 use lib.ListN.{length}
 use Rattle.model.specs.Lists.{all, allOf}
 use Rattle.model.specs.Ranges.{within, maxBound}
@@ -35,3 +32,7 @@ slack-bounded (b ∷ box) t =
 
 pub slack-small : (box : Box) → T (allOf boundsInRange box) → length box ≤ 32 → slack box < stepWeight
 slack-small box t h = omega (arith, slack-bounded box t)
+
+-- what is left beside the turns stays
+pub weighs-less : (x a b k l : ℕ) → a * stepWeight + k < b * stepWeight + l → (x + a) * stepWeight + k < (x + b) * stepWeight + l
+weighs-less x a b k l h = omega arith

@@ -28,11 +28,11 @@ use Rattle.engine.proofs.Running.{Counts, Running, stepStart, coreHere}
 use Rattle.engine.proofs.Arms.{stateAt}
 use Rattle.engine.proofs.Blanking.{cuts-put, inputs-restored, apart-starts}
 
-with-none : (t : Trace) → withBlocks [] t ≡ t
+pub with-none : (t : Trace) → withBlocks [] t ≡ t
 unfolding withBlocks
 with-none t = refl
 
-none-written : (keep : Bool) (buffer : List ℕ) → Buffered keep [] buffer buffer
+pub none-written : (keep : Bool) (buffer : List ℕ) → Buffered keep [] buffer buffer
 unfolding joined
 none-written keep buffer = record { written = λ k. refl; untouched = λ k. refl }
 
@@ -52,7 +52,7 @@ start-step : (s : Search) (l : Level) (rows : List ℤ) → s .status ≡ Undeci
 unfolding view coreOf inputsOf coreOver statusOf
 start-step s l rows u h e = rw (u, h, e)
 
-module _ {s : Search} {limit : ℕ} {keep : Bool} {buffer : List ℕ} (i : Starts s limit keep buffer) where
+module _ {s : Search} {limit : ℕ} {keep : Bool} {room : ℕ} {buffer : List ℕ} {list : List ℤ} (i : Starts s limit keep room buffer list) where
   start-fits : CoreFits (coreOf s)
   unfolding view
   start-fits = core-fits (view s) (i .valid .shape) (i .valid .tests)
@@ -100,7 +100,7 @@ module _ {s : Search} {limit : ℕ} {keep : Bool} {buffer : List ℕ} (i : Start
           blocks = [];
           many = refl;
           long = unfold joined in refl;
-          room = i .room;
+          room = i .kept;
           ahead = rw z (ap (advance limit) (start-step s l rows (i .unmarked) h (cuts-put (s .n) (s .m) (s .made) (s .divisors) _ (s .rows) rows p (start-counts .inputs))) ∙ sym (with-none _));
           buffer = none-written keep buffer;
         })

@@ -1,13 +1,17 @@
 -- What turns repeated give, as the model's trace.
-use Prim.Native.Nat.{ℕ, _*_, _≤_}
+use Prim.Native.Nat.{ℕ, zero, suc, _-_, _*_, _≤_}
 use mathlib.Core.Bool.{Bool, true, false}
 use mathlib.Core.List.{List, _++_}
 use mathlib.Core.Path.{_≡_}
+use lib.IntN.{ℤ}
 use lib.ListN.{length, drop}
 use Rattle.model.specs.Bytes.{blockLength}
 use Rattle.model.specs.Search as model
 use Rattle.model.specs.Step.{Verdict, goOn, noSolution, outOfBudget, solution, lowers}
 use Rattle.model.specs.Trace.{Trace, advance, joined}
+use Rattle.model.specs.Exclude.{exclude}
+use Rattle.model.specs.Points.{Point}
+use Rattle.model.specs.Listing.{Listing, endsWith, goesOn}
 use Rattle.validity.specs.Valid.{Valid}
 use Rattle.state.specs.View.{view}
 use Rattle.state.specs.declared.Search.{Search}
@@ -31,15 +35,28 @@ pub record Buffered (keep : Bool) (blocks : List (List ℕ)) (old now : List ℕ
 unfoldable pub traceOf : Advanced → List (List ℕ) → Trace
 traceOf r blocks = record { verdict = verdictOf (r .ending) (view (r .state)); count = r .state .conflicts; blocks = blocks; state = view (r .state) }
 
--- at most `limit` turns from a state
-pub record Advances (s : model.Search) (limit : ℕ) (keep : Bool) (r : Advanced) (old now : List ℕ) : Type 0 where
+-- turns, at most `limit` in all, with each solution struck out before the next, while there is room
+unfoldable pub advanceOver : ℕ → ℕ → model.Search → Listing Trace
+advanceOver zero limit s = endsWith (advance limit s)
+advanceOver (suc room) limit s =
+    let t = advance limit s in
+    let e = exclude (t .state) in
+    goesOn (t .verdict) (e .answer) t (advanceOver room (limit - length (t .blocks)) (e .state))
+
+-- from a state
+pub record Advances (s : model.Search) (limit : ℕ) (keep : Bool) (room : ℕ) (r : Advanced) (old now : List ℕ) (list list₁ : List ℤ) : Type 0 where
+  pub struck : List Point
+  pub howMany : r .struck ≡ length struck
   pub blocks : List (List ℕ)
   pub many : r .blocks ≡ length blocks
-  pub trace : traceOf r blocks ≡ advance limit s
+  pub trace : record { struck = struck; last = traceOf r blocks } ≡ advanceOver room limit s
   pub buffer : Buffered keep blocks old now
+  pub listed : list₁ ≡ joined struck ++ drop (s .core .variables * length struck) list
 
--- what the loop asks: a valid state that is not marked, and room for the blocks that are kept
-pub record Starts (s : Search) (limit : ℕ) (keep : Bool) (buffer : List ℕ) : Type 0 where
+-- what the loop asks: a valid state that is not marked, room for the blocks that are kept, and for the solutions that are struck out
+pub record Starts (s : Search) (limit : ℕ) (keep : Bool) (room : ℕ) (buffer : List ℕ) (list : List ℤ) : Type 0 where
   pub valid : Valid (view s)
   pub unmarked : s .status ≡ Undecided
-  pub room : keep ≡ true → blockLength * limit ≤ length buffer
+  pub kept : keep ≡ true → blockLength * limit ≤ length buffer
+  pub apart : keep ≡ true → room ≡ 0
+  pub roomy : s .n * room ≤ length list

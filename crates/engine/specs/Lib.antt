@@ -4,3 +4,4 @@ pub mod Counting
 pub mod Learning
 pub mod Setting
 pub mod Tracking
+pub mod Returning

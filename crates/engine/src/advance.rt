@@ -1,15 +1,16 @@
-// Turns repeated in place: the loop that `step`, `run` and `trace` share.
+// Turns repeated in place: the loop that `step`, `run`, `trace` and `list` share.
 use crate::Advanced;
 use crate::Ending;
-use crate::apart::due_at;
 use crate::apart::lesser;
 use crate::apart::put_rows;
+use crate::back::go_back;
 use crate::conflict::conflict;
 use crate::track::track;
-use backtrack::backjump;
 use backtrack::decide;
 use backtrack::mirror::keep_bounds;
 use backtrack::mirror::mirror;
+use backtrack::struck::is_last;
+use backtrack::struck::put_values;
 use propagate::divided::columns;
 use propagate::divided::divided_mask;
 use propagate::divided::first_indivisible;
@@ -21,11 +22,19 @@ use state::Status;
 ghost use Rattle.state.specs.View.{view};
 ghost use Rattle.engine.specs.Advancing.{Starts, Advances};
 
-// At most `limit` turns, to a verdict. The level in hand lies in arrays of its own, and is stored when a decision leaves it; `before` is the level where
-// the turn started, at depth `start`, and what the call gives in the end. The block of each counted conflict goes to the buffer, if blocks are kept.
-pub fn advance(s: Search, buffer: &mut [u8], limit: usize, keep: bool) -> Advanced
-    requires { ⌜ Starts s limit keep (now buffer) ⌝ }
-    ensures { λ r. ⌜ Advances (view s) limit keep r (now (buffer .entry)) (now (buffer .exit)) ⌝ }
+// At most `limit` turns, to a verdict, the first `room` solutions struck out on the way. The level in hand lies in arrays of its own, and is stored when a
+// decision leaves it; `before` is the level where the turn started, at depth `start`, and what the call gives in the end. The block of each counted
+// conflict goes to the buffer, if blocks are kept.
+pub fn advance(
+    s: Search,
+    buffer: &mut [u8],
+    limit: usize,
+    keep: bool,
+    room: usize,
+    solutions: &mut [i64],
+) -> Advanced
+    requires { ⌜ Starts s limit keep room (now buffer) (now solutions) ⌝ }
+    ensures { λ r. ⌜ Advances (view s) limit keep room r (now (buffer .entry)) (now (buffer .exit)) (now (solutions .entry)) (now (solutions .exit)) ⌝ }
 {
     let n = s.n;
     let m = s.m;
@@ -40,7 +49,10 @@ pub fn advance(s: Search, buffer: &mut [u8], limit: usize, keep: bool) -> Advanc
     let mut depth = s.depth;
     let mut before = state::whole(levels[depth]);
     let mut start = depth;
+    // The turns left since the last strike, how many of them are done, and the strikes.
+    let mut left = limit;
     let mut done: usize = 0;
+    let mut struck: usize = 0;
     let mut ending = Ending::GoOn;
     let mut status = Status::Undecided;
     // The level in hand.
@@ -83,7 +95,7 @@ pub fn advance(s: Search, buffer: &mut [u8], limit: usize, keep: bool) -> Advanc
         &mut cuts,
     );
     let mut told = first_indivisible(&lines, &divisors, divided, &lower, &upper, n, m, first);
-    let mut going = 0 < limit;
+    let mut going = 0 < left;
     while going {
         let found = propagate(
             &rows,
@@ -111,6 +123,9 @@ pub fn advance(s: Search, buffer: &mut [u8], limit: usize, keep: bool) -> Advanc
             decided,
         };
         levels[depth] = here;
+        // The level to go back to, and the variable of its decision, which is flipped.
+        let mut back = depth;
+        let mut flipped = decided;
         match found {
             Found::Decide(i) => {
                 keep_bounds(&lower, &upper, depth, &mut lowers, &mut uppers);
@@ -135,13 +150,21 @@ pub fn advance(s: Search, buffer: &mut [u8], limit: usize, keep: bool) -> Advanc
                 told = first_indivisible(&lines, &divisors, due, &lower, &upper, n, m, first);
                 decided = i;
                 depth += 1;
+                continue;
             }
             Found::Finish => {
-                before = here;
-                start = depth;
-                ending = Ending::Solution;
-                status = Status::Solved;
-                going = false;
+                if is_last(depth, struck, room) {
+                    before = here;
+                    start = depth;
+                    ending = Ending::Solution;
+                    status = Status::Solved;
+                    going = false;
+                    continue;
+                }
+                put_values(&lower, n, struck, solutions);
+                struck += 1;
+                left -= done;
+                done = 0;
             }
             Found::Conflict(j) => {
                 if conflicts == budget {
@@ -172,7 +195,7 @@ pub fn advance(s: Search, buffer: &mut [u8], limit: usize, keep: bool) -> Advanc
                     &mut uppers,
                     buffer,
                 );
-                let back = met.back;
+                back = met.back;
                 made = met.made;
                 done += 1;
                 if back == 0 {
@@ -184,50 +207,54 @@ pub fn advance(s: Search, buffer: &mut [u8], limit: usize, keep: bool) -> Advanc
                     continue;
                 }
                 let d = state::whole(levels[back]);
-                let i = d.decided;
-                depth = back - 1;
-                let o = state::whole(levels[depth]);
-                lower = o.lower;
-                upper = o.upper;
-                below = o.below;
-                above = o.above;
-                decided = o.decided;
-                let first = backjump(
-                    &rows,
-                    n,
-                    m,
-                    made,
-                    i,
-                    depth,
-                    &upper,
-                    &olds,
-                    &limits,
-                    &gones,
-                    &counts,
-                    &mut lower,
-                    &mut below,
-                    &mut activities,
-                    &mut reaches,
-                );
-                let due = due_at(depth, low, divided, mentions[i]);
-                low = lesser(low, depth);
-                told = first_indivisible(&lines, &divisors, due, &lower, &upper, n, m, first);
-                before = Level {
-                    lower,
-                    upper,
-                    below,
-                    above,
-                    decided,
-                };
-                start = depth;
-                going = done < limit;
+                flipped = d.decided;
+                going = done < left;
             }
         }
+        depth = back - 1;
+        let o = state::whole(levels[depth]);
+        lower = o.lower;
+        upper = o.upper;
+        below = o.below;
+        above = o.above;
+        decided = o.decided;
+        told = go_back(
+            &rows,
+            &lines,
+            &divisors,
+            &mentions,
+            divided,
+            n,
+            m,
+            made,
+            flipped,
+            depth,
+            low,
+            &upper,
+            &olds,
+            &limits,
+            &gones,
+            &counts,
+            &mut lower,
+            &mut below,
+            &mut activities,
+            &mut reaches,
+        );
+        low = lesser(low, depth);
+        before = Level {
+            lower,
+            upper,
+            below,
+            above,
+            decided,
+        };
+        start = depth;
     }
     levels[start] = before;
     put_rows(&lines, &divisors, n, m, &mut rows);
     Advanced {
         ending,
+        struck,
         blocks: done,
         state: Search {
             n,

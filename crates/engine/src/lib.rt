@@ -3,6 +3,7 @@ use state::Search;
 
 pub mod advance;
 pub mod apart;
+pub mod back;
 pub mod conflict;
 pub mod learn;
 pub mod track;
@@ -15,9 +16,10 @@ pub enum Ending {
     Solution,
 }
 
-// The ending, how many conflicts were counted, and the state.
+// The ending, how many solutions were struck out, how many conflicts were counted since the last of them, and the state.
 pub struct Advanced {
     pub ending: Ending,
+    pub struck: usize,
     pub blocks: usize,
     pub state: Search,
 }

@@ -102,6 +102,7 @@ module _ (n m made : ℕ) (rows lines divisors : List ℤ) (numbers : List ℕ) 
 
 -- ---- the sizes of a valid state
 pub record SizesFit (s : Search) : Type 0 where
+  pub some : 1 ≤ s .n
   pub few : s .n ≤ 32
   pub shallow : s .depth < 33
   pub afford : s .conflicts ≤ s .budget
@@ -113,4 +114,4 @@ sizes s v =
     let z = sizes-fit (view s) (v .tests) in
     let d : length (levelsFrom (s .n) (s .levels) (s .depth)) ≤ s .n =
     unfold view model.depth coreOf coreOver in depth-fits (view s .core) (core-fits (view s) (v .shape) (v .tests)) in
-    record { few = z .few; shallow = omega (arith, d, z .few, length-levels (s .n) (s .levels) (s .depth)); afford = z .conflicts; limited = z .budget }
+    record { some = z .some; few = z .few; shallow = omega (arith, d, z .few, length-levels (s .n) (s .levels) (s .depth)); afford = z .conflicts; limited = z .budget }

@@ -1,49 +1,49 @@
 -- What the answers show is document 01's.
-use Prim.Native.Nat.{ℕ, suc, _+_, _*_, _-_, _/_, _≤_}
+use Prim.Native.Nat.{ℕ, _+_, _*_, _-_, _/_, _≤_}
 use native.Mathlib.Numerals.{add-one}
 use mathlib.Core.Bool.{Bool, true, false, cond}
 use mathlib.Core.List.{List, [], _++_, append-nil}
 use mathlib.Core.Option.{Option, none, some}
-use mathlib.Core.Path.{_≡_, refl, ap, _∙_}
+use mathlib.Core.Path.{_≡_, refl, sym, ap, subst, _∙_}
 use lib.Dec.{eqb}
+use lib.IntN.{ℤ}
 use lib.ListN.{getD, length, take, drop}
 use lib.Seq.{take-at}
 use Rattle.model.specs.Bytes.{blockLength}
-use Rattle.model.specs.Constraint.{Bounds}
 use Rattle.model.specs.Lists.{tab}
+use Rattle.model.specs.Points.{Point}
 use Rattle.model.specs.Problem.{Result, ok, error}
-use Rattle.model.specs.Search as model
-use Rattle.model.specs.Step.{Verdict as ModelVerdict, solution, Outcome, blockIn as blocksIn, lowers, checked, step, run, withoutBlock, stepCall, runCall}
+use Rattle.model.specs.Step.{Outcome, blockIn as blocksIn, lowers, checked, step, stepCall, runCall}
 use Rattle.model.specs.Trace.{Trace, lastStep, advance, joined, written, tracedBy, traceCall}
+use Rattle.model.specs.Listing.{Listing, endsWith, listFrom, roomAt, list as listOver, listedIn, listedBy, listCall}
 use Rattle.model.specs.Validity.{valid}
-use Rattle.layout.specs.Rows.{numberIn, boundsAt, boxOf}
+use Rattle.layout.specs.Rows.{numberIn}
 use Rattle.lists.proofs.Bools.{T-of}
-use Rattle.lists.proofs.Tab.{length-tab, tab-map}
+use Rattle.lists.proofs.Tab.{length-tab}
 use Rattle.fields.specs.Fields.{zeros, filled}
-use Rattle.state.specs.View.{noLevel, levelOf, levelAt, coreOver, coreWith, coreOf, view}
-use Rattle.state.specs.declared.Level.{Level}
+use Rattle.state.specs.View.{noLevel, levelAt, coreOver, coreOf, statusOf, view}
 use Rattle.state.specs.declared.Search.{Search}
 use Rattle.state.proofs.Shape.{view-shaped}
 use Rattle.validity.specs.Valid.{Valid}
 use Rattle.propagate.proofs.States.{sizes}
-use Rattle.engine.specs.Advancing.{verdictOf as modelVerdictOf, traceOf, Advances}
+use Rattle.engine.proofs.Striking.{lowers-are}
+use Rattle.engine.specs.Advancing.{verdictOf as modelVerdictOf, traceOf, advanceOver, Advances}
 use Rattle.engine.specs.declared.Ending.{Ending}
 use Rattle.engine.specs.declared.Ending.the-variants as ending
 use Rattle.engine.specs.declared.Advanced.{Advanced}
-use Rattle.validity.proofs.Repeating.{advance-one, Same, run-same}
+use Rattle.validity.proofs.Repeating.{advance-one}
 use Rattle.search.specs.declared.Traced.{Traced}
 use Rattle.search.specs.Seen.{Seen, verdictOf, refusedIn, seenTraced, seenStepped, seenRan, valuesOf, noBlock, blockOr, shown, turn, blockIn, stepSeen, runSeen, traceSeen}
-use Rattle.search.specs.Answered.{caseOf, valuesAt, answered, refusal, ranOf}
+use Rattle.search.specs.Answered.{caseOf, valuesAt, answered, refusal, ranOf, listedOf}
+use Rattle.search.specs.Listing.{SeenListing, seenListed, struckIn, lastIn, listSeen}
+use Rattle.search.proofs.Proceeding.{room-none, trace-alone}
+use Rattle.search.proofs.Listing.{withoutBlocks, Lists, lists-same}
 
 -- ---- a state that passed the test
 pub valid-view : (s : Search) → valid (view s) ≡ true → Valid (view s)
 valid-view s e = record { shape = unfold view in view-shaped s; tests = T-of e }
 
 -- ---- the values of a solution
-lowers-are : (n : ℕ) (l : Level) → lowers (levelOf n l .box) ≡ tab (numberIn (l .lower)) 0 n
-unfolding levelOf boxOf lowers
-lowers-are n l = tab-map (λ (b : Bounds). b .lower) (boundsAt (l .lower) (l .upper)) 0 n ∙ (unfold boundsAt in refl)
-
 view-lowers : (s : Search) → lowers (view s .core .deepest .box) ≡ tab (numberIn (getD (s .levels) (s .depth) noLevel .lower)) 0 (s .n)
 unfolding view coreOf coreOver levelAt
 view-lowers s = lowers-are (s .n) (getD (s .levels) (s .depth) noLevel)
@@ -83,11 +83,12 @@ written-shown : (s : Search) (a : Advanced) (t : Trace) (blocks : List (List ℕ
 unfolding written
 written-shown s a t blocks old now e b = rw (b, ← e) (unfold traceOf in refl)
 
-pub trace-shown : (s : Search) (a : Advanced) (old now : List ℕ) → valid (view s) ≡ true → Advances (view s) (length old / blockLength) true a old now → seenTraced (answered a) now ≡ traceSeen s old
+pub trace-shown : (s : Search) (a : Advanced) (old now : List ℕ) (list list₁ : List ℤ) → valid (view s) ≡ true →
+    Advances (view s) (length old / blockLength) true (roomAt (statusOf (s .status)) 0) a old now list list₁ → seenTraced (answered a) now ≡ traceSeen s old
 unfolding traceSeen traceCall
-trace-shown s a old now v h =
+trace-shown s a old now list list₁ v h =
     answer-shown s a (h .blocks) now (h .many) ∙
-    rw v (unfold tracedBy in written-shown s a (advance (length old / blockLength) (view s)) (h .blocks) old now (h .trace) (h .buffer .written refl))
+    rw v (unfold tracedBy in written-shown s a (advance (length old / blockLength) (view s)) (h .blocks) old now (trace-alone (statusOf (s .status)) h) (h .buffer .written refl))
 
 pub trace-refused : (s : Search) (old : List ℕ) → valid (view s) ≡ false → seenTraced (refusal s) old ≡ traceSeen s old
 unfolding traceSeen traceCall refusal
@@ -136,28 +137,47 @@ step-seen s t block e =
     let k : cond (eqb (t .blocks) 1) 1 0 ≡ t .blocks = step-blocks (stepCall (view s)) s (t .blocks) (ap (λ (x : Seen). x .blocks) q) in
     rw k q
 
--- ---- a run
-same-trace : {v w : ModelVerdict} {c d : ℕ} {s t : model.Search} → v ≡ w → c ≡ d → s ≡ t →
-    _≡_ {A = Trace} (record { verdict = v; count = c; blocks = []; state = s }) (record { verdict = w; count = d; blocks = []; state = t })
-same-trace e f g = rw (e, f, g)
+-- ---- a listing, and a run, which has no room for a strike
+module _ (s : Search) (a : Advanced) (room : ℕ) (old now : List ℕ) (list list₁ : List ℤ) (v : valid (view s) ≡ true) (h : Advances (view s) (s .budget - s .conflicts + 1) false room a old now list list₁) where
+  lists : Lists (record { struck = h .struck; last = traceOf a (h .blocks) }) (listFrom room (view s))
+  lists =
+      subst (λ (l : Listing Trace). Lists l (listFrom room (view s))) (sym (h .trace ∙ ap (λ (k : ℕ). advanceOver room k (view s)) (add-one (s .budget - s .conflicts))))
+      (unfold view in lists-same room (view s) (valid-view s v))
 
-run-traced : (s : Search) (a : Advanced) (blocks : List (List ℕ)) → Valid (view s) → traceOf a blocks ≡ advance (suc (s .budget - s .conflicts)) (view s) →
-    traceOf (record { ending = a .ending; blocks = 0; state = a .state }) [] ≡ lastStep (run (view s))
-unfolding traceOf lastStep blocksIn run withoutBlock
-run-traced s a blocks v e =
-    let r : Same (advance (suc (s .budget - s .conflicts)) (view s)) (run (view s)) = unfold view in run-same (view s) v in
-    same-trace (ap (λ (t : Trace). t .verdict) e ∙ r .verdict) (ap (λ (t : Trace). t .count) e ∙ r .count) (ap (λ (t : Trace). t .state) e ∙ r .state)
+  ran-shown : seenRan (ranOf (answered a)) ≡ shown s (ok (lastStep (listFrom room (view s) .last))) []
+  unfolding seenRan ranOf answered
+  ran-shown =
+      answer-shown s (record { ending = a .ending; struck = 0; blocks = 0; state = a .state }) [] [] refl ∙
+      ap (λ (t : Trace). shown s (ok t) []) (unfold withoutBlocks traceOf in lists .last)
 
-pub run-shown : (s : Search) (a : Advanced) (old now : List ℕ) → valid (view s) ≡ true → Advances (view s) (s .budget - s .conflicts + 1) false a old now →
-    seenRan (ranOf (answered a)) ≡ runSeen s
-unfolding seenRan ranOf answered runSeen runCall
-run-shown s a old now v h =
-    answer-shown s (record { ending = a .ending; blocks = 0; state = a .state }) [] [] refl ∙
-    rw (v, run-traced s a (h .blocks) (valid-view s v) (h .trace ∙ ap (λ (k : ℕ). advance k (view s)) (add-one (s .budget - s .conflicts)))) (unfold checked turn in refl)
+pub run-shown : (s : Search) (a : Advanced) (old now : List ℕ) (list list₁ : List ℤ) → valid (view s) ≡ true →
+    Advances (view s) (s .budget - s .conflicts + 1) false (roomAt (statusOf (s .status)) 0) a old now list list₁ → seenRan (ranOf (answered a)) ≡ runSeen s
+unfolding runSeen runCall
+run-shown s a old now list list₁ v h =
+    ran-shown s a (roomAt (statusOf (s .status)) 0) old now list list₁ v h ∙ rw (v, room-none (statusOf (s .status))) (unfold checked turn listFrom endsWith in refl)
 
 pub run-refused : (s : Search) → valid (view s) ≡ false → seenRan (ranOf (refusal s)) ≡ runSeen s
 unfolding seenRan ranOf refusal runSeen runCall
 run-refused s v = rw v (unfold checked turn shown seenTraced verdictOf refusedIn in refl)
+
+same-seen : {k l : ℕ} {x y : List ℤ} {p q : Seen} → k ≡ l → x ≡ y → p ≡ q → _≡_ {A = SeenListing} (record { struck = k; numbers = x; last = p }) (record { struck = l; numbers = y; last = q })
+same-seen e f g = rw (e, f, g)
+
+pub list-shown : (s : Search) (a : Advanced) (old now : List ℕ) (list list₁ : List ℤ) → valid (view s) ≡ true →
+    Advances (view s) (s .budget - s .conflicts + 1) false (roomAt (statusOf (s .status)) (length list / s .n)) a old now list list₁ →
+    seenListed (listedOf (answered a) (a .struck)) list₁ ≡ listSeen s list
+unfolding seenListed listedOf listSeen listCall listedBy listedIn struckIn lastIn turn listOver ranOf view coreOf coreOver
+list-shown s a old now list list₁ v h =
+    let room = roomAt (statusOf (s .status)) (length list / s .n) in
+    let e = lists s a room old now list list₁ v h .struck in
+    rw v
+    (same-seen (h .howMany ∙ ap length e)
+    (h .listed ∙ ap (λ (vs : List Point). joined vs ++ drop (view s .core .variables * length vs) list) e)
+    (ran-shown s a room old now list list₁ v h))
+
+pub list-refused : (s : Search) (list : List ℤ) → valid (view s) ≡ false → seenListed (listedOf (refusal s) 0) list ≡ listSeen s list
+unfolding seenListed listedOf listSeen listCall
+list-refused s list v = rw v (unfold listedBy struckIn lastIn turn shown refusal seenRan seenTraced verdictOf refusedIn in refl)
 
 -- ---- where the turns ended
 pub answered-as : (a : Advanced) (e : Ending) → a .ending ≡ e →

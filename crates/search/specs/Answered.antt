@@ -1,18 +1,31 @@
--- The answer to a caller from where turns repeated end.
+-- What turns repeated ask of any state, and the answer to a caller from where they end.
+use Prim.Native.Nat.{ℕ, _*_, _≤_}
+use mathlib.Core.Bool.{Bool, true}
 use mathlib.Core.List.{List}
+use mathlib.Core.Path.{_≡_}
 use lib.IntN.{ℤ}
-use lib.ListN.{getD}
+use lib.ListN.{getD, length}
+use Rattle.model.specs.Bytes.{blockLength}
 use Rattle.layout.specs.Rows.{numberIn}
 use Rattle.fields.specs.Fields.{room, zeros, filled}
-use Rattle.state.specs.View.{noLevel}
+use Rattle.validity.specs.Valid.{Valid}
+use Rattle.state.specs.View.{noLevel, view}
 use Rattle.state.specs.declared.Search.{Search}
 use Rattle.engine.specs.declared.Advanced.{Advanced}
 use Rattle.engine.specs.declared.Ending.{Ending}
 use Rattle.engine.specs.declared.Ending.the-variants as ending
 use Rattle.search.specs.declared.Verdict.{Verdict}
 use Rattle.search.specs.declared.Verdict.the-variants.{GoOn, NoSolution, OutOfBudget, Solution, Invalid}
+use Rattle.search.specs.declared.Listed.{Listed}
 use Rattle.search.specs.declared.Ran.{Ran}
 use Rattle.search.specs.declared.Traced.{Traced}
+
+-- a valid state, room for the blocks that are kept, and for the solutions that are struck out
+pub record Proceeds (s : Search) (limit : ℕ) (keep : Bool) (many : ℕ) (buffer : List ℕ) (list : List ℤ) : Type 0 where
+  pub valid : Valid (view s)
+  pub kept : keep ≡ true → blockLength * limit ≤ length buffer
+  pub apart : keep ≡ true → many ≡ 0
+  pub roomy : s .n * many ≤ length list
 
 unfoldable pub caseOf : Ending → Verdict
 caseOf ending.GoOn = GoOn
@@ -37,3 +50,7 @@ refusal s = record { verdict = Invalid; values = zeros room; count = 0; blocks =
 -- a run's answer: that of a trace, without its blocks
 unfoldable pub ranOf : Traced → Ran
 ranOf t = record { verdict = t .verdict; values = t .values; count = t .count; state = t .state }
+
+-- a listing's: that of a trace after its strikes, without its blocks
+unfoldable pub listedOf : Traced → ℕ → Listed
+listedOf t struck = record { struck = struck; verdict = t .verdict; values = t .values; count = t .count; state = t .state }

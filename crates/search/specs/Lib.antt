@@ -3,3 +3,4 @@ pub mod Opening
 pub mod Seen
 pub mod Answered
 pub mod Excluding
+pub mod Listing

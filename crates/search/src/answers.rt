@@ -1,4 +1,5 @@
 // The answers of the calls on a search.
+use crate::Listed;
 use crate::Ran;
 use crate::Traced;
 use crate::Verdict;
@@ -8,18 +9,16 @@ use engine::advance::advance;
 use state::Level;
 use state::Search;
 use state::Status;
-ghost use Prim.Native.Nat.{_*_, _<_, _≤_};
-ghost use mathlib.Core.Bool.{true};
+ghost use Prim.Native.Nat.{_<_, _≤_};
 ghost use mathlib.Core.Path.{_≡_};
-ghost use lib.ListN.{getD, length};
-ghost use Rattle.model.specs.Bytes.{blockLength};
+ghost use lib.ListN.{getD};
 ghost use Rattle.layout.specs.Rows.{numberIn};
 ghost use Rattle.fields.specs.Fields.{filled};
-ghost use Rattle.state.specs.View.{noLevel, view};
+ghost use Rattle.model.specs.Listing.{roomAt};
+ghost use Rattle.state.specs.View.{noLevel, statusOf, view};
 ghost use Rattle.engine.specs.Advancing.{Advances};
-ghost use Rattle.validity.specs.Valid.{Valid};
 ghost use Rattle.search.specs.Opening.{blank as blankState};
-ghost use Rattle.search.specs.Answered.{answered, refusal, ranOf};
+ghost use Rattle.search.specs.Answered.{Proceeds, answered, refusal, ranOf, listedOf};
 
 // The state that a refused file gives.
 pub fn blank() -> Search
@@ -83,28 +82,38 @@ fn deepest_lowers(s: Search) -> [i64; 32]
     lowers(s.levels[depth], s.n)
 }
 
-// At most `limit` turns from a valid state, to a verdict; a marked one gives its verdict again.
-pub fn proceed(s: Search, buffer: &mut [u8], limit: usize, keep: bool) -> Advanced
-    requires { ⌜ Valid (view s) × (keep ≡ true → blockLength * limit ≤ length (now buffer)) ⌝ }
-    ensures { λ r. ⌜ Advances (view s) limit keep r (now (buffer .entry)) (now (buffer .exit)) ⌝ }
+// At most `limit` turns from a valid state, to a verdict, with strikes while there is room; a marked one gives its verdict again.
+pub fn proceed(
+    s: Search,
+    buffer: &mut [u8],
+    limit: usize,
+    keep: bool,
+    room: usize,
+    solutions: &mut [i64],
+) -> Advanced
+    requires { ⌜ Proceeds s limit keep room (now buffer) (now solutions) ⌝ }
+    ensures { λ r. ⌜ Advances (view s) limit keep (roomAt (statusOf (s .status)) room) r (now (buffer .entry)) (now (buffer .exit)) (now (solutions .entry)) (now (solutions .exit)) ⌝ }
 {
     if limit == 0 {
         return Advanced {
             ending: Ending::GoOn,
+            struck: 0,
             blocks: 0,
             state: s,
         };
     }
     let status = s.status;
     match status {
-        Status::Undecided => advance(s, buffer, limit, keep),
+        Status::Undecided => advance(s, buffer, limit, keep, room, solutions),
         Status::Infeasible => Advanced {
             ending: Ending::NoSolution,
+            struck: 0,
             blocks: 0,
             state: s,
         },
         Status::Solved => Advanced {
             ending: Ending::Solution,
+            struck: 0,
             blocks: 0,
             state: s,
         },
@@ -155,6 +164,23 @@ pub fn without_blocks(t: Traced) -> Ran
         verdict,
         values,
         count: t.count,
+        state,
+    }
+}
+
+// A listing's answer: that of a trace after the strikes, without its blocks.
+pub fn listed(t: Traced, struck: usize) -> Listed
+    ensures { λ r. ⌜ r ≡ listedOf t struck ⌝ }
+{
+    let verdict = t.verdict;
+    let values = t.values;
+    let count = t.count;
+    let state = t.state;
+    Listed {
+        struck,
+        verdict,
+        values,
+        count,
         state,
     }
 }

@@ -1,4 +1,5 @@
-// The public calls on a search: open a file, take a turn, run to a verdict, and run with the journal. None has a `requires`: each does its own checking.
+// The public calls on a search: open a file, take a turn, run to a verdict, run with the journal, strike out a solution, and list solutions. None has a
+// `requires`: each does its own checking.
 use problem::Answer;
 use state::Search;
 use state::Status;
@@ -6,6 +7,7 @@ ghost use mathlib.Core.Path.{_≡_};
 ghost use Rattle.model.specs.Search.{openFile};
 ghost use Rattle.search.specs.Opening.{seenOpened, opening};
 ghost use Rattle.search.specs.Excluding.{seenExcluded, excludeSeen};
+ghost use Rattle.search.specs.Listing.{seenListed, listSeen};
 ghost use Rattle.search.specs.Seen.{seenStepped, seenRan, seenTraced, stepSeen, runSeen, traceSeen};
 
 mod answers;
@@ -68,6 +70,16 @@ pub struct Excluded {
     pub state: Search,
 }
 
+// What a listing gives: the values of the `struck` solutions that were struck out stand at the buffer's start, n for each; the rest is what the run after
+// the last of them gives.
+pub struct Listed {
+    pub struck: usize,
+    pub verdict: Verdict,
+    pub values: [i64; 32],
+    pub count: usize,
+    pub state: Search,
+}
+
 // Opens the problem file in these bytes.
 pub fn open(file: &[u8]) -> Opened
     ensures { λ r. ⌜ seenOpened r ≡ opening (openFile (now (file .entry))) ⌝ }
@@ -94,7 +106,8 @@ pub fn trace(s: Search, buffer: &mut [u8]) -> Traced
         return answers::refused(s);
     }
     let limit = buffer.len() / block::LENGTH;
-    let a = answers::proceed(s, buffer, limit, true);
+    let mut none = [0i64; 1];
+    let a = answers::proceed(s, buffer, limit, true, 0, &mut none);
     answers::answer(a)
 }
 
@@ -128,7 +141,8 @@ pub fn run(s: Search) -> Ran
     }
     let limit = s.budget - s.conflicts + 1;
     let mut unused = [0u8; 1];
-    let a = answers::proceed(s, &mut unused, limit, false);
+    let mut none = [0i64; 1];
+    let a = answers::proceed(s, &mut unused, limit, false, 0, &mut none);
     let t = answers::answer(a);
     answers::without_blocks(t)
 }
@@ -163,4 +177,22 @@ pub fn exclude(s: Search) -> Excluded
             state: s,
         },
     }
+}
+
+// Runs from solution to solution: each is struck out before the next run, while the buffer has room for its values. In place, where `run` and `exclude` by
+// turns would copy the state for each. A state that is marked gives its verdict again, and nothing is struck out.
+pub fn list(s: Search, solutions: &mut [i64]) -> Listed
+    ensures { λ r. ⌜ seenListed r (now (solutions .exit)) ≡ listSeen s (now (solutions .entry)) ⌝ }
+{
+    if !validate::is_valid(s) {
+        let t = answers::refused(s);
+        return answers::listed(t, 0);
+    }
+    let room = solutions.len() / s.n;
+    let turns = s.budget - s.conflicts + 1;
+    let mut unused = [0u8; 1];
+    let a = answers::proceed(s, &mut unused, turns, false, room, solutions);
+    let struck = a.struck;
+    let t = answers::answer(a);
+    answers::listed(t, struck)
 }

@@ -1,16 +1,16 @@
 -- A turn, and a run, as turns repeated: the three calls share one loop.
-use Prim.Native.Nat.{ℕ, zero, suc, _+_, _-_, _≤_, _<_}
+use Prim.Native.Nat.{ℕ, zero, suc, _-_, _≤_}
 use native.Mathlib.Omega.{arith}
-use mathlib.Core.List.{List, [], _∷_, _++_, append-nil}
+use mathlib.Core.List.{append-nil}
 use mathlib.Core.Option.{Option, none, some}
-use mathlib.Core.Path.{_≡_, refl, sym, ap, subst, _∙_}
+use mathlib.Core.Path.{_≡_, refl, _∙_}
+use lib.ListN.{length-append}
 use Rattle.model.specs.Search.{Core, Status, undecided, infeasible, solved, Search}
 use Rattle.model.specs.Move.{descend}
-use Rattle.model.specs.Conflict.{Conflict}
-use Rattle.model.specs.Step.{Verdict, goOn, noSolution, outOfBudget, solution, Outcome, blockIn, withStatus, solvedBy, budgetSpent, counted, onConflict, endedAt, ended, again, stepBy, step, continue, runFor, withoutBlock, run}
+use Rattle.model.specs.Step.{Verdict, goOn, noSolution, outOfBudget, solution, Outcome, blockIn, withStatus, solvedBy, budgetSpent, counted, endedAt, ended, again, stepBy, step, continue, runFor, withoutBlock, run}
 use Rattle.model.specs.Trace.{Trace, withBlocks, lastStep, advanced, advance}
 use Rattle.validity.specs.Valid.{Valid}
-use Rattle.validity.proofs.Steps.{spent-or-counted, run-ends, impossible}
+use Rattle.validity.proofs.Steps.{spent-or-counted, step-valid, Counted, step-counted, run-ends}
 
 -- ---- the count of a turn's answer is that of its state
 ended-count : (s : Search) (c : Core) (e : Option ℕ) → s .conflicts ≤ s .budget → endedAt s c e .count ≡ endedAt s c e .state .conflicts
@@ -66,3 +66,19 @@ run-for-same (suc fuel) s n =
 pub run-same : (s : Search) → Valid s → Same (advance (suc (s .budget - s .conflicts)) s) (run s)
 unfolding run withoutBlock
 run-same s v = let r = run-for-same (s .budget - s .conflicts) s (unfold run withoutBlock in run-ends s v) in record { verdict = r .verdict; count = r .count; state = r .state }
+
+-- ---- the conflicts that turns repeated count
+advanced-counted : (v : Verdict) (s : Search) (o : Outcome) (go : Search → Trace) → Counted s (blockIn (o .block)) (o .state) → Counted (o .state) (go (o .state) .blocks) (go (o .state) .state) →
+    Counted s (advanced v o go .blocks) (advanced v o go .state)
+unfolding advanced withBlocks lastStep
+advanced-counted goOn s o go c t =
+    record { conflicts = omega (arith, c .conflicts, t .conflicts, length-append (blockIn (o .block)) (go (o .state) .blocks)); budget = t .budget ∙ c .budget }
+advanced-counted noSolution s o go c t = c
+advanced-counted outOfBudget s o go c t = c
+advanced-counted (solution x) s o go c t = c
+
+pub advance-counted : (limit : ℕ) (s : Search) → Valid s → Counted s (advance limit s .blocks) (advance limit s .state)
+unfolding advance
+advance-counted zero s v = record { conflicts = omega arith; budget = refl }
+advance-counted (suc limit) s v =
+    advanced-counted (step s .verdict) s (step s) (advance limit) (step-counted s v) (advance-counted limit (step s .state) (step-valid s v))

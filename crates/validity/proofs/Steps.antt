@@ -7,7 +7,7 @@ use mathlib.Core.Option.{Option, none, some}
 use mathlib.Core.Path.{_≡_, refl, subst, _∙_}
 use lib.Dec.{T, eqb, eqb→eq, eqb-refl}
 use lib.IntN.{pos}
-use lib.ListN.{getD, drop, replicate, length-replicate}
+use lib.ListN.{length, getD, drop, replicate, length-replicate}
 use lib.Signed.{ltZ}
 use Rattle.model.specs.Lists.{allOf, anyOf}
 use Rattle.model.specs.Ranges.{within, maxCoefficient}
@@ -17,7 +17,7 @@ use Rattle.model.specs.Search.{Level, Core, Status, undecided, infeasible, solv
 use Rattle.model.specs.Move.{nextMove, follow, descend}
 use Rattle.model.specs.Conflict.{Analysis, Numbered, Conflict, analyze, numbered, backjumpLevel, backFrom, backUp, settled, conflictOf, learning, nothingLearned, noLearning, conflictBy, atConflict}
 use Rattle.model.specs.Validity.{falsifies, anyFalsified, outermost, statusValid}
-use Rattle.model.specs.Step.{Verdict, goOn, noSolution, outOfBudget, solution, Outcome, withStatus, solvedBy, budgetSpent, statusAt, counted, onConflict, endedAt, ended, again, stepBy, step, continue, runFor, withoutBlock, run}
+use Rattle.model.specs.Step.{Verdict, goOn, noSolution, outOfBudget, solution, Outcome, blockIn, withStatus, solvedBy, budgetSpent, statusAt, counted, onConflict, endedAt, ended, again, stepBy, step, continue, runFor, withoutBlock, run}
 use Rattle.integer.specs.Parts.{nlt-out}
 use Rattle.integer.specs.Tests.{and-in}
 use Rattle.lists.proofs.Bools.{true-of, T-of}
@@ -222,24 +222,36 @@ step-valid s v = step-by (s .status) s v
 pub impossible : {A : Type 0} → _≡_ {A = ℕ} 0 1 → A
 impossible e = let z : ⊥ = omega arith in absurd z
 
--- a step that goes on counts a conflict
+-- the conflicts counted from one state to another, a block for each
+pub record Counted (s : Search) (blocks : List (List ℕ)) (t : Search) : Type 0 where
+  pub conflicts : t .conflicts ≡ s .conflicts + length blocks
+  pub budget : t .budget ≡ s .budget
+
+-- a step that goes on counts one
 record Counts (s : Search) (o : Outcome) : Type 0 where
-  conflicts : o .verdict ≡ goOn → o .state .conflicts ≡ suc (s .conflicts)
-  budget : o .state .budget ≡ s .budget
+  total : Counted s (blockIn (o .block)) (o .state)
+  goes : o .verdict ≡ goOn → length (blockIn (o .block)) ≡ 1
 
 ended-counts : (s : Search) (c : Core) (e : Option ℕ) → s .conflicts ≤ s .budget → Counts s (endedAt s c e)
-unfolding endedAt solvedBy withStatus
-ended-counts s c none h = record { conflicts = λ e. impossible (cc); budget = refl }
+unfolding endedAt solvedBy withStatus blockIn
+ended-counts s c none h = record { total = record { conflicts = omega arith; budget = refl }; goes = λ e. impossible (cc) }
 ended-counts s c (some j) h =
     spent-or-counted (Counts s) s c j h
-    (λ e. unfold budgetSpent in record { conflicts = λ e. impossible (cc); budget = refl })
-    (λ k. unfold counted in record { conflicts = λ e. refl; budget = refl })
+    (λ e. unfold budgetSpent in record { total = record { conflicts = omega arith; budget = refl }; goes = λ e. impossible (cc) })
+    (λ k. unfold counted in record { total = record { conflicts = omega arith; budget = refl }; goes = λ e. refl })
 
-step-counts : (m : Status) (s : Search) → s .conflicts ≤ s .budget → Counts s (stepBy m s)
-unfolding stepBy again ended
-step-counts undecided s h = ended-counts s (descend (s .core) .core) (descend (s .core) .falsified) h
-step-counts infeasible s h = record { conflicts = λ e. impossible (cc); budget = refl }
-step-counts solved s h = record { conflicts = λ e. impossible (cc); budget = refl }
+step-counts-by : (m : Status) (s : Search) → s .conflicts ≤ s .budget → Counts s (stepBy m s)
+unfolding stepBy again ended blockIn
+step-counts-by undecided s h = ended-counts s (descend (s .core) .core) (descend (s .core) .falsified) h
+step-counts-by infeasible s h = record { total = record { conflicts = omega arith; budget = refl }; goes = λ e. impossible (cc) }
+step-counts-by solved s h = record { total = record { conflicts = omega arith; budget = refl }; goes = λ e. impossible (cc) }
+
+step-counts : (s : Search) → Valid s → Counts s (step s)
+unfolding step
+step-counts s v = step-counts-by (s .status) s (sizes-fit s (v .tests) .conflicts)
+
+pub step-counted : (s : Search) → Valid s → Counted s (blockIn (step s .block)) (step s .state)
+step-counted s v = step-counts s v .total
 
 continue-ends : (v : Verdict) (o : Outcome) (go : Search → Outcome) → o .verdict ≡ v → (v ≡ goOn → ¬ (go (o .state) .verdict ≡ goOn)) → ¬ (continue v o go .verdict ≡ goOn)
 unfolding continue
@@ -249,15 +261,15 @@ continue-ends outOfBudget o go e f h = impossible (cc)
 continue-ends (solution x) o go e f h = impossible (cc)
 
 run-for-ends : (fuel : ℕ) (s : Search) → Valid s → s .conflicts + fuel ≡ s .budget → ¬ (runFor fuel s .verdict ≡ goOn)
-unfolding runFor step
+unfolding runFor
 run-for-ends zero s v h e =
-    let c = step-counts (s .status) s (sizes-fit s (v .tests) .conflicts) in
-    let z = sizes-fit (stepBy (s .status) s .state) (step-by (s .status) s v .tests) in
-    omega (arith, c .conflicts e, c .budget, z .conflicts)
+    let c = step-counts s v in
+    let z = sizes-fit (step s .state) (step-valid s v .tests) in
+    omega (arith, c .total .conflicts, c .goes e, c .total .budget, z .conflicts)
 run-for-ends (suc fuel) s v h e =
-    let c = step-counts (s .status) s (sizes-fit s (v .tests) .conflicts) in
-    let o = stepBy (s .status) s in
-    continue-ends (o .verdict) o (runFor fuel) refl (λ g. run-for-ends fuel (o .state) (step-by (s .status) s v) (omega (arith, c .conflicts g, c .budget))) e
+    let c = step-counts s v in
+    let o = step s in
+    continue-ends (o .verdict) o (runFor fuel) refl (λ g. run-for-ends fuel (o .state) (step-valid s v) (omega (arith, c .total .conflicts, c .goes g, c .total .budget))) e
 
 -- a run from any valid state ends within budget − conflicts further steps
 pub run-ends : (s : Search) → Valid s → ¬ (run s .verdict ≡ goOn)

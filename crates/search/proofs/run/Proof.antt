@@ -1,13 +1,19 @@
 -- `search::run` meets its contract. Assumes nothing.
 use borrow.Author.Needs.{needs}
 use native.Mathlib.Omega.{arith}
-use mathlib.Core.Path.{refl}
+use mathlib.Core.Bool.{true}
+use mathlib.Core.Path.{_≡_, refl}
+use Rattle.model.specs.Validity.{valid}
 use Rattle.lists.proofs.Bools.{clash, said-no, said-yes}
+use Rattle.state.specs.View.{view}
 use Rattle.propagate.proofs.States.{sizes}
 use Rattle.search.proofs.Proceeding.{after-sizes}
 use Rattle.search.proofs.Showing.{valid-view, run-shown, run-refused}
 use Rattle.search.proofs.run.Statement.{statement}
 use Rattle.search.proofs.run.Tie as tie
+
+tested : (c : tie.Else1) → valid (view (c .before .before .args .s)) ≡ true
+tested c = said-yes (c .before .is-valid .ensures) (c .if1 .left)
 
 is-valid-requires : tie.Need-is-valid-requires
 is-valid-requires c κs = search needs
@@ -22,23 +28,24 @@ returns : tie.Need-returns
 returns c = rw (c .without-blocks .ensures, c .before .refused .ensures) (run-refused _ (said-no (c .before .before .before .is-valid .ensures) (c .before .before .if1 .taken)))
 
 sub-limit : tie.Need-sub-limit
-sub-limit c = sizes _ (valid-view _ (said-yes (c .before .before .is-valid .ensures) (c .before .if1 .left))) .afford
+sub-limit c = sizes _ (valid-view _ (tested (c .before))) .afford
 
 add-limit : tie.Need-add-limit
-add-limit c =
-    let z = sizes _ (valid-view _ (said-yes (c .before .before .is-valid .ensures) (c .before .if1 .left))) in
-    omega (arith, z .limited)
+add-limit c = let z = sizes _ (valid-view _ (tested (c .before))) in omega (arith, z .limited)
 
 slice-aggregate-proceed : tie.Need-slice-aggregate-proceed
 slice-aggregate-proceed c = search needs
 
+slice-aggregate-proceed-2 : tie.Need-slice-aggregate-proceed-2
+slice-aggregate-proceed-2 c = search needs
+
 proceed-requires : tie.Need-proceed-requires
-proceed-requires c κs = (valid-view _ (said-yes (c .before .before .before .is-valid .ensures) (c .before .before .if1 .left)), λ k. clash k refl)
+proceed-requires c κs =
+    record { valid = valid-view _ (tested (c .before .before .before)); kept = λ k. clash k refl; apart = λ k. refl; roomy = omega arith }
 
 answer-requires : tie.Need-answer-requires
 answer-requires c κs =
-    let e = c .before .before .before .before in
-    let z = after-sizes (valid-view _ (said-yes (e .before .is-valid .ensures) (e .if1 .left))) (c .before .proceed .ensures) in
+    let z = after-sizes (valid-view _ (tested (c .before .before .before .before .before .before))) (c .before .before .proceed .ensures) in
     (z .few, z .shallow)
 
 without-blocks-requires-2 : tie.Need-without-blocks-requires-2
@@ -46,8 +53,8 @@ without-blocks-requires-2 c κs = search needs
 
 returns-2 : tie.Need-returns-2
 returns-2 c =
-    let e = c .before .before .before .before .before .before in
-    rw (c .without-blocks2 .ensures, c .before .answer .ensures) (run-shown _ _ _ _ (said-yes (e .before .is-valid .ensures) (e .if1 .left)) (c .before .before .before .proceed .ensures))
+    rw (c .without-blocks2 .ensures, c .before .answer .ensures)
+    (run-shown _ _ _ _ _ _ (tested (c .before .before .before .before .before .before .before .before)) (c .before .before .before .before .proceed .ensures))
 
 pub run-spec : {M : Type 1} → statement M
 run-spec =
@@ -60,6 +67,7 @@ run-spec =
     sub-limit
     add-limit
     slice-aggregate-proceed
+    slice-aggregate-proceed-2
     proceed-requires
     answer-requires
     without-blocks-requires-2

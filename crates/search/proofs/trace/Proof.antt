@@ -1,11 +1,18 @@
 -- `search::trace` meets its contract. Assumes nothing.
 use borrow.Author.Needs.{needs}
 use native.Mathlib.Omega.{arith}
+use mathlib.Core.Bool.{true}
+use mathlib.Core.Path.{_≡_, refl}
+use Rattle.model.specs.Validity.{valid}
 use Rattle.lists.proofs.Bools.{said-no, said-yes}
+use Rattle.state.specs.View.{view}
 use Rattle.search.proofs.Proceeding.{after-sizes}
 use Rattle.search.proofs.Showing.{valid-view, trace-shown, trace-refused}
 use Rattle.search.proofs.trace.Statement.{statement}
 use Rattle.search.proofs.trace.Tie as tie
+
+tested : (c : tie.Else1) → valid (view (c .before .before .before .args .s)) ≡ true
+tested c = said-yes (c .before .is-valid .ensures) (c .if1 .left)
 
 is-valid-requires : tie.Need-is-valid-requires
 is-valid-requires c κs = search needs
@@ -16,13 +23,16 @@ refused-requires c κs = search needs
 returns : tie.Need-returns
 returns c = rw (c .refused .ensures) (trace-refused _ _ (said-no (c .before .before .is-valid .ensures) (c .before .if1 .taken)))
 
+slice-aggregate-proceed : tie.Need-slice-aggregate-proceed
+slice-aggregate-proceed c = search needs
+
 proceed-requires : tie.Need-proceed-requires
-proceed-requires c κs = (valid-view _ (said-yes (c .before .before .is-valid .ensures) (c .before .if1 .left)), λ k. omega arith)
+proceed-requires c κs =
+    record { valid = valid-view _ (tested (c .before .before)); kept = λ k. omega arith; apart = λ k. refl; roomy = omega arith }
 
 answer-requires : tie.Need-answer-requires
 answer-requires c κs =
-    let e = c .before .before .before .before in
-    let z = after-sizes (valid-view _ (said-yes (e .before .is-valid .ensures) (e .if1 .left))) (c .before .before .proceed .ensures) in
+    let z = after-sizes (valid-view _ (tested (c .before .before .before .before .before .before))) (c .before .before .before .proceed .ensures) in
     (z .few, z .shallow)
 
 same-length : tie.Need-same-length
@@ -30,8 +40,8 @@ same-length c = search needs
 
 returns-2 : tie.Need-returns-2
 returns-2 c =
-    let e = c .before .before .before .before .before in
-    rw (c .answer .ensures) (trace-shown _ _ _ _ (said-yes (e .before .is-valid .ensures) (e .if1 .left)) (c .before .before .before .proceed .ensures))
+    rw (c .answer .ensures)
+    (trace-shown _ _ _ _ _ _ (tested (c .before .before .before .before .before .before .before)) (c .before .before .before .before .proceed .ensures))
 
 pub trace-spec : {M : Type 1} → statement M
 trace-spec =
@@ -40,6 +50,7 @@ trace-spec =
     is-valid-requires
     refused-requires
     returns
+    slice-aggregate-proceed
     proceed-requires
     answer-requires
     same-length

@@ -14,10 +14,13 @@ use Rattle.propagate.proofs.Steps.{scan-fits}
 use Rattle.propagate.proofs.Tracking.{scan-box}
 use Rattle.propagate.proofs.Warning.{testable, warned}
 use Rattle.backtrack.proofs.Saving.{saved-none}
+use Rattle.engine.specs.declared.Ending.the-variants.{GoOn}
 use Rattle.engine.proofs.Running.{Running}
 use Rattle.engine.proofs.Arms.{exits}
 use Rattle.engine.proofs.Starting.{startOf, start-counts, start-depth, running-starts}
 use Rattle.engine.proofs.Carrying.{tracked-none}
+use Rattle.engine.proofs.Looping.{unsolved}
+use Rattle.engine.proofs.Striking.{started}
 use Rattle.engine.proofs.Rounds.{ready}
 use Rattle.engine.proofs.advance.advance.Tie as tie
 use Rattle.engine.proofs.advance.advance.Proof.Loop.{Inv-loop, μ-loop}
@@ -93,7 +96,8 @@ loop-holds c =
     let r = begins (put (c .before .before .before .before .before)) in
     let t = c .before .before .before .before .before .track .ensures in
     let deep = start-depth (begin (opened (put (c .before .before .before .before .before))) .pre) in
-    record {
+    started
+    (record {
       running = λ e. r;
       carried = λ e.
           record {
@@ -107,9 +111,10 @@ loop-holds c =
       more = λ e. ltb-true 0 _ e;
       open-ended = λ e. (refl, refl);
       ended = λ e. exits r (ltb-false 0 _ e);
+      final = λ e. unsolved GoOn tt;
       apart = r .apart;
       rowsLong = r .rowsLong;
       deep = omega (arith, deep);
       levelsLong = r .levelsLong;
       bytes = refl;
-    }
+    })

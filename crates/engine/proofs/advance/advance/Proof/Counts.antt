@@ -1,16 +1,17 @@
--- The solution; a conflict, out of budget or counted; and 'none'.
+-- A conflict, out of budget or counted; and 'none'.
 use Prim.Native.Nat.{_<_}
 use native.Mathlib.Omega.{arith}
 use mathlib.Core.Path.{_≡_, ap, _∙_}
 use borrow.Author.Needs.{needs}
 use denote.Ref.{now}
-use Rattle.model.specs.Move.{finish, conflict}
-use Rattle.state.specs.View.{view, statusOf}
+use Rattle.model.specs.Move.{conflict}
+use Rattle.state.specs.View.{statusOf}
 use Rattle.state.specs.Change.{held}
 use Rattle.propagate.specs.Moves.{stopOf}
-use Rattle.engine.proofs.Arms.{at-level, finishes, spends}
-use Rattle.engine.proofs.Starting.{startOf}
-use Rattle.engine.proofs.Looping.{ends}
+use Rattle.engine.specs.declared.Ending.the-variants.{NoSolution, OutOfBudget}
+use Rattle.engine.proofs.Arms.{at-level, spends}
+use Rattle.engine.proofs.Looping.{ends, unsolved}
+use Rattle.engine.proofs.Striking.{go-on}
 use Rattle.engine.proofs.Rounds.{depth-small, learnable}
 use Rattle.engine.proofs.Concluding.{countable}
 use Rattle.engine.proofs.Counted.{Meets, meets, counted-none}
@@ -23,25 +24,6 @@ clashed f = f .before .before
 
 abbrev pub conflicted : tie.After-conflict Inv-loop μ-loop → tie.After-found2 Inv-loop μ-loop
 conflicted x = x .before .before .before .before .before .before .before .before .before .before .before .before .before .before .before
-
--- ---- the solution
-pub enum-told : tie.Need-enum-told Inv-loop μ-loop
-enum-told c = search needs
-
-pub loop-less-2 : tie.Need-loop-less-2 Inv-loop μ-loop
-loop-less-2 c = rw (going (c .before .before)) (omega arith)
-
-finish-at : (c : tie.After-enum-told Inv-loop μ-loop) → stopOf (c .before .before .propagate .result) ≡ finish
-unfolding stopOf
-finish-at c = ap stopOf (c .enum-told .given .1)
-
-pub loop-again-2 : tie.Need-loop-again-2 Inv-loop μ-loop
-unfolding statusOf
-loop-again-2 c =
-    let p = c .before .before in
-    let l = round p in
-    let r = running p in
-    ends (at-level _ _ _ _ _ _ _ _ _ _ _ _ _ _ (finishes r (here p) (l .loop .inv .more (going p)) (moved p finish (finish-at c)))) (l .loop .inv .apart) (l .loop .inv .rowsLong) (depth-small r) (levels-long p) (l .loop .inv .bytes)
 
 -- ---- a conflict: out of budget, or counted
 pub enum-known-found-2 : tie.Need-enum-known-found-2 Inv-loop μ-loop
@@ -61,12 +43,13 @@ loop-again-3 c =
     let p = clashed f in
     let l = round p in
     let r = running p in
-    ends
-    (rw (l .loop .inv .open-ended (going p) .1) (spends r (here p) (f .found2 .given .0 .0) (l .loop .inv .more (going p)) (c .if1 .taken) (moved p _ (conflict-at f))))
-    (l .loop .inv .apart) (l .loop .inv .rowsLong) (l .loop .inv .deep) (levels-long p) (l .loop .inv .bytes)
+    go-on (l .loop .inv)
+    (ends
+    (rw (l .loop .inv .here .open-ended (going p) .1) (spends r (here p) (f .found2 .given .0 .0) (l .loop .inv .here .more (going p)) (c .if2 .taken) (moved p _ (conflict-at f))))
+    (unsolved OutOfBudget tt) (l .loop .inv .here .apart) (l .loop .inv .here .rowsLong) (l .loop .inv .here .deep) (levels-long p) (l .loop .inv .here .bytes))
 
-afford : (c : tie.Else1 Inv-loop μ-loop) → round (clashed (c .before .before)) .loop .conflicts < start (round (clashed (c .before .before))) .args .s .budget
-afford c = omega (arith, running (clashed (c .before .before)) .counts .afford, c .if1 .left)
+afford : (c : tie.Else2 Inv-loop μ-loop) → round (clashed (c .before .before)) .loop .conflicts < start (round (clashed (c .before .before))) .args .s .budget
+afford c = omega (arith, running (clashed (c .before .before)) .counts .afford, c .if2 .left)
 
 pub add-conflicts : tie.Need-add-conflicts Inv-loop μ-loop
 add-conflicts c = omega (arith, afford c, running (clashed (c .before .before)) .counts .limited)
@@ -77,7 +60,7 @@ conflict-requires c κs =
     let p = clashed f in
     let q = p .propagate .ensures .1 .0 in
     let v = carried p in
-    countable (running p) (here p) (f .found2 .given .0 .0) (moved p _ (conflict-at f)) 0 _ _ (v .bounds) _ (v .masks .cutRoom) (round p .loop .inv .more (going p))
+    countable (running p) (here p) (f .found2 .given .0 .0) (moved p _ (conflict-at f)) 0 _ _ (v .bounds) _ (v .masks .cutRoom) (round p .loop .inv .here .more (going p))
     (learnable (running p) (here p) (p .propagate .result) (answered p) (f .found2 .given .0 .0) (conflict-at f) (whole-here p, q .bounds))
 
 -- what the conflict left
@@ -87,15 +70,17 @@ pub met : (c : tie.After-conflict Inv-loop μ-loop) →
     let a = start l .args in
     let s = a .s in
     let v = l .loop in
-    Meets (view (startOf s)) (now (a .buffer)) (a .limit) (a .keep) (s .rows) (s .divisors) (s .n) (s .m) (s .budget) (v .buffer) (v .rows) (v .numbers) (v .levels) (v .made) (v .conflicts) (v .depth) (held (v .lower) (v .upper) (v .below) (v .above) (v .decided)) (v .before) (v .start) (v .done)
+    Meets (v .inv .base) (now (a .buffer)) (v .left) (a .keep) (s .rows) (s .divisors) (s .n) (s .m) (s .budget) (v .buffer) (v .rows) (v .numbers) (v .levels) (v .made) (v .conflicts) (v .depth) (held (v .lower) (v .upper) (v .below) (v .above) (v .decided)) (v .before) (v .start) (v .done)
     (here p) (c .conflict .result .back) (c .conflict .result .made) (c .conflict .last .1 .1 .1 .1 .1 .1 .1 .1 .1 .1 .1 .1 .1 .1 .0) (c .conflict .last .1 .1 .1 .1 .1 .1 .1 .1 .1 .1 .1 .1 .1 .1 .1 .0) (c .conflict .last .1 .1 .1 .1 .1 .1 .1 .1 .1 .1 .1 .1 .1 .1 .1 .1 .1 .1 .1 .0)
 met c =
     let f = conflicted c in
     let p = clashed f in
-    meets (running p) _ _ _ _ (round p .loop .decided) (f .found2 .given .0 .0) (moved p _ (conflict-at f)) (carried p .bounds) (round p .loop .inv .more (going p)) (afford (c .before .before .before .before .before .before .before .before .before .before .before .before .before)) (c .conflict .ensures)
+    meets (running p) _ _ _ _ (round p .loop .decided) (f .found2 .given .0 .0) (moved p _ (conflict-at f)) (carried p .bounds) (round p .loop .inv .here .more (going p)) (afford (c .before .before .before .before .before .before .before .before .before .before .before .before .before)) (c .conflict .ensures)
 
 pub add-done : tie.Need-add-done Inv-loop μ-loop
-add-done c = omega (arith, met (c .before .before) .left, start (round (clashed (conflicted (c .before .before)))) .fits .limit)
+add-done c =
+    let l = round (clashed (conflicted (c .before .before))) in
+    omega (arith, met (c .before .before) .left, l .loop .inv .less, start l .fits .limit)
 
 -- ---- none
 pub loop-less-4 : tie.Need-loop-less-4 Inv-loop μ-loop
@@ -106,4 +91,5 @@ unfolding statusOf
 loop-again-4 c =
     let x = c .before .before .before in
     let p = clashed (conflicted x) in
-    ends (at-level _ _ _ _ _ _ _ _ _ _ _ _ _ _ (counted-none (met x) (c .if2 .taken))) (met x .kept .apart) (met x .kept .rowsLong) (depth-small (running p)) (levels-long p) (x .conflict .kept .1 .1 .1 .1 .1 .1 .1 .1 .1 .1 .1 .1 .1 .1 .1 .1 .1 .1 .1 .0 ∙ round p .loop .inv .bytes)
+    go-on (round p .loop .inv)
+    (ends (at-level _ _ _ _ _ _ _ _ _ _ _ _ _ _ (counted-none (met x) (c .if3 .taken))) (unsolved NoSolution tt) (met x .kept .apart) (met x .kept .rowsLong) (depth-small (running p)) (levels-long p) (x .conflict .kept .1 .1 .1 .1 .1 .1 .1 .1 .1 .1 .1 .1 .1 .1 .1 .1 .1 .1 .1 .0 ∙ round p .loop .inv .here .bytes))

@@ -10,7 +10,6 @@ use lib.ListN.{length, set}
 use Rattle.model.specs.Move.{decide}
 use Rattle.lists.proofs.Bools.{clash}
 use Rattle.layout.specs.Rows.{numberIn}
-use Rattle.state.specs.View.{view}
 use Rattle.state.specs.Change.{held}
 use Rattle.propagate.specs.Moves.{stopOf}
 use Rattle.propagate.proofs.Steps.{scan-fits}
@@ -18,10 +17,10 @@ use Rattle.propagate.proofs.Tracking.{scan-box}
 use Rattle.propagate.proofs.Warning.{testable}
 use Rattle.backtrack.proofs.Mirroring.{mirrored-kept}
 use Rattle.engine.proofs.Running.{Running, running-decides}
-use Rattle.engine.proofs.Starting.{startOf}
 use Rattle.engine.proofs.Carrying.{clear-more}
 use Rattle.engine.proofs.Due.{decided-warned}
 use Rattle.engine.proofs.Looping.{ready-with, running-with}
+use Rattle.engine.proofs.Striking.{go-on}
 use Rattle.engine.proofs.Rounds.{depth-small, ready, decided-here, decide-less, clear-here}
 use Rattle.engine.proofs.advance.advance.Tie as tie
 use Rattle.engine.proofs.advance.advance.Proof.Loop.{Inv-loop, μ-loop, start, columned, round, here, going, running, carried, answered, moved, whole-here, levels-long}
@@ -38,8 +37,8 @@ pub propagate-requires : tie.Need-propagate-requires Inv-loop μ-loop
 propagate-requires c κs =
     let l = c .before .before .before .before .before .before .before .before .before .before .before .before .before in
     let g = c .before .before .before .before .before .before .before .before .before .before .before .before .loop-test .taken in
-    let v = l .loop .inv .carried g in
-    (ready-with 0 (ready (l .loop .inv .running g)), ((v .falsified, v .masks), (l .loop .inv .apart, columned l .columns .ensures)))
+    let v = l .loop .inv .here .carried g in
+    (ready-with 0 (ready (l .loop .inv .here .running g)), ((v .falsified, v .masks), (l .loop .inv .here .apart, columned l .columns .ensures)))
 
 pub mul-levels : tie.Need-mul-levels Inv-loop μ-loop
 mul-levels c = omega (arith, depth-small (running c))
@@ -95,7 +94,7 @@ decided : (d : tie.After-decide Inv-loop μ-loop) →
     let a = start l .args in
     let s = a .s in
     let v = l .loop in
-    Running (view (startOf s)) (now (a .buffer)) (a .limit) (a .keep) (s .rows) (s .divisors) (s .n) (s .m) (s .budget) (v .buffer) (v .rows) (v .numbers) (set (v .levels) (v .depth) (here p)) (v .made) (v .conflicts) (v .depth + 1)
+    Running (v .inv .base) (now (a .buffer)) (v .left) (a .keep) (s .rows) (s .divisors) (s .n) (s .m) (s .budget) (v .buffer) (v .rows) (v .numbers) (set (v .levels) (v .depth) (here p)) (v .made) (v .conflicts) (v .depth + 1)
     (held (here p .lower) (d .decide .last .1 .1 .1 .1 .1 .1 .1 .1 .0) (here p .below) (d .decide .last .1 .1 .1 .1 .1 .1 .1 .1 .1 .0) (f .found .given .0 .0)) (v .before) (v .start) (v .done)
 unfolding numberIn
 decided d =
@@ -134,7 +133,8 @@ loop-again c =
     let e = d .decide .ensures in
     let clear = clear-here r (here p) (p .propagate .result) (answered p) i (decide-at f) in
     let room : i < length (here p .upper) = omega (arith, decided-fits f, r .counts .few, whole-here p .upper) in
-    record {
+    go-on (l .loop .inv)
+    (record {
       running = λ q. decided d;
       carried = λ q.
           record {
@@ -145,12 +145,13 @@ loop-again c =
             masks = v .masks;
             clear = clear-more _ _ _ _ (l .loop .levels) (l .loop .low) (l .loop .depth) (here p) deep (v .clear) clear;
           };
-      more = l .loop .inv .more;
-      open-ended = l .loop .inv .open-ended;
+      more = l .loop .inv .here .more;
+      open-ended = l .loop .inv .here .open-ended;
       ended = λ q. clash (going p) q;
-      apart = l .loop .inv .apart;
-      rowsLong = l .loop .inv .rowsLong;
-      deep = l .loop .inv .deep;
+      final = λ q. clash (going p) q;
+      apart = l .loop .inv .here .apart;
+      rowsLong = l .loop .inv .here .rowsLong;
+      deep = l .loop .inv .here .deep;
       levelsLong = levels-long p;
-      bytes = l .loop .inv .bytes;
-    }
+      bytes = l .loop .inv .here .bytes;
+    })

@@ -1,9 +1,11 @@
--- The loop of `engine::advance::advance`: its invariant, which `Looping` has, its measure, and what holds in a round where propagation stopped. Each turn
--- left weighs more than the slack of any box, and a decision lowers the slack. The places of the walk that the proof goes back to are named once.
-use Prim.Native.Nat.{_+_, _-_, _*_}
-use mathlib.Core.Bool.{true}
+-- The loop of `engine::advance::advance`: its invariant, `Looping` from the state after the last strike, its measure, and what holds in a round where
+-- propagation stopped. Each strike and each turn left weighs more than the slack of any box, and a decision lowers the slack. The places of the walk that the proof goes back to are named once.
+use Prim.Native.Nat.{ℕ, _+_, _-_, _*_}
+use mathlib.Core.Bool.{Bool, true}
+use mathlib.Core.List.{List}
 use mathlib.Core.Path.{_≡_, _∙_}
 use denote.Ref.{now}
+use lib.IntN.{ℤ}
 use lib.ListN.{length, set, length-set}
 use Rattle.model.specs.Move.{Move, slack}
 use Rattle.layout.specs.Rows.{boxOf}
@@ -16,20 +18,23 @@ use Rattle.propagate.specs.Propagation.{propagation, propagationOf}
 use Rattle.propagate.specs.Divided.{keptOver}
 use Rattle.engine.proofs.Measures.{stepWeight}
 use Rattle.engine.proofs.Running.{Running, Propagates, coreHere}
-use Rattle.engine.proofs.Starting.{startOf}
 use Rattle.engine.proofs.Carrying.{Carried}
 use Rattle.engine.proofs.Looping.{Looping, weight, whole-with}
+use Rattle.engine.proofs.Starting.{startOf}
+use Rattle.engine.proofs.Striking.{Struck}
+use Rattle.engine.proofs.Leaving.{Goes}
 use Rattle.engine.proofs.Rounds.{propagates}
 use Rattle.engine.proofs.advance.advance.Tie as tie
 
 abbrev pub Inv-loop : tie.InvT-loop
-Inv-loop buffer₀ limit keep n m budget divisors lines rows₀ numbers₀ levels₀ made₀ conflicts₀ depth₀ before₀ start₀ done₀ ending₀ status₀ lower₀ upper₀ below₀ above₀ decided₀ activities₀ reaches₀ olds₀ limits₀ gones₀ counts₀ lowers₀ uppers₀ divided mentions low₀ inputs cuts₀ first told₀ going₀ buffer rows numbers levels made conflicts depth before start done ending status lower upper below above decided activities reaches olds limits gones counts lowers uppers low cuts told going =
-    Looping (view (record { n = n; m = m; budget = budget; conflicts = conflicts₀; made = made₀; depth = depth₀; status = Undecided; rows = lines; divisors = divisors; numbers = numbers₀; levels = levels₀ })) buffer₀ limit keep lines divisors n m budget mentions divided inputs buffer rows numbers levels made conflicts depth before start done ending status
-    lower upper below above decided activities reaches olds limits gones counts lowers uppers low cuts told going
+Inv-loop buffer₀ limit keep room solutions₀ n m budget divisors lines rows₀ numbers₀ levels₀ made₀ conflicts₀ depth₀ before₀ start₀ left₀ done₀ struck₀ ending₀ status₀ lower₀ upper₀ below₀ above₀ decided₀ activities₀ reaches₀ olds₀ limits₀ gones₀ counts₀ lowers₀ uppers₀ divided mentions low₀ inputs cuts₀ first told₀ going₀ buffer solutions rows numbers levels made conflicts depth before start left done struck ending status lower upper below above decided activities reaches olds limits gones counts lowers uppers low cuts told going =
+    Struck (view (record { n = n; m = m; budget = budget; conflicts = conflicts₀; made = made₀; depth = depth₀; status = Undecided; rows = lines; divisors = divisors; numbers = numbers₀; levels = levels₀ })) limit room n solutions₀ left struck solutions
+    (λ base.
+    Looping base buffer₀ left keep (room - struck) lines divisors n m budget mentions divided inputs buffer rows numbers levels made conflicts depth before start done ending status lower upper below above decided activities reaches olds limits gones counts lowers uppers low cuts told going)
 
 abbrev pub μ-loop : tie.MeasureT-loop
-μ-loop buffer₀ limit keep n m budget divisors lines rows₀ numbers₀ levels₀ made₀ conflicts₀ depth₀ before₀ start₀ done₀ ending₀ status₀ lower₀ upper₀ below₀ above₀ decided₀ activities₀ reaches₀ olds₀ limits₀ gones₀ counts₀ lowers₀ uppers₀ divided mentions low₀ inputs cuts₀ first told₀ going₀ buffer rows numbers levels made conflicts depth before start done ending status lower upper below above decided activities reaches olds limits gones counts lowers uppers low cuts told going =
-    weight going ((limit - done) * stepWeight + slack (boxOf n lower upper))
+μ-loop buffer₀ limit keep room solutions₀ n m budget divisors lines rows₀ numbers₀ levels₀ made₀ conflicts₀ depth₀ before₀ start₀ left₀ done₀ struck₀ ending₀ status₀ lower₀ upper₀ below₀ above₀ decided₀ activities₀ reaches₀ olds₀ limits₀ gones₀ counts₀ lowers₀ uppers₀ divided mentions low₀ inputs cuts₀ first told₀ going₀ buffer solutions rows numbers levels made conflicts depth before start left done struck ending status lower upper below above decided activities reaches olds limits gones counts lowers uppers low cuts told going =
+    weight going ((room - struck + (left - done)) * stepWeight + slack (boxOf n lower upper))
 
 -- ---- the places
 abbrev pub start : tie.At-loop Inv-loop μ-loop → tie.Start Inv-loop μ-loop
@@ -59,8 +64,8 @@ pub running : (p : tie.After-propagate Inv-loop μ-loop) →
     let a = start l .args in
     let s = a .s in
     let v = l .loop in
-    Running (view (startOf s)) (now (a .buffer)) (a .limit) (a .keep) (s .rows) (s .divisors) (s .n) (s .m) (s .budget) (v .buffer) (v .rows) (v .numbers) (v .levels) (v .made) (v .conflicts) (v .depth) (held (v .lower) (v .upper) (v .below) (v .above) (v .decided)) (v .before) (v .start) (v .done)
-running p = round p .loop .inv .running (going p)
+    Running (v .inv .base) (now (a .buffer)) (v .left) (a .keep) (s .rows) (s .divisors) (s .n) (s .m) (s .budget) (v .buffer) (v .rows) (v .numbers) (v .levels) (v .made) (v .conflicts) (v .depth) (held (v .lower) (v .upper) (v .below) (v .above) (v .decided)) (v .before) (v .start) (v .done)
+running p = round p .loop .inv .here .running (going p)
 
 pub carried : (p : tie.After-propagate Inv-loop μ-loop) →
     let l = round p in
@@ -68,7 +73,7 @@ pub carried : (p : tie.After-propagate Inv-loop μ-loop) →
     let s = a .s in
     let v = l .loop in
     Carried (s .rows) (s .divisors) (columned l .columns .result) (masked l .divided-mask .result) (v .low) (s .n) (s .m) (v .rows) (v .levels) (v .made) (v .depth) (v .lower) (v .upper) (v .activities) (v .reaches) (v .told) (v .olds) (v .limits) (v .gones) (v .counts) (v .lowers) (v .uppers) (tracked l .track .last .1 .1 .1 .1 .1 .1 .1 .1 .0) (v .cuts)
-carried p = round p .loop .inv .carried (going p)
+carried p = round p .loop .inv .here .carried (going p)
 
 -- propagation's answer
 pub answered : (p : tie.After-propagate Inv-loop μ-loop) →
@@ -93,3 +98,13 @@ whole-here p = whole-with (round p .loop .decided) (p .propagate .ensures .1 .0 
 
 pub levels-long : (p : tie.After-propagate Inv-loop μ-loop) → length (set (round p .loop .levels) (round p .loop .depth) (here p)) ≡ 33
 levels-long p = length-set (round p .loop .levels) (round p .loop .depth) (here p) ∙ running p .levelsLong
+
+-- what an arm of the round leaves where the search goes back
+abbrev pub GoesFrom : (p : tie.After-propagate Inv-loop μ-loop) → List ℕ → List ℤ → List ℤ → List ℕ → ℕ → ℕ → ℕ → ℕ → ℕ → List ℤ → List ℤ → List ℕ → Bool → ℕ → ℕ → Type 0
+GoesFrom p =
+    let l = round p in
+    let a = start l .args in
+    let s = a .s in
+    let v = l .loop in
+    Goes (view (startOf s)) (a .limit) (a .room) (now (a .solutions)) (now (a .buffer)) (a .keep) (s .rows) (s .divisors) (s .n) (s .m) (s .budget) (tracked l .track .last .1 .1 .1 .1 .1 .1 .1 .1 .0) (v .rows) (v .numbers) (v .levels) (v .made) (v .depth) (here p)
+    ((a .room - v .struck + (v .left - v .done)) * stepWeight + slack (boxOf (s .n) (v .lower) (v .upper)))

@@ -1,0 +1,12 @@
+-- `search::answers::listed` meets its contract. Assumes nothing.
+use mathlib.Core.Path.{refl}
+use Rattle.search.specs.Answered.{listedOf}
+use Rattle.search.proofs.answers.listed.Statement.{statement}
+use Rattle.search.proofs.answers.listed.Tie as tie
+
+returns : tie.Need-returns
+unfolding listedOf
+returns c = refl
+
+pub listed-spec : {M : Type 1} → statement M
+listed-spec = tie.close (tie.spec returns)

@@ -1,0 +1,79 @@
+-- `search::list` meets its contract. Assumes nothing.
+use borrow.Author.Needs.{needs}
+use native.Mathlib.Nat.{mul-div-le}
+use native.Mathlib.Omega.{arith}
+use mathlib.Core.Bool.{true}
+use mathlib.Core.Path.{_≡_, refl}
+use Rattle.model.specs.Validity.{valid}
+use Rattle.lists.proofs.Bools.{clash, said-no, said-yes}
+use Rattle.state.specs.View.{view}
+use Rattle.propagate.proofs.States.{sizes}
+use Rattle.search.proofs.Proceeding.{after-sizes}
+use Rattle.search.proofs.Showing.{valid-view, list-shown, list-refused}
+use Rattle.search.proofs.list.Statement.{statement}
+use Rattle.search.proofs.list.Tie as tie
+
+tested : (c : tie.Else1) → valid (view (c .before .before .args .s)) ≡ true
+tested c = said-yes (c .before .is-valid .ensures) (c .if1 .left)
+
+is-valid-requires : tie.Need-is-valid-requires
+is-valid-requires c κs = search needs
+
+refused-requires : tie.Need-refused-requires
+refused-requires c κs = search needs
+
+listed-requires : tie.Need-listed-requires
+listed-requires c κs = search needs
+
+returns : tie.Need-returns
+returns c = rw (c .listed .ensures, c .before .refused .ensures) (list-refused _ _ (said-no (c .before .before .before .is-valid .ensures) (c .before .before .if1 .taken)))
+
+div-room : tie.Need-div-room
+div-room c = let z = sizes _ (valid-view _ (tested (c .before))) in omega (arith, z .some)
+
+sub-turns : tie.Need-sub-turns
+sub-turns c = sizes _ (valid-view _ (tested (c .before .before))) .afford
+
+add-turns : tie.Need-add-turns
+add-turns c = let z = sizes _ (valid-view _ (tested (c .before .before))) in omega (arith, z .limited)
+
+slice-aggregate-proceed : tie.Need-slice-aggregate-proceed
+slice-aggregate-proceed c = search needs
+
+proceed-requires : tie.Need-proceed-requires
+proceed-requires c κs =
+    record { valid = valid-view _ (tested (c .before .before .before .before)); kept = λ k. clash k refl; apart = λ k. clash k refl; roomy = mul-div-le _ _ }
+
+answer-requires : tie.Need-answer-requires
+answer-requires c κs =
+    let z = after-sizes (valid-view _ (tested (c .before .before .before .before .before .before .before))) (c .before .before .proceed .ensures) in
+    (z .few, z .shallow)
+
+listed-requires-2 : tie.Need-listed-requires-2
+listed-requires-2 c κs = search needs
+
+same-length : tie.Need-same-length
+same-length c = search needs
+
+returns-2 : tie.Need-returns-2
+returns-2 c =
+    rw (c .listed2 .ensures, c .before .answer .ensures)
+    (list-shown _ _ _ _ _ _ (tested (c .before .before .before .before .before .before .before .before .before)) (c .before .before .before .before .proceed .ensures))
+
+pub list-spec : {M : Type 1} → statement M
+list-spec =
+    tie.close
+    (tie.spec
+    is-valid-requires
+    refused-requires
+    listed-requires
+    returns
+    div-room
+    sub-turns
+    add-turns
+    slice-aggregate-proceed
+    proceed-requires
+    answer-requires
+    listed-requires-2
+    same-length
+    returns-2)
