@@ -2,4 +2,6 @@
 pub mod Shown
 pub mod Lists
 pub mod Demand
+pub mod Replies
+pub mod InPlace
 pub mod Listing

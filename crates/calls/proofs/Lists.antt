@@ -15,7 +15,8 @@ use Rattle.model.specs.Step.{blockIn, step, stepCall, checked, runCall, run}
 use Rattle.model.specs.Trace.{Trace, lastStep, advance, joined, written, tracedBy, traceCall}
 use Rattle.model.specs.Demand.{after, stateAfter, answerAt, blocksIn, journal, stepsTogether, Steps}
 use Rattle.lists.proofs.Bools.{lt-or-le}
-use Rattle.soundness.proofs.Together.{state-add, journal-add, Long, journal-long}
+use Rattle.validity.proofs.Every.{Every}
+use Rattle.soundness.proofs.Together.{state-add, journal-add, journal-long}
 use Rattle.state.specs.View.{view}
 use Rattle.state.specs.declared.Search.{Search}
 use Rattle.search.specs.Seen.{valuesOf}
@@ -23,15 +24,15 @@ use Rattle.search.specs.declared.Stepped.{Stepped}
 use Rattle.search.specs.declared.Ran.{Ran}
 use Rattle.search.specs.declared.Traced.{Traced}
 use Rattle.search.specs.declared.Verdict.the-variants.{GoOn}
-use Rattle.calls.specs.Calls.{Call, stepped, traced, ran, Makes, told, ListFrom, stateIn, blocksAt, given, journalOf, NoRun, untilRun, stepsIn, stepsOf}
+use Rattle.calls.specs.Calls.{Call, stepped, traced, ran, Makes, told, ListFrom, stateIn, partsAt, given, journalOf, NoRun, untilRun, stepsIn, stepsOf}
 use Rattle.calls.proofs.Shown.{caseOf, Tells, run-tells, trace-tells, step-tells}
 
--- ---- blocks in a buffer
-pub blocks-back : (bs : List (List ℕ)) (rest : List ℕ) → Long bs → blocksAt (length bs) (joined bs ++ rest) ≡ bs
-unfolding blocksAt joined
-blocks-back [] rest h = refl
-blocks-back (b ∷ bs) rest h =
-    rw (append-assoc, take-at b (joined bs ++ rest) blockLength (h .0), drop-at b (joined bs ++ rest) blockLength (h .0)) (ap (λ (xs : List (List ℕ)). b ∷ xs) (blocks-back bs rest (h .1)))
+-- ---- parts of one size in a buffer
+pub parts-back : {A : Type 0} (size : ℕ) (bs : List (List A)) (rest : List A) → Every (λ (b : List A). length b ≡ size) bs → partsAt size (length bs) (joined bs ++ rest) ≡ bs
+unfolding partsAt joined
+parts-back size [] rest h = refl
+parts-back {A} size (b ∷ bs) rest h =
+    rw (append-assoc, take-at b (joined bs ++ rest) size (h .0), drop-at b (joined bs ++ rest) size (h .0)) (ap (λ (xs : List (List A)). b ∷ xs) (parts-back size bs rest (h .1)))
 
 empty : (bs : List (List ℕ)) → length bs ≡ 0 → bs ≡ []
 empty [] h = refl
@@ -106,7 +107,7 @@ module _ (p : Problem) (m : model.Search) (t : Steps p m) where
   record TraceTells (n k : ℕ) (old new : List ℕ) (r : Traced) : Type 0 where
     state : view (r .state) ≡ stateAfter (k + n) m
     count : r .count ≡ length (journal (k + n) m)
-    blocks : blocksAt (r .blocks) new ≡ journal n (stateAfter k m)
+    blocks : partsAt blockLength (r .blocks) new ≡ journal n (stateAfter k m)
     idle : n ≡ 0 → r .verdict ≡ GoOn
     answer : (i : ℕ) → n ≡ suc i → (r .verdict ≡ caseOf (step (stateAfter (k + i) m) .verdict)) × (r .values ≡ valuesOf (step (stateAfter (k + i) m) .verdict))
 
@@ -118,7 +119,7 @@ module _ (p : Problem) (m : model.Search) (t : Steps p m) where
       record {
         state = x .state ∙ sym (state-add k (suc n) m);
         count = x .count ∙ ap (λ (y : model.Search). step y .count) w ∙ t .counted (k + n) ∙ ap (λ (i : ℕ). length (journal i m)) z;
-        blocks = rw (x .blocks, x .buffer) (blocks-back (journal (suc n) (stateAfter k m)) _ (journal-long (suc n) (stateAfter k m)));
+        blocks = rw (x .blocks, x .buffer) (parts-back blockLength (journal (suc n) (stateAfter k m)) _ (journal-long (suc n) (stateAfter k m)));
         idle = λ h. absurd (omega arith);
         answer = λ i h. let y : n ≡ i = omega arith in rw (← y, ← w) (x .verdict, x .values);
       }
@@ -129,7 +130,7 @@ module _ (p : Problem) (m : model.Search) (t : Steps p m) where
       ap (λ (b : Bool). tracedBy b (stateAfter k m) old) (t .accepted k) ∙ (unfold tracedBy in ap (λ (i : ℕ). written (advance i (stateAfter k m)) old) f)
 
   trace-with : (n k : ℕ) (s : Search) (old new : List ℕ) (r : Traced) → length old / blockLength ≡ n → view s ≡ stateAfter k m → Makes s (traced old new r) → TraceTells n k old new r
-  unfolding advance caseOf blocksAt journal
+  unfolding advance caseOf partsAt journal
   trace-with zero k s old new r f v e =
       let x = trace-tells s r old new (stateAfter k m) (advance 0 (stateAfter k m)) e v (trace-takes 0 k old f) in
       let z : k + 0 ≡ k = omega arith in

@@ -86,7 +86,7 @@ pub record Tells (r : Traced) (new : List ℕ) (t : Trace) (bytes : List ℕ) : 
   pub buffer : new ≡ bytes
   pub state : view (r .state) ≡ t .state
 
-seen-tells : (r : Traced) (new : List ℕ) (s : Search) (t : Trace) (bytes : List ℕ) → seenTraced r new ≡ shown s (ok t) bytes → Tells r new t bytes
+pub seen-tells : (r : Traced) (new : List ℕ) (s : Search) (t : Trace) (bytes : List ℕ) → seenTraced r new ≡ shown s (ok t) bytes → Tells r new t bytes
 unfolding seenTraced shown caseIn
 seen-tells r new s t bytes e =
     record {

@@ -54,15 +54,15 @@ stateIn s [] = s
 stateIn s (c ∷ cs) = stateIn (told c .state) cs
 
 -- ---- their journal: the blocks that were given, in order
--- the first k blocks of a buffer
-unfoldable pub blocksAt : ℕ → List ℕ → List (List ℕ)
-blocksAt zero bytes = []
-blocksAt (suc k) bytes = take blockLength bytes ∷ blocksAt k (drop blockLength bytes)
+-- the first k parts of a buffer, each of this size
+unfoldable pub partsAt : {A : Type 0} → ℕ → ℕ → List A → List (List A)
+partsAt size zero xs = []
+partsAt size (suc k) xs = take size xs ∷ partsAt size k (drop size xs)
 
 -- a run gives none
 unfoldable pub given : Call → List (List ℕ)
 given (stepped r) = cond (r .recorded) (r .block ∷ []) []
-given (traced old new r) = blocksAt (r .blocks) new
+given (traced old new r) = partsAt blockLength (r .blocks) new
 given (ran q) = []
 
 unfoldable pub journalOf : List Call → List (List ℕ)

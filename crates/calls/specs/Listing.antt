@@ -1,12 +1,12 @@
--- N4 of whoever calls `open` on an accepted file, and then `step`, `trace`, `run` and `exclude` in any order, each on the state that the call before returned.
-use Prim.Native.Nat.{ℕ, _+_, _-_, _*_, _/_, _≤_, _<_}
+-- N4 of whoever calls `open` on an accepted file, and then `step`, `trace`, `run`, `exclude` and `list` in any order, each on the state that the call before returned.
+use Prim.Native.Nat.{ℕ, zero, suc, _+_, _-_, _*_, _/_, _≤_, _<_}
 use mathlib.Core.Bool.{Bool, true, false, cond}
 use mathlib.Core.List.{List, [], _∷_, _++_, map}
 use mathlib.Core.Logic.{_⊎_}
 use mathlib.Core.Option.{some}
 use mathlib.Core.Path.{_≡_}
 use lib.IntN.{ℤ}
-use lib.ListN.{length, take, getElem?}
+use lib.ListN.{length, take, drop, getElem?}
 use Rattle.model.specs.Bytes.{blockLength}
 use Rattle.model.specs.Problem.{Problem, variables}
 use Rattle.model.specs.File.{problemIn}
@@ -15,26 +15,37 @@ use Rattle.model.specs.Demand.{Accepted, MeetsCuts}
 use Rattle.fields.specs.Fields.{room, zeros}
 use Rattle.state.specs.declared.Search.{Search}
 use Rattle.search.specs.Excluding.{seenExcluded, excludeSeen}
+use Rattle.search.specs.Listing.{seenListed, listSeen}
 use Rattle.search.specs.declared.Opened.{Opened}
+use Rattle.search.specs.declared.Ran.{Ran}
 use Rattle.search.specs.declared.Excluded.{Excluded}
 use Rattle.search.specs.declared.Exclusion.{Exclusion}
 use Rattle.search.specs.declared.Exclusion.the-variants as exclusion
+use Rattle.search.specs.declared.Listed.{Listed}
 use Rattle.search.specs.declared.Verdict.{Verdict}
 use Rattle.search.specs.declared.Verdict.the-variants as verdict
-use Rattle.calls.specs.Calls.{Opens, Call, stepped, traced, ran, Makes, told, given, SameAnswer}
+use Rattle.calls.specs.Calls.{Opens, Call, stepped, traced, ran, Makes, told, partsAt, given, SameAnswer}
 
--- ---- the calls, strikes among them: what their contracts say of an answer
+-- ---- the calls, strikes and listings among them: what their contracts say of an answer
+-- of a listing the buffer's numbers too, before and after
 pub data Action : Type 0 where
   called : Call → Action
   excluded : Excluded → Action
+  listed : List ℤ → List ℤ → Listed → Action
 
 abbrev pub Does : Search → Action → Type 0
 Does s (called c) = Makes s c
 Does s (excluded e) = seenExcluded e ≡ excludeSeen s
+Does s (listed old new r) = seenListed r new ≡ listSeen s old
+
+-- what the run after a listing's last strike gives
+unfoldable pub lastRun : Listed → Ran
+lastRun r = record { verdict = r .verdict; values = r .values; count = r .count; state = r .state }
 
 unfoldable pub stateOf : Action → Search
 stateOf (called c) = told c .state
 stateOf (excluded e) = e .state
+stateOf (listed old new r) = r .state
 
 -- ---- a list of calls; the latest comes first
 unfoldable pub stateAfter : Search → List Action → Search
@@ -45,22 +56,24 @@ abbrev pub DoneFrom : Search → List Action → Type 0
 DoneFrom s [] = Unit {0}
 DoneFrom s (a ∷ acts) = Does (stateAfter s acts) a × DoneFrom s acts
 
--- the blocks given, in order; a strike gives none
+-- the blocks given, in order; a strike and a listing give none
 unfoldable pub givenBy : Action → List (List ℕ)
 givenBy (called c) = given c
 givenBy (excluded e) = []
+givenBy (listed old new r) = []
 
 unfoldable pub blocksOf : List Action → List (List ℕ)
 blocksOf [] = []
 blocksOf (a ∷ acts) = blocksOf acts ++ givenBy a
 
--- no run, which gives no blocks, is among them
+-- no run and no listing, which give no blocks, is among them
 abbrev pub NoRun : List Action → Type 0
 NoRun [] = Unit {0}
 NoRun (called (stepped r) ∷ acts) = NoRun acts
 NoRun (called (traced old new r) ∷ acts) = NoRun acts
 NoRun (called (ran q) ∷ acts) = ⊥
 NoRun (excluded e ∷ acts) = NoRun acts
+NoRun (listed old new r ∷ acts) = ⊥
 
 -- ---- the solutions that they show, each as an array of 32 numbers
 unfoldable pub padded : Point → List ℤ
@@ -73,9 +86,14 @@ solutionIn verdict.OutOfBudget values = []
 solutionIn verdict.Solution values = values ∷ []
 solutionIn verdict.Invalid values = []
 
+-- those that a listing strikes out: so many rows at the start of its buffer, a number for each variable
+unfoldable pub rowsOf : List ℤ → Listed → List Point
+rowsOf new r = partsAt (r .state .n) (r .struck) new
+
 unfoldable pub shownBy : Action → List (List ℤ)
 shownBy (called c) = solutionIn (told c .verdict) (told c .values)
 shownBy (excluded e) = []
+shownBy (listed old new r) = map padded (rowsOf new r) ++ solutionIn (r .verdict) (r .values)
 
 -- whether a solution stands shown: one was, and was not struck out since
 unfoldable pub standsAt : Verdict → Bool → Bool
@@ -91,15 +109,21 @@ standsBehind exclusion.Ended b = b
 standsBehind exclusion.Unsolved b = b
 standsBehind exclusion.Invalid b = b
 
+-- behind so many strikes
+unfoldable pub standsPast : ℕ → Bool → Bool
+standsPast zero b = b
+standsPast (suc k) b = false
+
 unfoldable pub standsAfter : Action → Bool → Bool
 standsAfter (called c) b = standsAt (told c .verdict) b
 standsAfter (excluded e) b = standsBehind (e .answer) b
+standsAfter (listed old new r) b = standsAt (r .verdict) (standsPast (r .struck) b)
 
 unfoldable pub stands : List Action → Bool
 stands [] = false
 stands (a ∷ acts) = standsAfter a (stands acts)
 
--- the solutions shown, in order; one that still stands is not shown anew
+-- the solutions shown, in order; one that still stands is not shown anew. A listing where one stands shows that one alone (`ListAfter.marked`)
 unfoldable pub shown : List Action → List (List ℤ)
 shown [] = []
 shown (a ∷ acts) = shown acts ++ cond (stands acts) [] (shownBy a)
@@ -114,12 +138,13 @@ strikesIn exclusion.Invalid = 0
 unfoldable pub strikesBy : Action → ℕ
 strikesBy (called c) = 0
 strikesBy (excluded e) = strikesIn (e .answer)
+strikesBy (listed old new r) = r .struck
 
 unfoldable pub strikes : List Action → ℕ
 strikes [] = 0
 strikes (a ∷ acts) = strikesBy a + strikes acts
 
--- ---- a list kept up: a strike where a solution stands, else a step, a run, or a trace with room for a block
+-- ---- a list kept up: a strike where a solution stands, else a step, a run, a listing, or a trace with room for a block
 abbrev pub Turns : Call → Type 0
 Turns (stepped r) = Unit {0}
 Turns (traced old new r) = 0 < length old / blockLength
@@ -128,13 +153,19 @@ Turns (ran q) = Unit {0}
 abbrev pub Due : Bool → Action → Type 0
 Due true (called c) = ⊥
 Due true (excluded e) = Unit {0}
+Due true (listed old new r) = ⊥
 Due false (called c) = Turns c
 Due false (excluded e) = ⊥
+Due false (listed old new r) = Unit {0}
 
 -- it ends with 'ended', 'none' or 'spent'
+abbrev pub Closes : Ran → Type 0
+Closes q = (q .verdict ≡ verdict.NoSolution) ⊎ (q .verdict ≡ verdict.OutOfBudget)
+
 abbrev pub Ends : Action → Type 0
-Ends (called c) = (told c .verdict ≡ verdict.NoSolution) ⊎ (told c .verdict ≡ verdict.OutOfBudget)
+Ends (called c) = Closes (told c)
 Ends (excluded e) = e .answer ≡ exclusion.Ended
+Ends (listed old new r) = Closes (lastRun r)
 
 abbrev pub KeptUp : List Action → Type 0
 KeptUp [] = Unit {0}
@@ -146,7 +177,7 @@ pub record Lists (p : Problem) (s : Search) (acts : List Action) : Type 0 where
   -- the solutions shown are the first of all solutions in dictionary order; those shown were struck out, but for one that stands
   pub prefix : shown acts ≡ map padded (take (length (shown acts)) (allSolutions p))
   pub one-stands : length (shown acts) ≡ strikes acts + cond (stands acts) 1 0
-  -- the count is the number of blocks given so far where no run is among the calls
+  -- the count is the number of blocks given so far where no run and no listing is among the calls
   pub carried : NoRun acts → stateAfter s acts .conflicts ≡ length (blocksOf acts)
   -- dead ends plus solutions shown, those struck out among them, are at most the number of points
   pub bounded : stateAfter s acts .conflicts + length (shown acts) ≤ points (p .domain)
@@ -155,17 +186,38 @@ pub record Lists (p : Problem) (s : Search) (acts : List Action) : Type 0 where
   -- a list that is kept up ends
   pub ends : KeptUp acts → length acts < 2 * points (p .domain)
 
--- of a step, a trace or a run c after the calls acts
-pub record TurnAfter (p : Problem) (acts : List Action) (c : Call) : Type 0 where
-  pub taken : ¬ (told c .verdict ≡ verdict.Invalid)
+-- the action says q's verdict, values and count again, and strikes nothing out
+abbrev pub SaysAgain : Ran → Action → Type 0
+SaysAgain q (called c) = SameAnswer (told c) q × (told c .count ≡ q .count)
+SaysAgain q (excluded e) = ⊥
+SaysAgain q (listed old new r) = SameAnswer (lastRun r) q × (r .count ≡ q .count) × (r .struck ≡ 0)
+
+-- of the answer q with which the action a ends, after the calls acts: that of a step, a trace or a run, or that of a listing's last run
+pub record TurnAfter (p : Problem) (acts : List Action) (a : Action) (q : Ran) : Type 0 where
+  pub taken : ¬ (q .verdict ≡ verdict.Invalid)
   -- however often a solution is shown: after k strikes it is the one at position k, counted from 0
-  pub position : told c .verdict ≡ verdict.Solution → (x : Point) × (told c .values ≡ padded x) × (getElem? (allSolutions p) (strikes acts) ≡ some x)
-  pub counted : told c .count ≡ told c .state .conflicts
+  pub position : q .verdict ≡ verdict.Solution → (x : Point) × (q .values ≡ padded x) × (getElem? (allSolutions p) (strikes (a ∷ acts)) ≡ some x)
+  pub counted : q .count ≡ q .state .conflicts
   -- 'none', 'spent' and a solution are said again until a strike
-  pub again : ¬ (told c .verdict ≡ verdict.GoOn) → (d : Call) → Turns d → Makes (told c .state) d → SameAnswer (told d) (told c) × (told d .count ≡ told c .count)
+  pub again : ¬ (q .verdict ≡ verdict.GoOn) → (d : Action) → Due false d → Does (q .state) d → SaysAgain q d
   -- with 'none' every solution has been shown; with a budget of at least the points it never says 'spent'
-  pub complete : told c .verdict ≡ verdict.NoSolution → shown (called c ∷ acts) ≡ map padded (allSolutions p)
-  pub enough : points (p .domain) ≤ p .budget → ¬ (told c .verdict ≡ verdict.OutOfBudget)
+  pub complete : q .verdict ≡ verdict.NoSolution → shown (a ∷ acts) ≡ map padded (allSolutions p)
+  pub enough : points (p .domain) ≤ p .budget → ¬ (q .verdict ≡ verdict.OutOfBudget)
+
+-- of a listing
+pub record ListAfter (p : Problem) (acts : List Action) (old new : List ℤ) (r : Listed) : Type 0 where
+  -- its last run, which ends with a verdict
+  pub last : TurnAfter p acts (listed old new r) (lastRun r)
+  pub ended : ¬ (r .verdict ≡ verdict.GoOn)
+  -- where a solution stands, none is struck out; else a solution ends it only where there is no room left, or where every solution has been shown
+  pub marked : stands acts ≡ true → r .struck ≡ 0
+  pub full : stands acts ≡ false → r .verdict ≡ verdict.Solution → (r .struck ≡ length old / variables p) ⊎ (shown (listed old new r ∷ acts) ≡ map padded (allSolutions p))
+  -- row j of the buffer is the solution at position k + j, where k were struck out before; the buffer's other numbers stay
+  pub rows : (j : ℕ) → j < r .struck → getElem? (allSolutions p) (strikes acts + j) ≡ some (take (variables p) (drop (variables p * j) new))
+  pub rest : drop (variables p * r .struck) new ≡ drop (variables p * r .struck) old
+  pub inside : variables p * r .struck ≤ length old
+  pub long : length new ≡ length old
+  pub wide : r .state .n ≡ variables p
 
 -- of a strike
 pub record StrikeAfter (p : Problem) (acts : List Action) (e : Excluded) : Type 0 where
@@ -176,8 +228,9 @@ pub record StrikeAfter (p : Problem) (acts : List Action) (e : Excluded) : Type 
 -- of all lists of calls from one opening
 pub record ListingOf (p : Problem) (s : Search) : Type 0 where
   pub lists : (acts : List Action) → DoneFrom s acts → Lists p s acts
-  pub turn : (acts : List Action) (c : Call) → DoneFrom s (called c ∷ acts) → TurnAfter p acts c
+  pub turn : (acts : List Action) (c : Call) → DoneFrom s (called c ∷ acts) → TurnAfter p acts (called c) (told c)
   pub strike : (acts : List Action) (e : Excluded) → DoneFrom s (excluded e ∷ acts) → StrikeAfter p acts e
+  pub list : (acts : List Action) (old new : List ℤ) (r : Listed) → DoneFrom s (listed old new r ∷ acts) → ListAfter p acts old new r
 
 pub record ListingsHold : Type 0 where
   pub opening : (f : List ℕ) → Accepted f → (o : Opened) → Opens f o → ListingOf (problemIn f) (o .state)

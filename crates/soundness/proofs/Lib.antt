@@ -14,3 +14,4 @@ pub mod Taking
 pub mod Standing
 pub mod Demand
 pub mod Listings
+pub mod InPlace

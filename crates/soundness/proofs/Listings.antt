@@ -265,7 +265,7 @@ module _ (p : Problem) (few : variables p ≤ maxVariables) (m : Search) (start 
       }
 
 -- ---- from a fresh opening
-fresh : (p : Problem) (z : Small.Sizes p) (f : ProblemFits p) → Stands p (z .few-variables) (openProblem p) false 0 [] [] (Unit {0}) (Unit {0}) 0
+pub fresh : (p : Problem) (z : Small.Sizes p) (f : ProblemFits p) → Stands p (z .few-variables) (openProblem p) false 0 [] [] (Unit {0}) (Unit {0}) 0
 unfolding isSolved openProblem
 fresh p z f =
     record {

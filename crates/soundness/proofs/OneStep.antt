@@ -46,6 +46,7 @@ pub record Over (p : Problem) (Left : Point → Type 0) (struck : ℕ) (s : Sear
   pub none-left : (x : Point) → Left x → ⊥
   pub total : s .conflicts + struck ≤ size (p .domain)
   pub status : s .status ≡ infeasible
+  pub variables : s .core .variables ≡ variables p
 
 -- what each verdict says
 abbrev pub Says : (p : Problem) (Left : Point → Type 0) (struck : ℕ) → Search → Outcome → Verdict → Type 0
@@ -80,7 +81,7 @@ module _ (p : Problem) (Left : Point → Type 0) (struck : ℕ) where
   after-says : (d : ℕ) (s : Search) (o : Outcome) (room : ℕ) → After p Left room d (o .state .core) → o .state .conflicts ≡ suc (s .conflicts) → o .state .budget ≡ s .budget → o .state .status ≡ statusAt d →
       s .conflicts + struck + room ≤ size (p .domain) → s .budget ≡ p .budget → s .conflicts < s .budget → Says p Left struck s o (verdictAt d)
   unfolding verdictAt statusAt
-  after-says zero s o room a c b m t e h = record { none-left = a .0; total = omega (arith, a .1); status = m }
+  after-says zero s o room a c b m t e h = record { none-left = a .0; total = omega (arith, a .1); status = m; variables = a .2 }
   after-says (suc d) s o room a c b m t e h =
       (record { room = a .left; sound = a .sound; total = omega (arith, a .less); budget = b ∙ e; afford = omega arith; status = m }, c)
 

@@ -216,7 +216,7 @@ backed p Left room n (a ∷ o ∷ ls) h l f v i e =
 
 -- what a conflict with backjump level d leaves
 abbrev pub After : Problem → (Point → Type 0) → ℕ → ℕ → Core → Type 0
-After p Left room zero c = ((x : Point) → Left x → ⊥) × (1 ≤ room)
+After p Left room zero c = ((x : Point) → Left x → ⊥) × (1 ≤ room) × (c .variables ≡ variables p)
 After p Left room (suc d) c = Backed p Left room c
 
 -- numbering the cut leaves the levels as they are
@@ -235,6 +235,7 @@ after-back p Left room zero c n k s i b same e f =
     let l = leaves p Left room c (depth c - 0) k (b .level) (b .rest) s i (b .dropped) (b .false) in (
       λ x z. remains-none x (c .deepest) (c .outer) (unfold depth levels in subst (λ (j : ℕ). RemainsAfter x (drop j (c .deepest ∷ c .outer))) (sub-zero (length (c .outer))) (l .cover x z)),
       omega (arith, l .less),
+      same .variables ∙ s .variables,
     )
 after-back p Left room (suc d) c n k s i b same e f =
     let drops = dropped-same (suc d) c n same in

@@ -2,7 +2,7 @@
 use Prim.Native.Nat.{ℕ, zero, suc, _+_, _-_, _≤_, _<_}
 use native.Mathlib.Omega.{arith}
 use mathlib.Core.Bool.{Bool, true, false, cond}
-use mathlib.Core.List.{List, [], _∷_, _++_, append-nil, append-assoc}
+use mathlib.Core.List.{List, [], _++_, append-nil, append-assoc}
 use mathlib.Core.Option.{Option, none, some}
 use mathlib.Core.Path.{_≡_, refl, sym, ap, _∙_}
 use lib.Dec.{eqb}
@@ -18,6 +18,8 @@ use Rattle.model.specs.Step.{Verdict, goOn, noSolution, outOfBudget, solution, 
 use Rattle.format.proofs.RecordCut.{length-record}
 use Rattle.model.specs.Trace.{Trace, withBlocks, lastStep, advanced, advance}
 use Rattle.model.specs.Demand.{after, stateAfter, blocksIn, journal, stepsTogether}
+use Rattle.validity.proofs.Every.{Every}
+use Rattle.validity.proofs.Elements.{every-append}
 use Rattle.validity.proofs.States.{sizes-fit}
 use Rattle.validity.specs.Valid.{Valid}
 use Rattle.validity.proofs.Steps.{step-valid, run-ends, impossible}
@@ -36,9 +38,11 @@ journal-add zero t s = let z : zero + t ≡ t = omega arith in rw z
 journal-add (suc k) t s = let z : suc k + t ≡ suc (k + t) = omega arith in rw (z, append-assoc) (ap (λ (bs : List (List ℕ)). blocksIn (stepCall s) ++ bs) (journal-add k t (after s (stepCall s))))
 
 -- ---- each block has its length
+abbrev IsBlock : List ℕ → Type 0
+IsBlock b = length b ≡ blockLength
+
 abbrev pub Long : List (List ℕ) → Type 0
-Long [] = Unit {0}
-Long (b ∷ bs) = (length b ≡ blockLength) × Long bs
+Long bs = Every IsBlock bs
 
 ended-long : (s : Search) (c : Core) (e : Option ℕ) → Long (blockIn (endedAt s c e .block))
 unfolding endedAt blockIn solvedBy onConflict
@@ -60,14 +64,10 @@ unfolding checked blocksIn step
 call-long true s = step-long (s .status) s
 call-long false s = tt
 
-long-append : (a b : List (List ℕ)) → Long a → Long b → Long (a ++ b)
-long-append [] b h g = g
-long-append (x ∷ a) b h g = (h .0, long-append a b (h .1) g)
-
 pub journal-long : (k : ℕ) (s : Search) → Long (journal k s)
 unfolding journal stepCall
 journal-long zero s = tt
-journal-long (suc k) s = long-append (blocksIn (stepCall s)) (journal k (after s (stepCall s))) (call-long (valid s) s) (journal-long k (after s (stepCall s)))
+journal-long (suc k) s = every-append IsBlock (blocksIn (stepCall s)) (journal k (after s (stepCall s))) (call-long (valid s) s) (journal-long k (after s (stepCall s)))
 
 -- ---- after the verdict
 journal-none : (k : ℕ) (s : Search) → Valid s → step s .state ≡ s → step s .block ≡ none → journal k s ≡ []
@@ -145,7 +145,7 @@ module _ (p : Problem) (Left : Point → Type 0) (struck : ℕ) where
 -- ---- the blocks of turns that one call takes
 advanced-long : (v : Verdict) (o : Outcome) (go : Search → Trace) → Long (blockIn (o .block)) → Long (go (o .state) .blocks) → Long (advanced v o go .blocks)
 unfolding advanced withBlocks lastStep
-advanced-long goOn o go h g = long-append (blockIn (o .block)) (go (o .state) .blocks) h g
+advanced-long goOn o go h g = every-append IsBlock (blockIn (o .block)) (go (o .state) .blocks) h g
 advanced-long noSolution o go h g = h
 advanced-long outOfBudget o go h g = h
 advanced-long (solution x) o go h g = h

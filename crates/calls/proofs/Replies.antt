@@ -1,0 +1,232 @@
+-- N4, of one call: what it says is the model's reply, and what a list shows of it.
+use Prim.Native.Nat.{ℕ, zero, suc, _+_, _/_}
+use native.Mathlib.Omega.{arith}
+use mathlib.Core.Bool.{Bool, true, false}
+use mathlib.Core.List.{List, [], _++_, map, map-append}
+use mathlib.Core.Logic.{inl, inr}
+use mathlib.Core.Path.{_≡_, refl, sym, ap, subst, _∙_}
+use lib.IntN.{ℤ}
+use lib.ListN.{length}
+use Rattle.model.specs.Bytes.{blockLength}
+use Rattle.model.specs.Problem.{Result, ok, error}
+use Rattle.model.specs.Search as model
+use Rattle.model.specs.Validity.{valid}
+use Rattle.model.specs.Points.{Point}
+use Rattle.model.specs.Step.{goOn, noSolution, outOfBudget, solution, blockIn, step, withoutBlock, run, checked, stepCall, runCall}
+use Rattle.model.specs.Trace.{lastStep, advance, written, tracedBy, traceCall}
+use Rattle.model.specs.Exclude.{Exclusion as ModelExclusion, struck, ended, unsolved, exclude, excludeCall}
+use Rattle.model.specs.Enumeration as list
+use Rattle.model.specs.Enumeration.{oneTurn, allTurns, strike, turns, Reply, verdict, exclusion, refused, Answer, traced, excluded, taken, shownIn, struckIn}
+use Rattle.validity.proofs.Steps.{impossible}
+use Rattle.soundness.proofs.Together.{advance-long}
+use Rattle.state.specs.View.{view}
+use Rattle.state.specs.declared.Search.{Search}
+use Rattle.search.specs.Seen.{valuesOf}
+use Rattle.search.specs.Excluding.{SeenExclusion, exclusionOf, seenExcluded, shownExclusion, excludeSeen}
+use Rattle.search.specs.declared.Excluded.{Excluded}
+use Rattle.search.specs.declared.Exclusion.{Exclusion}
+use Rattle.search.specs.declared.Exclusion.the-variants as out
+use Rattle.search.specs.declared.Listed.{Listed}
+use Rattle.search.specs.declared.Ran.{Ran}
+use Rattle.calls.specs.Calls.{Call, stepped, traced as tracing, ran, Makes, told, partsAt, given}
+use Rattle.calls.specs.Listing as own
+use Rattle.calls.specs.Listing.{Action, called, listed, lastRun, stateOf, givenBy, padded, solutionIn, rowsOf, shownBy, standsAt, standsBehind, standsPast, standsAfter, strikesIn, strikesBy}
+use Rattle.calls.proofs.Shown.{caseOf, run-tells, trace-tells, step-tells}
+use Rattle.calls.proofs.Lists.{parts-back}
+
+-- ---- the model's call; a listing ends with a run
+unfoldable pub asked : Action → list.Call
+asked (called (stepped r)) = oneTurn
+asked (called (tracing old new r)) = turns (length old / blockLength)
+asked (called (ran q)) = allTurns
+asked (own.excluded e) = strike
+asked (listed old new r) = allTurns
+
+unfoldable pub outOf : ModelExclusion → Exclusion
+outOf struck = out.Struck
+outOf ended = out.Ended
+outOf unsolved = out.Unsolved
+
+outIn : Result ModelExclusion → Exclusion
+outIn (ok x) = outOf x
+outIn (error e) = out.Invalid
+
+out-of : (x : Exclusion) → outIn (exclusionOf x) ≡ x
+unfolding outIn outOf exclusionOf
+out-of out.Struck = refl
+out-of out.Ended = refl
+out-of out.Unsolved = refl
+out-of out.Invalid = refl
+
+pub out-valid : (x : ModelExclusion) → ¬ (outOf x ≡ out.Invalid)
+unfolding outOf
+out-valid struck e = impossible (cc)
+out-valid ended e = impossible (cc)
+out-valid unsolved e = impossible (cc)
+
+pub out-ended : (x : ModelExclusion) → outOf x ≡ out.Ended → x ≡ ended
+unfolding outOf
+out-ended struck e = impossible (cc)
+out-ended ended e = refl
+out-ended unsolved e = impossible (cc)
+
+-- what a call says is the model's reply
+abbrev pub Says : Ran → Reply → Type 0
+Says q (verdict v) = (q .verdict ≡ caseOf v) × (q .values ≡ valuesOf v)
+Says q (exclusion x) = ⊥
+Says q (refused e) = ⊥
+
+abbrev pub Replies : Action → Reply → Type 0
+Replies (called c) r = Says (told c) r
+Replies (own.excluded e) (verdict v) = ⊥
+Replies (own.excluded e) (exclusion x) = e .answer ≡ outOf x
+Replies (own.excluded e) (refused n) = ⊥
+Replies (listed old new l) r = Says (lastRun l) r
+
+abbrev pub Counts : Action → ℕ → Type 0
+Counts (called c) n = told c .count ≡ n
+Counts (own.excluded e) n = Unit {0}
+Counts (listed old new l) n = l .count ≡ n
+
+pub record ActionTells (a : Action) (x : Answer) : Type 0 where
+  pub replies : Replies a (x .reply)
+  pub counts : Counts a (x .count)
+  pub state : view (stateOf a) ≡ x .state
+  pub blocks : givenBy a ≡ x .blocks
+
+-- ---- a call or a strike, on a state that is not refused
+module _ (s : Search) (m : model.Search) (v : view s ≡ m) (t : valid m ≡ true) where
+  ok-checked : {A : Type 0} (x : A) → checked (valid m) x ≡ ok x
+  unfolding checked
+  ok-checked x = rw t
+
+  pub call-tells : (c : Call) → Makes s c → ActionTells (called c) (taken (asked (called c)) m)
+  unfolding asked taken traced told given stateOf givenBy lastStep run withoutBlock blockIn written
+  call-tells (stepped r) e =
+      let x = step-tells s r m (step m) e v (unfold stepCall in ok-checked (step m)) in
+      let y = x .answer in
+      record { replies = (y .verdict, y .values); counts = y .count; state = y .state; blocks = x .blocks }
+  call-tells (ran q) e =
+      let y = run-tells s q m (run m) e v (unfold runCall in ok-checked (run m)) in
+      record { replies = (y .verdict, y .values); counts = y .count; state = y .state; blocks = refl }
+  call-tells (tracing old new r) e =
+      let n = length old / blockLength in
+      let x = advance n m in
+      let made : traceCall m old ≡ written x old = unfold traceCall in ap (λ (b : Bool). tracedBy b m old) t ∙ (unfold tracedBy in refl) in
+      let y = trace-tells s r old new m x e v made in
+      record { replies = (y .verdict, y .values); counts = y .count; state = y .state; blocks = rw (y .blocks, y .buffer) (parts-back blockLength (x .blocks) _ (advance-long n m)) }
+
+  pub strike-tells : (e : Excluded) → seenExcluded e ≡ excludeSeen s → ActionTells (own.excluded e) (taken strike m)
+  unfolding taken excluded stateOf givenBy outIn seenExcluded shownExclusion
+  strike-tells e h =
+      let f : seenExcluded e ≡ shownExclusion s (ok (exclude m)) = h ∙ (unfold excludeSeen excludeCall in rw (v, ok-checked (exclude m))) in
+      record {
+        replies = sym (out-of (e .answer)) ∙ ap (λ (z : SeenExclusion). outIn (z .answer)) f;
+        counts = tt;
+        state = ap (λ (z : SeenExclusion). z .state) f;
+        blocks = refl;
+      }
+
+-- ---- from a reply to what the list shows
+-- of the answer to a step, a trace or a run
+said-shown : (q : Ran) (r : Reply) → Says q r → solutionIn (q .verdict) (q .values) ≡ map padded (shownIn r)
+unfolding solutionIn shownIn caseOf valuesOf padded
+said-shown q (verdict goOn) h = rw (h .0) refl
+said-shown q (verdict noSolution) h = rw (h .0) refl
+said-shown q (verdict outOfBudget) h = rw (h .0) refl
+said-shown q (verdict (solution x)) h = rw (h .0, h .1) refl
+said-shown q (exclusion x) h = absurd h
+said-shown q (refused n) h = absurd h
+
+said-stands : (q : Ran) (r : Reply) (b : Bool) → Says q r → standsAt (q .verdict) b ≡ list.standsAfter r b
+unfolding standsAt list.standsAfter caseOf
+said-stands q (verdict goOn) b h = rw (h .0) refl
+said-stands q (verdict noSolution) b h = rw (h .0) refl
+said-stands q (verdict outOfBudget) b h = rw (h .0) refl
+said-stands q (verdict (solution x)) b h = rw (h .0) refl
+said-stands q (exclusion x) b h = absurd h
+said-stands q (refused n) b h = absurd h
+
+said-strikes : (q : Ran) (r : Reply) → Says q r → struckIn r ≡ 0
+unfolding struckIn
+said-strikes q (verdict v) h = refl
+said-strikes q (exclusion x) h = absurd h
+said-strikes q (refused n) h = absurd h
+
+said-ends : (q : Ran) (r : Reply) → Says q r → list.Ends r → own.Closes q
+unfolding caseOf
+said-ends q r h (inl (inl e)) = absurd (subst (Says q) e h)
+said-ends q r h (inl (inr e)) = inl (subst (Says q) e h .0)
+said-ends q r h (inr e) = inr (subst (Says q) e h .0)
+
+-- the solutions that an action strikes out before its last call
+unfoldable pub rowsBy : Action → List Point
+rowsBy (called c) = []
+rowsBy (own.excluded e) = []
+rowsBy (listed old new l) = rowsOf new l
+
+pub shown-of : (a : Action) (r : Reply) → Replies a r → shownBy a ≡ map padded (rowsBy a ++ shownIn r)
+unfolding shownBy rowsBy shownIn lastRun
+shown-of (called c) r q = said-shown (told c) r q
+shown-of (own.excluded e) (verdict v) q = absurd q
+shown-of (own.excluded e) (exclusion x) q = refl
+shown-of (own.excluded e) (refused n) q = absurd q
+shown-of (listed old new l) r q = ap (λ (us : List (List ℤ)). map padded (rowsOf new l) ++ us) (said-shown (lastRun l) r q) ∙ sym (map-append padded (rowsOf new l) (shownIn r))
+
+parts-many : {A : Type 0} (size k : ℕ) (xs : List A) → length (partsAt size k xs) ≡ k
+unfolding partsAt
+parts-many size zero xs = refl
+parts-many size (suc k) xs = ap suc (parts-many size k _)
+
+rows-many : (new : List ℤ) (l : Listed) → length (rowsOf new l) ≡ l .struck
+unfolding rowsOf
+rows-many new l = parts-many (l .state .n) (l .struck) new
+
+past : (k : ℕ) (b : Bool) → (b ≡ true → k ≡ 0) → standsPast k b ≡ b
+unfolding standsPast
+past zero b h = refl
+past (suc k) true h = absurd (omega (arith, h refl))
+past (suc k) false h = refl
+
+pub stands-of : (a : Action) (r : Reply) (b : Bool) → (b ≡ true → rowsBy a ≡ []) → Replies a r → standsAfter a b ≡ list.standsAfter r b
+unfolding standsAfter standsBehind list.standsAfter outOf rowsBy lastRun
+stands-of (called c) r b h q = said-stands (told c) r b q
+stands-of (own.excluded e) (verdict v) b h q = absurd q
+stands-of (own.excluded e) (exclusion struck) b h q = rw q refl
+stands-of (own.excluded e) (exclusion ended) b h q = rw q refl
+stands-of (own.excluded e) (exclusion unsolved) b h q = rw q refl
+stands-of (own.excluded e) (refused n) b h q = absurd q
+stands-of (listed old new l) r b h q = ap (standsAt (l .verdict)) (past (l .struck) b (λ e. sym (rows-many new l) ∙ ap length (h e))) ∙ said-stands (lastRun l) r b q
+
+pub strikes-of : (a : Action) (r : Reply) → Replies a r → strikesBy a ≡ struckIn r + length (rowsBy a)
+unfolding strikesBy strikesIn struckIn outOf rowsBy
+strikes-of (called c) r q = omega (arith, said-strikes (told c) r q)
+strikes-of (own.excluded e) (verdict v) q = absurd q
+strikes-of (own.excluded e) (exclusion struck) q = rw q refl
+strikes-of (own.excluded e) (exclusion ended) q = rw q refl
+strikes-of (own.excluded e) (exclusion unsolved) q = rw q refl
+strikes-of (own.excluded e) (refused n) q = absurd q
+strikes-of (listed old new l) r q = omega (arith, said-strikes (lastRun l) r q, rows-many new l)
+
+pub ends-of : (a : Action) (r : Reply) → Replies a r → list.Ends r → own.Ends a
+unfolding outOf
+ends-of (called c) r q h = said-ends (told c) r q h
+ends-of (own.excluded e) r q (inl (inl h)) = subst (Replies (own.excluded e)) h q
+ends-of (own.excluded e) r q (inl (inr h)) = absurd (subst (Replies (own.excluded e)) h q)
+ends-of (own.excluded e) r q (inr h) = absurd (subst (Replies (own.excluded e)) h q)
+ends-of (listed old new l) r q h = said-ends (lastRun l) r q h
+
+turns-of : (c : Call) → own.Turns c → list.Turns (asked (called c))
+unfolding asked
+turns-of (stepped r) h = tt
+turns-of (tracing old new r) h = h
+turns-of (ran q) h = tt
+
+pub due-of : (b : Bool) (a : Action) → own.Due b a → list.Due b (asked a)
+unfolding asked
+due-of true (called c) d = absurd d
+due-of true (own.excluded e) d = tt
+due-of true (listed old new l) d = absurd d
+due-of false (called c) d = turns-of c d
+due-of false (own.excluded e) d = absurd d
+due-of false (listed old new l) d = tt
