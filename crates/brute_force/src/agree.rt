@@ -5,6 +5,8 @@ use crate::opened;
 use block::number::i32_at;
 use block::number::u32_at;
 use problem::Problem;
+use trials::listing::agrees;
+use trials::number::plus;
 use trials::points::Enumerated;
 use trials::points::enumerate;
 use trials::ways::MARK;
@@ -107,7 +109,7 @@ pub fn budget_of(points: usize, k: usize) -> usize {
     }
 }
 
-// One problem with one budget: three ways, each to the outcome. The first part of a trace has room for `first` bytes.
+// One problem with one budget: three ways, each to the outcome, and a listing in one call. The first part of a trace has room for `first` bytes.
 fn try_budget(p: Problem, budget: usize, want: Outcome, first: usize) -> usize
     requires { ⌜ first ≤ 2048 ⌝ }
 {
@@ -127,6 +129,9 @@ fn try_budget(p: Problem, budget: usize, want: Outcome, first: usize) -> usize
     }
     if !same(trace(s, &journal, first), want) {
         return TRACE;
+    }
+    if !agrees(s, plus(first, budget)) {
+        return LISTING;
     }
     NOTHING
 }

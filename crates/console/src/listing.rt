@@ -3,8 +3,18 @@ use crate::TEXT_LENGTH;
 use crate::text;
 use crate::told;
 use search::Exclusion;
+use search::Listed;
 use search::Verdict;
 use state::Search;
+ghost use mathlib.Core.Path.{_≡_};
+ghost use Prim.Native.Nat.{_≤_};
+ghost use lib.ListN.{length};
+
+// How many numbers the solutions of a call of `list` may have: enough that the call's own cost does not show, few enough to touch little memory.
+const NUMBERS: usize = 2048;
+
+// The same where somebody looks: few, so that it is told often how far the listing is.
+const WATCHED: usize = 64;
 
 // More solutions than a computer strikes out: 2^62, at one each nanosecond 146 years. A listing that got there would end with its counts, and without one of
 // the words `ended`, `none` and `spent`.
@@ -24,26 +34,49 @@ fn is_struck(answer: Exclusion) -> bool {
     }
 }
 
-// Prints the solutions of an opened search: runs it to a solution, strikes that out and goes on, until there is no further one, no decision led to the last,
-// or the budget is used up. About once a second it tells, where somebody looks, how far it is.
+// How many solutions a call struck out. `list` strikes out no more than the buffer holds.
+fn struck_in(struck: usize) -> usize
+    ensures { λ r. ⌜ r ≤ 2048 ⌝ }
+{
+    if NUMBERS < struck {
+        return NUMBERS;
+    }
+    struck
+}
+
+// Lists into the rows.
+fn list_into(s: Search, rows: &mut [i64], watched: bool) -> Listed
+    requires { ⌜ length (now rows) ≡ 2048 ⌝ }
+{
+    if watched {
+        return search::list(s, &mut rows[0..WATCHED]);
+    }
+    search::list(s, rows)
+}
+
+// Prints the solutions of an opened search: lists those that the buffer holds, strikes out the one after them and goes on, until there is no further one, no
+// decision led to the last, or the budget is used up. Between the calls it tells, about once a second and where somebody looks, how far it is.
 fn print_listing(opened: Search) {
     let n = opened.n;
     let budget = opened.budget;
+    let mut rows = [0i64; NUMBERS];
     let mut out = [0u8; TEXT_LENGTH];
     let mut at = report::plan_line(&mut out, 0, n, opened.m, budget);
     let mut failed = false;
     let watched = told::is_watched();
     let mut last = told::seconds();
-    let mut ran = search::run(opened);
+    let mut listed = list_into(opened, &mut rows, watched);
     let mut struck: usize = 0;
     while struck < MAX_STRUCK {
-        let verdict = ran.verdict;
-        let values = ran.values;
-        at = text::put_verdict(&mut out, at, verdict, &values, n, &mut failed);
+        let count = struck_in(listed.struck);
+        let verdict = listed.verdict;
+        let values = listed.values;
+        at = text::put_listed(&mut out, at, &rows, count, verdict, &values, n, &mut failed);
+        struck += count;
         if !is_solution(verdict) {
             break;
         }
-        let excluded = search::exclude(ran.state);
+        let excluded = search::exclude(listed.state);
         let answer = excluded.answer;
         if !is_struck(answer) {
             at = text::put_ended(&mut out, at, &mut failed);
@@ -54,12 +87,10 @@ fn print_listing(opened: Search) {
             return;
         }
         struck += 1;
-        if watched {
-            last = told::listing_progress(last, struck, ran.count, budget);
-        }
-        ran = search::run(excluded.state);
+        last = told::listing_progress(watched, last, struck, listed.count, budget);
+        listed = list_into(excluded.state, &mut rows, watched);
     }
-    text::finish_listing(&mut out, at, ran.count, struck, &mut failed);
+    text::finish_listing(&mut out, at, listed.count, struck, &mut failed);
     told::tell_output(failed);
 }
 

@@ -59,6 +59,33 @@ pub(crate) fn put_ends(out: &mut [u8], at: usize, blocks: &[u8], failed: &mut bo
     next
 }
 
+// Puts the lines of the first `count` solutions in a list of numbers, n for each; those that the list holds.
+fn put_solutions(
+    out: &mut [u8],
+    at: usize,
+    solutions: &[i64],
+    count: usize,
+    n: usize,
+    failed: &mut bool,
+) -> usize
+    requires { ⌜ (at ≤ length (now out)) × (longestLine ≤ length (now out)) ⌝ }
+    ensures { λ r. ⌜ r ≤ length (now (out .entry)) ⌝ }
+{
+    let mut next = at;
+    let mut start: usize = 0;
+    let mut k: usize = 0;
+    while k < count {
+        if solutions.len() - start < n {
+            return next;
+        }
+        let place = next_place(out, next, failed);
+        next = report::solution_line(out, place, &solutions[start..], n);
+        start += n;
+        k += 1;
+    }
+    next
+}
+
 // Puts a verdict's line. 'Go on' is no verdict, and an opened search is never invalid: they have none.
 pub(crate) fn put_verdict(
     out: &mut [u8],
@@ -79,6 +106,24 @@ pub(crate) fn put_verdict(
         Verdict::GoOn => place,
         Verdict::Invalid => place,
     }
+}
+
+// Puts the lines of a listing: of the solutions that were struck out, and of the verdict after them.
+pub(crate) fn put_listed(
+    out: &mut [u8],
+    at: usize,
+    solutions: &[i64],
+    struck: usize,
+    verdict: Verdict,
+    values: &[i64; 32],
+    n: usize,
+    failed: &mut bool,
+) -> usize
+    requires { ⌜ (at ≤ length (now out)) × (longestLine ≤ length (now out)) ⌝ }
+    ensures { λ r. ⌜ r ≤ length (now (out .entry)) ⌝ }
+{
+    let after_struck = put_solutions(out, at, solutions, struck, n, failed);
+    put_verdict(out, after_struck, verdict, values, n, failed)
 }
 
 // Puts the line of the count of conflicts.

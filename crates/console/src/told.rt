@@ -39,8 +39,17 @@ pub(crate) fn progress(last: i64, count: usize, budget: usize) -> i64 {
     now
 }
 
-// The same of a listing, after how many solutions are struck out.
-pub(crate) fn listing_progress(last: i64, struck: usize, count: usize, budget: usize) -> i64 {
+// The same of a listing, where somebody looks, after how many solutions are struck out.
+pub(crate) fn listing_progress(
+    watched: bool,
+    last: i64,
+    struck: usize,
+    count: usize,
+    budget: usize,
+) -> i64 {
+    if !watched {
+        return last;
+    }
     let now = seconds();
     if now != last {
         io::print_decimal(STDERR_FILENO, struck as u64);

@@ -25,6 +25,7 @@ use trials::compare::mark_of;
 use trials::compare::numbers_same;
 use trials::compare::sizes_of;
 use trials::compare::states_same;
+use trials::listing::agrees;
 use trials::number::added;
 use trials::number::plus;
 use trials::points::enumerate;
@@ -120,9 +121,12 @@ fn is_trace_refused(s: Search) -> bool {
     is_refusal(outcome_of(verdict, t.count, t.blocks, values), after, s)
 }
 
-// Whether all four calls refuse a state.
+// Whether all five calls refuse a state.
 fn is_refused(s: Search) -> bool {
     if !keeps(s, REFUSED) {
+        return false;
+    }
+    if !agrees(s, 13) {
         return false;
     }
     if !is_step_refused(s) {

@@ -11,6 +11,7 @@ use state::Search;
 use state::Status;
 use trials::compare::mark_of;
 use trials::compare::states_same;
+use trials::listing::agrees;
 use trials::number::added;
 use trials::strikes::ENDED;
 use trials::strikes::STRUCK;
@@ -114,12 +115,16 @@ fn made(s: Search, kind: usize) -> Search {
     }
 }
 
-// Whether striking out does what it must to a state, and where nothing is read does not matter.
-fn answers(s: Search) -> bool {
+// Whether striking out does what it must to a state, and where nothing is read does not matter; and a listing in one call, lent numbers as k says.
+fn answers(s: Search, k: usize) -> bool {
     if !is_answered(s, s) {
         return false;
     }
-    is_answered(littered(s), s)
+    let other = littered(s);
+    if !is_answered(other, s) {
+        return false;
+    }
+    agrees(other, k)
 }
 
 // Whether striking out does what it must to what a kind makes of a state, and of those that come of it when its open variables are decided one by one.
@@ -127,11 +132,11 @@ pub fn is_right(s: Search, kind: usize) -> bool {
     let mut t = s;
     let mut i: usize = 0;
     while i < 6 {
-        if !answers(made(t, kind)) {
+        if !answers(made(t, kind), 4 * i) {
             return false;
         }
         t = decided(t, i);
         i += 1;
     }
-    answers(made(t, kind))
+    answers(made(t, kind), 4 * i)
 }

@@ -7,7 +7,7 @@ ghost use Prim.Native.Nat.{_+_, _≤_};
 ghost use lib.ListN.{length};
 ghost use Rattle.report.specs.Room.{longestNumber, shownBytes, longestHalf, longestValue, longestValues, longestLine, Ends};
 
-// How many values `solution_line` is lent.
+// How many values a solution can have.
 const MAX_VARIABLES: usize = 32;
 
 // Puts a number with a word before it.
@@ -80,8 +80,8 @@ fn put_value(out: &mut [u8], at: usize, value: i64) -> usize
     text::put_signed(out, next, value)
 }
 
-// Puts the first n values.
-fn put_values(out: &mut [u8], at: usize, values: &[i64; MAX_VARIABLES], n: usize) -> usize
+// Puts the first n values, of those that are there.
+fn put_values(out: &mut [u8], at: usize, values: &[i64], n: usize) -> usize
     requires { ⌜ at + longestValues ≤ length (now out) ⌝ }
     ensures { λ r. ⌜ Ends longestValues at r ⌝ }
 {
@@ -91,6 +91,9 @@ fn put_values(out: &mut [u8], at: usize, values: &[i64; MAX_VARIABLES], n: usize
         if i == n {
             return next;
         }
+        if i == values.len() {
+            return next;
+        }
         next = put_value(out, next, values[i]);
         i += 1;
     }
@@ -98,7 +101,7 @@ fn put_values(out: &mut [u8], at: usize, values: &[i64; MAX_VARIABLES], n: usize
 }
 
 // `solution 1 0`: the values of n variables.
-pub fn solution_line(out: &mut [u8], at: usize, values: &[i64; MAX_VARIABLES], n: usize) -> usize
+pub fn solution_line(out: &mut [u8], at: usize, values: &[i64], n: usize) -> usize
     requires { ⌜ at + longestLine ≤ length (now out) ⌝ }
     ensures { λ r. ⌜ Ends longestLine at r ⌝ }
 {

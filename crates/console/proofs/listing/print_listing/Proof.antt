@@ -1,5 +1,6 @@
 -- `console::listing::print_listing` meets its contract. Assumes nothing.
 use borrow.Author.Needs.{needs}
+use native.Mathlib.Omega.{arith}
 use Prim.Native.Nat.{_≤_, _-_}
 use lib.ListN.{length}
 use mathlib.Core.Path.{_≡_}
@@ -8,11 +9,11 @@ use Rattle.console.proofs.listing.print_listing.Statement.{statement}
 use Rattle.console.proofs.listing.print_listing.Tie as tie
 
 abbrev Inv-loop : tie.InvT-loop
-Inv-loop n budget out₀ at₀ failed₀ watched last₀ ran₀ struck₀ out at failed last ran struck =
-    (struck ≤ 4611686018427387904) × (length out ≡ 16384) × (at ≤ 16384)
+Inv-loop n budget rows₀ out₀ at₀ failed₀ watched last₀ listed₀ struck₀ rows out at failed last listed struck =
+    (length rows ≡ 2048) × (length out ≡ 16384) × (at ≤ 16384)
 
 abbrev μ-loop : tie.MeasureT-loop
-μ-loop n budget out₀ at₀ failed₀ watched last₀ ran₀ struck₀ out at failed last ran struck =
+μ-loop n budget rows₀ out₀ at₀ failed₀ watched last₀ listed₀ struck₀ rows out at failed last listed struck =
     4611686018427387904 - struck
 
 slice-aggregate-plan-line : tie.Need-slice-aggregate-plan-line Inv-loop μ-loop
@@ -27,17 +28,29 @@ is-watched-requires c κs = search needs
 seconds-requires : tie.Need-seconds-requires Inv-loop μ-loop
 seconds-requires c κs = search needs
 
-run-requires : tie.Need-run-requires Inv-loop μ-loop
-run-requires c κs = search needs
+slice-aggregate-list-into : tie.Need-slice-aggregate-list-into Inv-loop μ-loop
+slice-aggregate-list-into c = search needs
+
+list-into-requires : tie.Need-list-into-requires Inv-loop μ-loop
+list-into-requires c κs = search needs
 
 loop-holds : tie.Need-loop-holds Inv-loop μ-loop
 loop-holds c = search needs
 
-slice-aggregate-put-verdict : tie.Need-slice-aggregate-put-verdict Inv-loop μ-loop
-slice-aggregate-put-verdict c = search needs
+struck-in-requires : tie.Need-struck-in-requires Inv-loop μ-loop
+struck-in-requires c κs = search needs
 
-put-verdict-requires : tie.Need-put-verdict-requires Inv-loop μ-loop
-put-verdict-requires c κs = search needs
+slice-aggregate-put-listed : tie.Need-slice-aggregate-put-listed Inv-loop μ-loop
+slice-aggregate-put-listed c = search needs
+
+slice-aggregate-put-listed-2 : tie.Need-slice-aggregate-put-listed-2 Inv-loop μ-loop
+slice-aggregate-put-listed-2 c = search needs
+
+put-listed-requires : tie.Need-put-listed-requires Inv-loop μ-loop
+put-listed-requires c κs = search needs
+
+add-struck : tie.Need-add-struck Inv-loop μ-loop
+add-struck c = search needs
 
 is-solution-requires : tie.Need-is-solution-requires Inv-loop μ-loop
 is-solution-requires c κs = search needs
@@ -60,17 +73,21 @@ tell-output-requires c κs = search needs
 returns : tie.Need-returns Inv-loop μ-loop
 returns c = search needs
 
-add-struck : tie.Need-add-struck Inv-loop μ-loop
-add-struck c = search needs
+add-struck-2 : tie.Need-add-struck-2 Inv-loop μ-loop
+add-struck-2 c = search needs
 
 listing-progress-requires : tie.Need-listing-progress-requires Inv-loop μ-loop
 listing-progress-requires c κs = search needs
 
-run-requires-2 : tie.Need-run-requires-2 Inv-loop μ-loop
-run-requires-2 c κs = search needs
+slice-aggregate-list-into-2 : tie.Need-slice-aggregate-list-into-2 Inv-loop μ-loop
+slice-aggregate-list-into-2 c = search needs
+
+list-into-requires-2 : tie.Need-list-into-requires-2 Inv-loop μ-loop
+list-into-requires-2 c κs = search needs
 
 loop-less : tie.Need-loop-less Inv-loop μ-loop
-loop-less c = search needs
+-- the test at the start of the round, which lies too far back to be found
+loop-less c = omega (arith, c .before .before .before .before .before .before .before .before .before .before .before .before .before .before .before .before .before .before .loop-test .taken)
 
 loop-again : tie.Need-loop-again Inv-loop μ-loop
 loop-again c = search needs
@@ -99,10 +116,14 @@ print-listing-spec =
     plan-line-requires
     is-watched-requires
     seconds-requires
-    run-requires
+    slice-aggregate-list-into
+    list-into-requires
     loop-holds
-    slice-aggregate-put-verdict
-    put-verdict-requires
+    struck-in-requires
+    slice-aggregate-put-listed
+    slice-aggregate-put-listed-2
+    put-listed-requires
+    add-struck
     is-solution-requires
     exclude-requires
     is-struck-requires
@@ -110,9 +131,10 @@ print-listing-spec =
     put-ended-requires
     tell-output-requires
     returns
-    add-struck
+    add-struck-2
     listing-progress-requires
-    run-requires-2
+    slice-aggregate-list-into-2
+    list-into-requires-2
     loop-less
     loop-again
     slice-aggregate-finish-listing

@@ -16,6 +16,9 @@ loop-holds c = search needs
 made-requires : tie.Need-made-requires Inv-loop μ-loop
 made-requires c κs = search needs
 
+mul-answers : tie.Need-mul-answers Inv-loop μ-loop
+mul-answers c = search needs
+
 answers-requires : tie.Need-answers-requires Inv-loop μ-loop
 answers-requires c κs = search needs
 
@@ -37,6 +40,9 @@ loop-again c = search needs
 made-requires-2 : tie.Need-made-requires-2 Inv-loop μ-loop
 made-requires-2 c κs = search needs
 
+mul-answers-2 : tie.Need-mul-answers-2 Inv-loop μ-loop
+mul-answers-2 c = search needs
+
 answers-requires-2 : tie.Need-answers-requires-2 Inv-loop μ-loop
 answers-requires-2 c κs = search needs
 
@@ -51,6 +57,7 @@ is-right-spec =
     μ-loop
     loop-holds
     made-requires
+    mul-answers
     answers-requires
     returns
     decided-requires
@@ -58,5 +65,6 @@ is-right-spec =
     loop-less
     loop-again
     made-requires-2
+    mul-answers-2
     answers-requires-2
     returns-2)
