@@ -1,16 +1,20 @@
 // The solutions that a search strikes out on its way: which of them, and where their values go.
 use crate::copy_to;
+use layout::MAX_PROPAGATIONS;
 ghost use mathlib.Core.Path.{_≡_};
 ghost use Prim.Native.Nat.{_+_, _*_, _≤_};
 ghost use lib.ListN.{length};
 ghost use Rattle.model.specs.Ranges.{maxVariables};
 ghost use Rattle.backtrack.specs.Struck.{ValuesPut, lastOf};
 
-// Whether a solution at this depth stays: no decision led to it, or there is no room for it.
-pub fn is_last(depth: usize, struck: usize, room: usize) -> bool
-    ensures { λ r. ⌜ r ≡ lastOf depth struck room ⌝ }
+// Whether a solution at this depth stays: no decision led to it, there is no room for it, or a call would refuse the state for its count of bounds set.
+pub fn is_last(depth: usize, struck: usize, room: usize, propagations: usize) -> bool
+    ensures { λ r. ⌜ r ≡ lastOf depth struck room propagations ⌝ }
 {
-    depth == 0 || struck == room
+    if depth == 0 {
+        return true;
+    }
+    struck == room || MAX_PROPAGATIONS < propagations
 }
 
 // The values of the solution that is struck out after `struck` others, n numbers after theirs.

@@ -5,10 +5,13 @@ use crate::opened;
 use block::number::i32_at;
 use block::number::u32_at;
 use problem::Problem;
+use state::Search;
 use trials::listing::agrees;
+use trials::number::is_within;
 use trials::number::plus;
 use trials::points::Enumerated;
 use trials::points::enumerate;
+use trials::points::slack;
 use trials::ways::MARK;
 use trials::ways::NO_SOLUTION;
 use trials::ways::OUT_OF_BUDGET;
@@ -40,26 +43,50 @@ const TRACE: usize = 6;
 
 const LISTING: usize = 7;
 
-// What a problem showed: its solutions, its conflicts, and the solutions that were listed.
+const SET: usize = 8;
+
+// What a problem showed: its solutions, its conflicts, the solutions that were listed, and the bounds set up to the first verdict and by the listing.
 pub struct Report {
     pub wrong: usize,
     pub found: usize,
     pub conflicts: usize,
+    pub set: usize,
     pub listed: usize,
+    pub listed_set: usize,
 }
 
-// The outcome that enumeration asks for, with so many conflicts in all and a budget of them.
-fn expected(e: Enumerated, count: usize, budget: usize) -> Outcome {
+// The bounds set so far after each conflict, by turns.
+fn set_after_each(opened: Search) -> [usize; 17] {
+    let mut set = [0usize; 17];
+    let mut s = opened;
+    let mut k: usize = 0;
+    while k < 16 {
+        let t = search::step(s);
+        if !t.recorded {
+            return set;
+        }
+        k += 1;
+        set[k] = t.propagations;
+        s = t.state;
+    }
+    set
+}
+
+// The outcome that enumeration asks for with a budget. With the largest a run counts as `full` does; a smaller one is spent at its conflicts, with the bounds
+// that were set up to the last of these.
+fn expected(e: Enumerated, full: Outcome, set: &[usize; 17], budget: usize) -> Outcome {
+    let count = full.count;
     if budget < count {
-        return plain(OUT_OF_BUDGET, budget, budget);
+        return plain(OUT_OF_BUDGET, budget, set[budget % 17], budget);
     }
     if e.found == 0 {
-        return plain(NO_SOLUTION, count, count);
+        return plain(NO_SOLUTION, count, full.propagations, count);
     }
     let values = e.first;
     Outcome {
         verdict: SOLUTION,
         count,
+        propagations: full.propagations,
         blocks: count,
         values,
     }
@@ -136,17 +163,30 @@ fn try_budget(p: Problem, budget: usize, want: Outcome, first: usize) -> usize
     NOTHING
 }
 
-// One problem with each of its budgets; `count` is what a run counts with the largest.
-fn try_budgets(p: Problem, e: Enumerated, count: usize, first: usize) -> usize
+// The turns of a run that may set bounds: one for each conflict, and that of the solution.
+fn ends_of(o: Outcome) -> usize {
+    if o.verdict == SOLUTION {
+        return plus(o.count, 1);
+    }
+    o.count
+}
+
+// One problem with each of its budgets; `full` is what a run gives with the largest. The bounds set are at most the conflicts, one more for a solution, times
+// the sum of hi − lo.
+fn try_budgets(p: Problem, e: Enumerated, full: Outcome, first: usize) -> usize
     requires { ⌜ first ≤ 2048 ⌝ }
 {
-    if e.points < count {
+    if e.points < full.count {
         return COUNT;
     }
+    if !is_within(full.propagations, ends_of(full), slack(p)) {
+        return SET;
+    }
+    let set = set_after_each(open(p, e.points));
     let mut k: usize = 0;
     while k < 5 {
         let budget = budget_of(e.points, k);
-        let wrong = try_budget(p, budget, expected(e, count, budget), first);
+        let wrong = try_budget(p, budget, expected(e, full, &set, budget), first);
         if wrong != NOTHING {
             return wrong;
         }
@@ -162,7 +202,7 @@ pub fn check(p: Problem, first: usize) -> Report
     let e = enumerate(p, &[0i64; 33]);
     let full = run(open(p, e.points), 0);
     let all = listing::list(p, e, e.points, true);
-    let mut wrong = try_budgets(p, e, full.count, first);
+    let mut wrong = try_budgets(p, e, full, first);
     if !listing::are_right(p, e, all) {
         wrong = LISTING;
     }
@@ -170,6 +210,8 @@ pub fn check(p: Problem, first: usize) -> Report
         wrong,
         found: e.found,
         conflicts: full.count,
+        set: full.propagations,
         listed: all.shown,
+        listed_set: all.set,
     }
 }

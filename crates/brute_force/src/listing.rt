@@ -7,10 +7,12 @@ use search::Verdict;
 use state::Search;
 use trials::compare::counts_same;
 use trials::compare::numbers_same;
+use trials::number::is_within;
 use trials::number::plus;
 use trials::points::Enumerated;
 use trials::points::goes_on;
 use trials::points::is_solution;
+use trials::points::slack;
 use trials::strikes::ENDED;
 use trials::strikes::STRUCK;
 use trials::strikes::UNSOLVED;
@@ -24,6 +26,7 @@ use trials::ways::ROOM;
 use trials::ways::SOLUTION;
 use trials::ways::open;
 use trials::ways::outcome_of;
+use trials::ways::told;
 ghost use mathlib.Core.Path.{_≡_};
 ghost use lib.ListN.{length};
 
@@ -36,11 +39,12 @@ const SPENT: usize = 2;
 
 const FAILED: usize = 3;
 
-// A listing so far: the solution that enumeration gives next, how many were shown, and the conflicts and blocks on the way.
+// A listing so far: the solution that enumeration gives next, how many were shown, and the conflicts, bounds set and blocks on the way.
 pub struct Listing {
     next: [i64; 32],
     pub shown: usize,
     conflicts: usize,
+    pub set: usize,
     blocks: usize,
     stage: usize,
 }
@@ -70,13 +74,14 @@ fn fresh(e: Enumerated) -> Listing {
         next,
         shown: 0,
         conflicts: 0,
+        set: 0,
         blocks: 0,
         stage: GOES_ON,
     }
 }
 
 // The stage after a verdict; a solution that is the next one goes on to be struck out.
-fn told(verdict: usize, is_next: bool) -> usize {
+fn stage_after(verdict: usize, is_next: bool) -> usize {
     match verdict {
         NO_SOLUTION => COMPLETE,
         OUT_OF_BUDGET => SPENT,
@@ -90,11 +95,13 @@ fn told(verdict: usize, is_next: bool) -> usize {
     }
 }
 
-// The listing after a run. Conflicts and solutions shown must be no more than the points.
+// The listing after a run. Conflicts and solutions shown must be no more than the points, and times the sum of hi − lo no fewer than the bounds set: each
+// solution but the one that stands was struck out, so that is N5's bound.
 fn ran(l: Listing, o: Outcome, p: Problem, e: Enumerated) -> Listing {
     let mut t = l;
-    t.stage = told(o.verdict, numbers_same(&o.values, &l.next, 32));
+    t.stage = stage_after(o.verdict, numbers_same(&o.values, &l.next, 32));
     t.conflicts = o.count;
+    t.set = o.propagations;
     if o.verdict == SOLUTION {
         let next = following(p, l.next);
         t.next = next;
@@ -103,7 +110,11 @@ fn ran(l: Listing, o: Outcome, p: Problem, e: Enumerated) -> Listing {
     if e.found < t.shown {
         t.stage = FAILED;
     }
-    if e.points < plus(t.conflicts, t.shown) {
+    let ends = plus(t.conflicts, t.shown);
+    if e.points < ends {
+        t.stage = FAILED;
+    }
+    if !is_within(t.set, ends, slack(p)) {
         t.stage = FAILED;
     }
     t
@@ -133,6 +144,7 @@ fn trace_on(s: Search, journal: &mut [u8], blocks: usize, mixed: bool) -> Traced
             verdict: Verdict::GoOn,
             values: [0; 32],
             count: 0,
+            propagations: 0,
             blocks: 0,
             state: s,
         };
@@ -153,7 +165,8 @@ fn next_round(l: Listing, s: Search, p: Problem, e: Enumerated) -> Round {
     let verdict = r.verdict;
     let values = r.values;
     let shown = r.state;
-    let mut listing = ran(l, outcome_of(verdict, r.count, 0, values), p, e);
+    let o = outcome_of(verdict, r.count, r.propagations, 0, values);
+    let mut listing = ran(l, told(o, shown), p, e);
     let x = search::exclude(shown);
     let answer = x.answer;
     let state = x.state;
@@ -195,28 +208,28 @@ pub fn list(p: Problem, e: Enumerated, budget: usize, mixed: bool) -> Listing {
     l
 }
 
-// Whether a listing with a budget is spent, as it must be where one that is not has more conflicts, or else has shown all.
-fn is_right(l: Listing, found: usize, conflicts: usize, budget: usize) -> bool {
-    if budget < conflicts {
+// Whether a listing with a budget is spent, as it must be where that of all solutions has more conflicts, or else has shown all.
+fn is_right(l: Listing, found: usize, all: Listing, budget: usize) -> bool {
+    if budget < all.conflicts {
         return counts_same(&[l.stage, l.conflicts], &[SPENT, budget], 2);
     }
     counts_same(
-        &[l.stage, l.conflicts, l.shown],
-        &[COMPLETE, conflicts, found],
-        3,
+        &[l.stage, l.conflicts, l.set, l.shown],
+        &[COMPLETE, all.conflicts, all.set, found],
+        4,
     )
 }
 
 // Whether the listing of a problem with a budget of the points is right, and so is that with half of them, with 1 and with 0.
 pub fn are_right(p: Problem, e: Enumerated, all: Listing) -> bool {
-    if !is_right(all, e.found, all.conflicts, e.points) {
+    if !is_right(all, e.found, all, e.points) {
         return false;
     }
     let mut k: usize = 2;
     while k < 5 {
         let budget = budget_of(e.points, k);
         let l = list(p, e, budget, k == 3);
-        if !is_right(l, e.found, all.conflicts, budget) {
+        if !is_right(l, e.found, all, budget) {
             return false;
         }
         k += 1;

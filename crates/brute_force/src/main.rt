@@ -17,7 +17,9 @@ fn try_problem(sum: Report, f: Family, i: usize) -> Report {
     let r = agree::check(family::problem_of(f, k), i % 2048);
     let mut s = sum;
     s.conflicts = plus(s.conflicts, r.conflicts);
+    s.set = plus(s.set, r.set);
     s.listed = plus(s.listed, r.listed);
+    s.listed_set = plus(s.listed_set, r.listed_set);
     if 0 < r.found {
         s.found = plus(s.found, 1);
     }
@@ -34,7 +36,9 @@ fn try_family(f: Family) -> usize {
         wrong: 0,
         found: 0,
         conflicts: 0,
+        set: 0,
         listed: 0,
+        listed_set: 0,
     };
     let mut i: usize = 0;
     while i < f.problems {
@@ -45,6 +49,7 @@ fn try_family(f: Family) -> usize {
         i += 1;
     }
     print::family(f, sum);
+    print::set(sum);
     sum.wrong
 }
 

@@ -104,7 +104,7 @@ fn domain_of(p: Problem) -> Level {
 
 // Whether a state is the opened one of a problem with a budget: nothing is decided or counted.
 pub fn is_right(s: Search, p: Problem, budget: usize) -> bool {
-    if !counts_same(&sizes_of(s), &[p.n, p.m, budget, 0, 0, 0, 0], 7) {
+    if !counts_same(&sizes_of(s), &[p.n, p.m, budget, 0, 0, 0, 0, 0], 8) {
         return false;
     }
     if !are_rounded(&s.rows, &p.constraints, &p.divisors, p.m) {

@@ -31,12 +31,21 @@ pub fn family(f: Family, sum: Report) {
     text(b"\n");
 }
 
+// The bounds set in a family, up to the first verdicts and by the listings.
+pub fn set(sum: Report) {
+    text(b"set ");
+    number(sum.set);
+    text(b" ");
+    number(sum.listed_set);
+    text(b"\n");
+}
+
 // What is wrong with a problem.
 pub fn disagreement(wrong: usize, k: usize) {
     text(b"disagreement: problem ");
     number(k);
     line(
-        b"\n: more conflicts than points\n: opened state\n: steps\n: cut\n: run\n: trace\n: listing\n",
+        b"\n: more conflicts than points\n: opened state\n: steps\n: cut\n: run\n: trace\n: listing\n: bounds set\n",
         wrong,
     );
 }

@@ -1,5 +1,5 @@
 -- Demand 3, of the calls.
-use Prim.Native.Nat.{ℕ, zero, suc, _+_, _-_, _≤_, _<_}
+use Prim.Native.Nat.{ℕ, zero, suc, _+_, _-_, _*_, _≤_, _<_}
 use native.Mathlib.Omega.{arith}
 use mathlib.Core.Bool.{cond}
 use mathlib.Core.List.{List, [], _∷_, _++_}
@@ -11,6 +11,8 @@ use Rattle.model.specs.Problem.{Problem, Result, ok, error}
 use Rattle.model.specs.File.{problemIn}
 use Rattle.model.specs.Search as model
 use Rattle.model.specs.Search.{openProblem, openFile}
+use Rattle.model.specs.Move.{slack}
+use Rattle.model.specs.Propagations.{boundsSet}
 use Rattle.model.specs.Points.{Point, points, Solution, First}
 use Rattle.model.specs.Step.{Verdict as ModelVerdict, Outcome, outOfBudget, solution, step, run}
 use Rattle.model.specs.Demand.{stateAfter, journal, withBudget, verdictWith, Decides, Agree, SameSolutions, Steps, Accepted}
@@ -30,7 +32,7 @@ use Rattle.search.specs.declared.Ran.{Ran}
 use Rattle.search.specs.declared.Verdict.the-variants as verdict
 use Rattle.calls.specs.Calls.{Opens, Call, ran, Makes, told, ListFrom, stateIn, journalOf, NoRun, untilRun, stepsIn, stepsOf, SameAnswer, CallAfter, Decided, Opening, RunOf, CallsHold}
 use Rattle.calls.proofs.Shown.{caseOf, case-valid, case-plain}
-use Rattle.calls.proofs.Lists.{journal-end, journal-prefix, CallTells, call-tells, Follows, follows, one-more, steps-more, no-run}
+use Rattle.calls.proofs.Lists.{journal-end, set-end, journal-prefix, CallTells, call-tells, Follows, follows, one-more, steps-more, no-run}
 
 -- a run's answer is that of the model's
 pub record RunTells (q : Ran) (o : Outcome) : Type 0 where
@@ -113,6 +115,10 @@ module _ (f : List ℕ) (a : Accepted f) (o : Opened) (h : Opens f o) (q : Ran) 
   unfolding told stepsIn
   run-count = let z : 0 + suc (t .last) ≡ suc (t .last) = omega arith in run-call .count ∙ ap (λ (i : ℕ). length (journal i m)) z
 
+  run-set : q .propagations ≡ boundsSet (suc (t .last)) m
+  unfolding told stepsIn
+  run-set = let z : 0 + suc (t .last) ≡ suc (t .last) = omega arith in run-call .propagations ∙ ap (λ (i : ℕ). boundsSet i m) z
+
   -- the calls cs, and c after them
   module _ (cs : List Call) (c : Call) (l : ListFrom (o .state) cs) (e : Makes (stateIn (o .state) cs) c) where
     abbrev k : ℕ
@@ -144,6 +150,10 @@ module _ (f : List ℕ) (a : Accepted f) (o : Opened) (h : Opens f o) (q : Ran) 
         let y = x .answer i b in
         ((λ w. case-valid _ (sym (y .0) ∙ w)), λ w. y .0 ∙ ap caseOf (t .before (k + i) (omega arith)) ∙ (unfold caseOf in refl))
 
+    state-set : told c .state .propagations ≡ boundsSet (k + n) m
+    unfolding view
+    state-set = ap (λ (y : model.Search). y .propagations) (x .state) ∙ t .tallied (k + n)
+
     pub call : CallAfter (problemIn f) q (t .last) (journal (suc (t .last)) m) cs c
     unfolding stateAfter
     call =
@@ -153,18 +163,23 @@ module _ (f : List ℕ) (a : Accepted f) (o : Opened) (h : Opens f o) (q : Ran) 
           bounded = rw (x .count) (t .bounded (k + n));
           counted = λ h. x .count ∙ ap length (sym (blocks h));
           blocksSoFar = λ h. blocks h ∙ sym (journal-prefix p m t (k + n)) ∙ ap (λ (i : ℕ). take i (journal (suc (t .last)) m)) (sym (x .count));
+          tallied = x .propagations ∙ ap (λ (i : ℕ). boundsSet i m) (sym more);
+          carried = state-set ∙ sym (x .propagations);
+          creeping = rw (x .count, x .propagations) (subst (λ (i : ℕ). boundsSet (k + n) m ≤ suc i * slack (p .domain)) (t .carried (k + n)) (omega (arith, t .creeping (k + n), t .tallied (k + n))));
           silent = all .silent;
           cuts = λ y s. rw (all .silent, all .heard) (t .cuts (stepsOf (t .last) (untilRun (cs ++ (c ∷ [])))) y s);
           before = λ b. by-steps n refl .1 (omega (arith, more));
           later = λ b w. (
             answered (n - 1) (omega arith) (omega (arith, more)),
-            x .count ∙ same-end (omega (arith, more)) ∙ sym run-count,
+            (x .count ∙ same-end (omega (arith, more)) .0 ∙ sym run-count, x .propagations ∙ same-end (omega (arith, more)) .1 ∙ sym run-set),
           );
           idle = x .idle;
         }
       where
-        same-end : t .last < k + n → length (journal (k + n) m) ≡ length (journal (suc (t .last)) m)
-        same-end b = let z : suc (k + n - 1) ≡ k + n = omega arith in rw z at (journal-end p m t (k + n - 1) (omega arith))
+        same-end : t .last < k + n → (length (journal (k + n) m) ≡ length (journal (suc (t .last)) m)) × (boundsSet (k + n) m ≡ boundsSet (suc (t .last)) m)
+        same-end b =
+            let z : suc (k + n - 1) ≡ k + n = omega arith in
+            subst (λ (i : ℕ). (length (journal i m) ≡ length (journal (suc (t .last)) m)) × (boundsSet i m ≡ boundsSet (suc (t .last)) m)) z (journal-end p m t (k + n - 1) (omega arith), set-end p m t (k + n - 1) (omega arith))
 
   -- the budget of the file, and one of as many as the points
   or-spent : ((verdictWith p (p .budget) ≡ verdictWith p (points (p .domain))) ⊎ (verdictWith p (p .budget) ≡ outOfBudget)) → Decided p q ⊎ (q .verdict ≡ verdict.OutOfBudget)

@@ -3,5 +3,6 @@ pub mod Shown
 pub mod Lists
 pub mod Demand
 pub mod Replies
+pub mod Tallies
 pub mod InPlace
 pub mod Listing

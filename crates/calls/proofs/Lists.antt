@@ -13,10 +13,11 @@ use Rattle.model.specs.Problem.{Problem, ok}
 use Rattle.model.specs.Search as model
 use Rattle.model.specs.Step.{blockIn, step, stepCall, checked, runCall, run}
 use Rattle.model.specs.Trace.{Trace, lastStep, advance, joined, written, tracedBy, traceCall}
+use Rattle.model.specs.Propagations.{boundsSet}
 use Rattle.model.specs.Demand.{after, stateAfter, answerAt, blocksIn, journal, stepsTogether, Steps}
 use Rattle.lists.proofs.Bools.{lt-or-le}
 use Rattle.validity.proofs.Every.{Every}
-use Rattle.soundness.proofs.Together.{state-add, journal-add, journal-long}
+use Rattle.soundness.proofs.Unrefused.{state-add, journal-add, journal-long}
 use Rattle.state.specs.View.{view}
 use Rattle.state.specs.declared.Search.{Search}
 use Rattle.search.specs.Seen.{valuesOf}
@@ -56,6 +57,10 @@ module _ (p : Problem) (m : model.Search) (t : Steps p m) where
   pub journal-end : (i : ℕ) → t .last ≤ i → length (journal (suc i) m) ≡ length (journal (suc (t .last)) m)
   journal-end i h = sym (t .counted i) ∙ t .later i h .1 ∙ t .counted (t .last)
 
+  -- and so do the bounds set
+  pub set-end : (i : ℕ) → t .last ≤ i → boundsSet (suc i) m ≡ boundsSet (suc (t .last)) m
+  set-end i h = sym (t .propagated i) ∙ t .later i h .2 ∙ t .propagated (t .last)
+
   pub none-later : (k j : ℕ) → t .last < k → journal j (stateAfter k m) ≡ []
   none-later k j h =
       let a : suc (k - 1) ≡ k = omega arith in
@@ -86,6 +91,7 @@ module _ (p : Problem) (m : model.Search) (t : Steps p m) where
   pub record CallTells (k : ℕ) (c : Call) : Type 0 where
     pub state : view (told c .state) ≡ stateAfter (k + stepsIn (t .last) c) m
     pub count : told c .count ≡ length (journal (k + stepsIn (t .last) c) m)
+    pub propagations : told c .propagations ≡ boundsSet (k + stepsIn (t .last) c) m
     pub blocks : NoRun (c ∷ []) → given c ≡ journal (stepsIn (t .last) c) (stateAfter k m)
     pub idle : stepsIn (t .last) c ≡ 0 → told c .verdict ≡ GoOn
     pub answer : (i : ℕ) → stepsIn (t .last) c ≡ suc i → (told c .verdict ≡ caseOf (step (stateAfter (k + i) m) .verdict)) × (told c .values ≡ valuesOf (step (stateAfter (k + i) m) .verdict))
@@ -98,6 +104,7 @@ module _ (p : Problem) (m : model.Search) (t : Steps p m) where
       record {
         state = a .state ∙ sym (next k);
         count = a .count ∙ t .counted k ∙ ap (λ (i : ℕ). length (journal i m)) (sym (add-one k));
+        propagations = a .propagations ∙ t .propagated k ∙ ap (λ (i : ℕ). boundsSet i m) (sym (add-one k));
         blocks = λ n. x .blocks ∙ sym (one-block k);
         idle = λ h. absurd (omega arith);
         answer = λ i h. let z : k ≡ k + i = omega arith in rw (← z) (a .verdict, a .values);
@@ -107,6 +114,7 @@ module _ (p : Problem) (m : model.Search) (t : Steps p m) where
   record TraceTells (n k : ℕ) (old new : List ℕ) (r : Traced) : Type 0 where
     state : view (r .state) ≡ stateAfter (k + n) m
     count : r .count ≡ length (journal (k + n) m)
+    propagations : r .propagations ≡ boundsSet (k + n) m
     blocks : partsAt blockLength (r .blocks) new ≡ journal n (stateAfter k m)
     idle : n ≡ 0 → r .verdict ≡ GoOn
     answer : (i : ℕ) → n ≡ suc i → (r .verdict ≡ caseOf (step (stateAfter (k + i) m) .verdict)) × (r .values ≡ valuesOf (step (stateAfter (k + i) m) .verdict))
@@ -119,6 +127,7 @@ module _ (p : Problem) (m : model.Search) (t : Steps p m) where
       record {
         state = x .state ∙ sym (state-add k (suc n) m);
         count = x .count ∙ ap (λ (y : model.Search). step y .count) w ∙ t .counted (k + n) ∙ ap (λ (i : ℕ). length (journal i m)) z;
+        propagations = x .propagations ∙ ap (λ (y : model.Search). step y .propagations) w ∙ t .propagated (k + n) ∙ ap (λ (i : ℕ). boundsSet i m) z;
         blocks = rw (x .blocks, x .buffer) (parts-back blockLength (journal (suc n) (stateAfter k m)) _ (journal-long (suc n) (stateAfter k m)));
         idle = λ h. absurd (omega arith);
         answer = λ i h. let y : n ≡ i = omega arith in rw (← y, ← w) (x .verdict, x .values);
@@ -134,14 +143,14 @@ module _ (p : Problem) (m : model.Search) (t : Steps p m) where
   trace-with zero k s old new r f v e =
       let x = trace-tells s r old new (stateAfter k m) (advance 0 (stateAfter k m)) e v (trace-takes 0 k old f) in
       let z : k + 0 ≡ k = omega arith in
-      record { state = rw z (x .state); count = rw z (x .count ∙ t .carried k); blocks = rw (x .blocks) refl; idle = λ h. x .verdict; answer = λ i h. absurd (omega arith) }
+      record { state = rw z (x .state); count = rw z (x .count ∙ t .carried k); propagations = rw z (x .propagations ∙ t .tallied k); blocks = rw (x .blocks) refl; idle = λ h. x .verdict; answer = λ i h. absurd (omega arith) }
   trace-with (suc n) k s old new r f v e = trace-more n k old new r (trace-tells s r old new (stateAfter k m) (stepsTogether n (stateAfter k m)) e v (trace-takes (suc n) k old f ∙ ap (λ (y : Trace). written y old) (t .together k n)))
 
   trace-call : (k : ℕ) (s : Search) (old new : List ℕ) (r : Traced) → view s ≡ stateAfter k m → Makes s (traced old new r) → CallTells k (traced old new r)
   unfolding told stepsIn given
   trace-call k s old new r v e =
       let x = trace-with (length old / blockLength) k s old new r refl v e in
-      record { state = x .state; count = x .count; blocks = λ n. x .blocks; idle = x .idle; answer = x .answer }
+      record { state = x .state; count = x .count; propagations = x .propagations; blocks = λ n. x .blocks; idle = x .idle; answer = x .answer }
 
   run-call : (k : ℕ) (s : Search) (q : Ran) → view s ≡ stateAfter k m → Makes s (ran q) → CallTells k (ran q)
   unfolding told stepsIn given lastStep
@@ -152,8 +161,9 @@ module _ (p : Problem) (m : model.Search) (t : Steps p m) where
       let o = t .ran k in
       let l = t .later (k + t .last) (omega arith) in
       record {
-        state = x .state ∙ o .2 ∙ sym (t .stays (k + suc (t .last)) (omega arith));
+        state = x .state ∙ o .3 ∙ sym (t .stays (k + suc (t .last)) (omega arith));
         count = x .count ∙ o .1 ∙ sym (l .1) ∙ t .counted (k + t .last) ∙ ap (λ (i : ℕ). length (journal i m)) z;
+        propagations = x .propagations ∙ o .2 ∙ sym (l .2) ∙ t .propagated (k + t .last) ∙ ap (λ (i : ℕ). boundsSet i m) z;
         blocks = λ h. absurd h;
         idle = λ h. absurd (omega arith);
         answer = λ i h. let y : t .last ≡ i = omega arith in rw (← y, l .0, ← o .0) (x .verdict, x .values);

@@ -1,5 +1,5 @@
 -- Demand 3 of whoever calls `open` on an accepted file, and then `step`, `trace` and `run` in any mixture, each on the state that the call before returned.
-use Prim.Native.Nat.{ℕ, zero, suc, _+_, _-_, _/_, _≤_, _<_}
+use Prim.Native.Nat.{ℕ, zero, suc, _+_, _-_, _*_, _/_, _≤_, _<_}
 use mathlib.Core.Bool.{cond}
 use mathlib.Core.List.{List, [], _∷_, _++_}
 use mathlib.Core.Logic.{_⊎_, _↔_}
@@ -8,7 +8,9 @@ use lib.ListN.{length, take, drop}
 use Rattle.model.specs.Bytes.{blockLength}
 use Rattle.model.specs.Problem.{Problem, variables}
 use Rattle.model.specs.File.{problemIn}
-use Rattle.model.specs.Search.{openFile}
+use Rattle.model.specs.Search.{openProblem, openFile}
+use Rattle.model.specs.Move.{slack}
+use Rattle.model.specs.Propagations.{boundsSet}
 use Rattle.model.specs.Points.{Point, points, Solution, First}
 use Rattle.model.specs.Demand.{Accepted, SameSolutions, MeetsCuts, withBudget}
 use Rattle.fields.specs.Fields.{room, zeros}
@@ -37,10 +39,10 @@ Makes s (stepped r) = seenStepped r ≡ stepSeen s
 Makes s (traced old new r) = seenTraced r new ≡ traceSeen s old
 Makes s (ran q) = seenRan q ≡ runSeen s
 
--- the verdict, its values, the count and the state that a call gives: what a run's answer holds
+-- the verdict, its values, the counts and the state that a call gives: what a run's answer holds
 unfoldable pub told : Call → Ran
-told (stepped r) = record { verdict = r .verdict; values = r .values; count = r .count; state = r .state }
-told (traced old new r) = record { verdict = r .verdict; values = r .values; count = r .count; state = r .state }
+told (stepped r) = record { verdict = r .verdict; values = r .values; count = r .count; propagations = r .propagations; state = r .state }
+told (traced old new r) = record { verdict = r .verdict; values = r .values; count = r .count; propagations = r .propagations; state = r .state }
 told (ran q) = q
 
 -- ---- a list of calls, each on the state that the one before returned
@@ -99,6 +101,10 @@ stepsOf last (c ∷ cs) = stepsIn last c + stepsOf last cs
 abbrev pub SameAnswer : Ran → Ran → Type 0
 SameAnswer q u = (q .verdict ≡ u .verdict) × (q .values ≡ u .values)
 
+-- the same counts, of dead ends and of bounds set
+abbrev pub SameCounts : Ran → Ran → Type 0
+SameCounts q u = (q .count ≡ u .count) × (q .propagations ≡ u .propagations)
+
 -- of the calls cs with c as the last of them. q is the run from the same opening, the first verdict comes with turn `last`, counted from 0, and `blocks`
 -- is the whole journal
 pub record CallAfter (p : Problem) (q : Ran) (last : ℕ) (blocks : List (List ℕ)) (cs : List Call) (c : Call) : Type 0 where
@@ -108,13 +114,18 @@ pub record CallAfter (p : Problem) (q : Ran) (last : ℕ) (blocks : List (List �
   pub bounded : told c .count ≤ points (p .domain)
   pub counted : NoRun (cs ++ (c ∷ [])) → told c .count ≡ length (journalOf (cs ++ (c ∷ [])))
   pub blocksSoFar : NoRun (cs ++ (c ∷ [])) → journalOf (cs ++ (c ∷ [])) ≡ take (told c .count) blocks
+  -- N5's count, in the answer and in the state, is the number of bounds that lines set in the turns so far, those of spent turns aside, and at most
+  -- (dead ends + 1) times the sum of all hi − lo, the domain's slack
+  pub tallied : told c .propagations ≡ boundsSet (stepsOf last (cs ++ (c ∷ []))) (openProblem p)
+  pub carried : told c .state .propagations ≡ told c .propagations
+  pub creeping : told c .propagations ≤ suc (told c .count) * slack (p .domain)
   -- from the first run on no block is given
   pub silent : journalOf (cs ++ (c ∷ [])) ≡ journalOf (untilRun (cs ++ (c ∷ [])))
   -- every solution meets every cut in the blocks
   pub cuts : (x : Point) → Solution p x → MeetsCuts (variables p) x (journalOf (cs ++ (c ∷ [])))
   -- it says 'go on' up to turn `last`, and from there on what the run says; a trace with no room for a block takes no turn and says 'go on'
   pub before : stepsOf last (cs ++ (c ∷ [])) ≤ last → told c .verdict ≡ verdict.GoOn
-  pub later : last < stepsOf last (cs ++ (c ∷ [])) → 0 < stepsIn last c → SameAnswer (told c) q × (told c .count ≡ q .count)
+  pub later : last < stepsOf last (cs ++ (c ∷ [])) → 0 < stepsIn last c → SameAnswer (told c) q × SameCounts (told c) q
   pub idle : stepsIn last c ≡ 0 → told c .verdict ≡ verdict.GoOn
 
 -- 'none' exactly when there is no solution, else the first solution, zeros past its values

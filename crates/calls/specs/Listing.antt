@@ -1,8 +1,8 @@
 -- N4 of whoever calls `open` on an accepted file, and then `step`, `trace`, `run`, `exclude` and `list` in any order, each on the state that the call before returned.
-use Prim.Native.Nat.{ℕ, zero, suc, _+_, _-_, _*_, _/_, _≤_, _<_}
+use Prim.Native.Nat.{ℕ, zero, suc, _+_, _-_, _*_, _/_, _^_, _≤_, _<_}
 use mathlib.Core.Bool.{Bool, true, false, cond}
 use mathlib.Core.List.{List, [], _∷_, _++_, map}
-use mathlib.Core.Logic.{_⊎_}
+use mathlib.Core.Logic.{_⊎_, _↔_}
 use mathlib.Core.Option.{some}
 use mathlib.Core.Path.{_≡_}
 use lib.IntN.{ℤ}
@@ -10,9 +10,17 @@ use lib.ListN.{length, take, drop, getElem?}
 use Rattle.model.specs.Bytes.{blockLength}
 use Rattle.model.specs.Problem.{Problem, variables}
 use Rattle.model.specs.File.{problemIn}
+use Rattle.model.specs.Ranges.{maxPropagations}
+use Rattle.model.specs.Search as model
+use Rattle.model.specs.Move.{slack}
+use Rattle.model.specs.Validity.{admitted}
+use Rattle.model.specs.Step.{run}
+use Rattle.model.specs.Exclude.{exclude}
+use Rattle.model.specs.Propagations.{boundsSet}
 use Rattle.model.specs.Points.{Point, points, Solution, allSolutions}
 use Rattle.model.specs.Demand.{Accepted, MeetsCuts}
 use Rattle.fields.specs.Fields.{room, zeros}
+use Rattle.state.specs.View.{view}
 use Rattle.state.specs.declared.Search.{Search}
 use Rattle.search.specs.Excluding.{seenExcluded, excludeSeen}
 use Rattle.search.specs.Listing.{seenListed, listSeen}
@@ -24,7 +32,7 @@ use Rattle.search.specs.declared.Exclusion.the-variants as exclusion
 use Rattle.search.specs.declared.Listed.{Listed}
 use Rattle.search.specs.declared.Verdict.{Verdict}
 use Rattle.search.specs.declared.Verdict.the-variants as verdict
-use Rattle.calls.specs.Calls.{Opens, Call, stepped, traced, ran, Makes, told, partsAt, given, SameAnswer}
+use Rattle.calls.specs.Calls.{Opens, Call, stepped, traced, ran, Makes, told, partsAt, given, SameAnswer, SameCounts}
 
 -- ---- the calls, strikes and listings among them: what their contracts say of an answer
 -- of a listing the buffer's numbers too, before and after
@@ -40,7 +48,7 @@ Does s (listed old new r) = seenListed r new ≡ listSeen s old
 
 -- what the run after a listing's last strike gives
 unfoldable pub lastRun : Listed → Ran
-lastRun r = record { verdict = r .verdict; values = r .values; count = r .count; state = r .state }
+lastRun r = record { verdict = r .verdict; values = r .values; count = r .count; propagations = r .propagations; state = r .state }
 
 unfoldable pub stateOf : Action → Search
 stateOf (called c) = told c .state
@@ -144,6 +152,43 @@ unfoldable pub strikes : List Action → ℕ
 strikes [] = 0
 strikes (a ∷ acts) = strikesBy a + strikes acts
 
+-- ---- N5
+-- how many turns a call may take on a state: a run at most one more than the budget has left
+unfoldable pub turnsLeft : model.Search → ℕ
+turnsLeft s = suc (s .budget - s .conflicts)
+
+unfoldable pub turnsIn : Call → model.Search → ℕ
+turnsIn (stepped r) s = 1
+turnsIn (traced old new r) s = length old / blockLength
+turnsIn (ran q) s = turnsLeft s
+
+-- the bounds that lines set, those of spent turns aside: in a run and k more, each after a strike
+unfoldable pub setInRuns : ℕ → model.Search → ℕ
+setInRuns zero s = boundsSet (turnsLeft s) s
+setInRuns (suc k) s = boundsSet (turnsLeft s) s + setInRuns k (exclude (run s .state) .state)
+
+-- in an action on a state
+unfoldable pub setBy : Action → model.Search → ℕ
+setBy (called c) s = boundsSet (turnsIn c s) s
+setBy (excluded e) s = 0
+setBy (listed old new r) s = setInRuns (r .struck) s
+
+-- a call that is refused takes no turn
+unfoldable pub setIn : Search → List Action → ℕ
+setIn s [] = 0
+setIn s (a ∷ acts) = cond (admitted (view (stateAfter s acts))) (setBy a (view (stateAfter s acts))) 0 + setIn s acts
+
+-- the count is within its limit, or has passed it: then a call is refused
+abbrev pub Within : Search → Type 0
+Within x = x .propagations ≤ maxPropagations
+
+abbrev pub Beyond : Search → Type 0
+Beyond x = maxPropagations < x .propagations
+
+-- enough budget, or few enough strikes, for every count to stay within the limit
+abbrev pub Modest : Problem → List Action → Type 0
+Modest p acts = (points (p .domain) ≤ p .budget) ⊎ (strikes acts < 2 ^ 32)
+
 -- ---- a list kept up: a strike where a solution stands, else a step, a run, a listing, or a trace with room for a block
 abbrev pub Turns : Call → Type 0
 Turns (stepped r) = Unit {0}
@@ -158,13 +203,13 @@ Due false (called c) = Turns c
 Due false (excluded e) = ⊥
 Due false (listed old new r) = Unit {0}
 
--- it ends with 'ended', 'none' or 'spent'
+-- it ends with 'ended', 'none', 'spent' or a refusal
 abbrev pub Closes : Ran → Type 0
-Closes q = (q .verdict ≡ verdict.NoSolution) ⊎ (q .verdict ≡ verdict.OutOfBudget)
+Closes q = (q .verdict ≡ verdict.NoSolution) ⊎ ((q .verdict ≡ verdict.OutOfBudget) ⊎ (q .verdict ≡ verdict.Invalid))
 
 abbrev pub Ends : Action → Type 0
 Ends (called c) = Closes (told c)
-Ends (excluded e) = e .answer ≡ exclusion.Ended
+Ends (excluded e) = (e .answer ≡ exclusion.Ended) ⊎ (e .answer ≡ exclusion.Invalid)
 Ends (listed old new r) = Closes (lastRun r)
 
 abbrev pub KeptUp : List Action → Type 0
@@ -181,37 +226,44 @@ pub record Lists (p : Problem) (s : Search) (acts : List Action) : Type 0 where
   pub carried : NoRun acts → stateAfter s acts .conflicts ≡ length (blocksOf acts)
   -- dead ends plus solutions shown, those struck out among them, are at most the number of points
   pub bounded : stateAfter s acts .conflicts + length (shown acts) ≤ points (p .domain)
+  -- N5's count is the number of bounds that lines set in the turns that were not taken back, and at most (dead ends + struck out + 1) times the sum of all
+  -- hi − lo, the domain's slack; with a budget of at least the points, or fewer than 2^32 strikes, it is within its limit, and so no call is refused
+  pub tallied : stateAfter s acts .propagations ≡ setIn s acts
+  pub creeping : stateAfter s acts .propagations ≤ suc (stateAfter s acts .conflicts + strikes acts) * slack (p .domain)
+  pub within : Modest p acts → Within (stateAfter s acts)
   -- every solution, one struck out too, meets every cut in the blocks
   pub cuts : (x : Point) → Solution p x → MeetsCuts (variables p) x (blocksOf acts)
   -- a list that is kept up ends
   pub ends : KeptUp acts → length acts < 2 * points (p .domain)
 
--- the action says q's verdict, values and count again, and strikes nothing out
+-- the action says q's verdict, values and counts again, and strikes nothing out
 abbrev pub SaysAgain : Ran → Action → Type 0
-SaysAgain q (called c) = SameAnswer (told c) q × (told c .count ≡ q .count)
+SaysAgain q (called c) = SameAnswer (told c) q × SameCounts (told c) q
 SaysAgain q (excluded e) = ⊥
-SaysAgain q (listed old new r) = SameAnswer (lastRun r) q × (r .count ≡ q .count) × (r .struck ≡ 0)
+SaysAgain q (listed old new r) = SameAnswer (lastRun r) q × SameCounts (lastRun r) q × (r .struck ≡ 0)
 
--- of the answer q with which the action a ends, after the calls acts: that of a step, a trace or a run, or that of a listing's last run
-pub record TurnAfter (p : Problem) (acts : List Action) (a : Action) (q : Ran) : Type 0 where
-  pub taken : ¬ (q .verdict ≡ verdict.Invalid)
+-- of the answer q with which the action a on state x ends, after the calls acts: that of a step, a trace or a run, or that of a listing's last run
+pub record TurnAfter (p : Problem) (x : Search) (acts : List Action) (a : Action) (q : Ran) : Type 0 where
+  -- it is refused exactly where N5's count has passed its limit
+  pub taken : (q .verdict ≡ verdict.Invalid) ↔ Beyond x
   -- however often a solution is shown: after k strikes it is the one at position k, counted from 0
-  pub position : q .verdict ≡ verdict.Solution → (x : Point) × (q .values ≡ padded x) × (getElem? (allSolutions p) (strikes (a ∷ acts)) ≡ some x)
-  pub counted : q .count ≡ q .state .conflicts
+  pub position : q .verdict ≡ verdict.Solution → (v : Point) × (q .values ≡ padded v) × (getElem? (allSolutions p) (strikes (a ∷ acts)) ≡ some v)
+  pub counted : Within x → (q .count ≡ q .state .conflicts) × (q .propagations ≡ q .state .propagations)
   -- 'none', 'spent' and a solution are said again until a strike
-  pub again : ¬ (q .verdict ≡ verdict.GoOn) → (d : Action) → Due false d → Does (q .state) d → SaysAgain q d
+  pub again : ¬ (q .verdict ≡ verdict.GoOn) → Within (q .state) → (d : Action) → Due false d → Does (q .state) d → SaysAgain q d
   -- with 'none' every solution has been shown; with a budget of at least the points it never says 'spent'
   pub complete : q .verdict ≡ verdict.NoSolution → shown (a ∷ acts) ≡ map padded (allSolutions p)
   pub enough : points (p .domain) ≤ p .budget → ¬ (q .verdict ≡ verdict.OutOfBudget)
 
 -- of a listing
-pub record ListAfter (p : Problem) (acts : List Action) (old new : List ℤ) (r : Listed) : Type 0 where
-  -- its last run, which ends with a verdict
-  pub last : TurnAfter p acts (listed old new r) (lastRun r)
+pub record ListAfter (p : Problem) (x : Search) (acts : List Action) (old new : List ℤ) (r : Listed) : Type 0 where
+  -- its last run, which ends with a verdict or is refused
+  pub last : TurnAfter p x acts (listed old new r) (lastRun r)
   pub ended : ¬ (r .verdict ≡ verdict.GoOn)
-  -- where a solution stands, none is struck out; else a solution ends it only where there is no room left, or where every solution has been shown
+  -- where a solution stands, none is struck out; else a solution ends it only where there is no room left, where every solution has been shown, or where
+  -- N5's count has passed its limit, so that a strike would be refused
   pub marked : stands acts ≡ true → r .struck ≡ 0
-  pub full : stands acts ≡ false → r .verdict ≡ verdict.Solution → (r .struck ≡ length old / variables p) ⊎ (shown (listed old new r ∷ acts) ≡ map padded (allSolutions p))
+  pub full : stands acts ≡ false → r .verdict ≡ verdict.Solution → (r .struck ≡ length old / variables p) ⊎ ((shown (listed old new r ∷ acts) ≡ map padded (allSolutions p)) ⊎ Beyond (r .state))
   -- row j of the buffer is the solution at position k + j, where k were struck out before; the buffer's other numbers stay
   pub rows : (j : ℕ) → j < r .struck → getElem? (allSolutions p) (strikes acts + j) ≡ some (take (variables p) (drop (variables p * j) new))
   pub rest : drop (variables p * r .struck) new ≡ drop (variables p * r .struck) old
@@ -219,18 +271,18 @@ pub record ListAfter (p : Problem) (acts : List Action) (old new : List ℤ) (r 
   pub long : length new ≡ length old
   pub wide : r .state .n ≡ variables p
 
--- of a strike
-pub record StrikeAfter (p : Problem) (acts : List Action) (e : Excluded) : Type 0 where
-  pub taken : ¬ (e .answer ≡ exclusion.Invalid)
-  pub no-form : stands acts ≡ false → e .answer ≡ exclusion.Unsolved
+-- of a strike on state x
+pub record StrikeAfter (p : Problem) (x : Search) (acts : List Action) (e : Excluded) : Type 0 where
+  pub taken : (e .answer ≡ exclusion.Invalid) ↔ Beyond x
+  pub no-form : Within x → stands acts ≡ false → e .answer ≡ exclusion.Unsolved
   pub complete : e .answer ≡ exclusion.Ended → shown (excluded e ∷ acts) ≡ map padded (allSolutions p)
 
 -- of all lists of calls from one opening
 pub record ListingOf (p : Problem) (s : Search) : Type 0 where
   pub lists : (acts : List Action) → DoneFrom s acts → Lists p s acts
-  pub turn : (acts : List Action) (c : Call) → DoneFrom s (called c ∷ acts) → TurnAfter p acts (called c) (told c)
-  pub strike : (acts : List Action) (e : Excluded) → DoneFrom s (excluded e ∷ acts) → StrikeAfter p acts e
-  pub list : (acts : List Action) (old new : List ℤ) (r : Listed) → DoneFrom s (listed old new r ∷ acts) → ListAfter p acts old new r
+  pub turn : (acts : List Action) (c : Call) → DoneFrom s (called c ∷ acts) → TurnAfter p (stateAfter s acts) acts (called c) (told c)
+  pub strike : (acts : List Action) (e : Excluded) → DoneFrom s (excluded e ∷ acts) → StrikeAfter p (stateAfter s acts) acts e
+  pub list : (acts : List Action) (old new : List ℤ) (r : Listed) → DoneFrom s (listed old new r ∷ acts) → ListAfter p (stateAfter s acts) acts old new r
 
 pub record ListingsHold : Type 0 where
   pub opening : (f : List ℕ) → Accepted f → (o : Opened) → Opens f o → ListingOf (problemIn f) (o .state)

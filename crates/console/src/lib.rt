@@ -66,7 +66,9 @@ fn print_search(opened: Search) {
         let verdict = traced.verdict;
         if !goes_on(verdict) {
             let values = traced.values;
-            text::finish(&mut out, at, verdict, &values, n, traced.count, &mut failed);
+            let count = traced.count;
+            let set = traced.propagations;
+            text::finish(&mut out, at, verdict, &values, n, count, set, &mut failed);
             told::tell_output(failed);
             return;
         }

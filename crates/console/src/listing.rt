@@ -16,8 +16,8 @@ const NUMBERS: usize = 2048;
 // The same where somebody looks: few, so that it is told often how far the listing is.
 const WATCHED: usize = 64;
 
-// More solutions than a computer strikes out: 2^62, at one each nanosecond 146 years. A listing that got there would end with its counts, and without one of
-// the words `ended`, `none` and `spent`.
+// More solutions than a computer strikes out: 2^62, at one each nanosecond 146 years. A listing that got there, or with so many bounds set, would end with its
+// counts, and without one of the words `ended`, `none` and `spent`.
 const MAX_STRUCK: usize = 4611686018427387904;
 
 fn is_solution(verdict: Verdict) -> bool {
@@ -79,7 +79,7 @@ fn print_listing(opened: Search) {
         let excluded = search::exclude(listed.state);
         let answer = excluded.answer;
         if !is_struck(answer) {
-            at = text::put_ended(&mut out, at, &mut failed);
+            at = text::put_ended(&mut out, at, answer, &mut failed);
             break;
         }
         if failed {
@@ -90,7 +90,8 @@ fn print_listing(opened: Search) {
         last = told::listing_progress(watched, last, struck, listed.count, budget);
         listed = list_into(excluded.state, &mut rows, watched);
     }
-    text::finish_listing(&mut out, at, listed.count, struck, &mut failed);
+    let set = listed.propagations;
+    text::finish_listing(&mut out, at, listed.count, struck, set, &mut failed);
     told::tell_output(failed);
 }
 

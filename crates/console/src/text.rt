@@ -3,6 +3,7 @@ use crate::told::tell_output;
 use libc::STDOUT_FILENO;
 use problem::Answer;
 use report::LONGEST_LINE;
+use search::Exclusion;
 use search::Verdict;
 ghost use Prim.Native.Nat.{_+_, _≤_};
 ghost use lib.ListN.{length};
@@ -135,7 +136,16 @@ fn put_count(out: &mut [u8], at: usize, count: usize, failed: &mut bool) -> usiz
     report::ends_line(out, place, count)
 }
 
-// Writes out the text with its last two lines: the verdict, and the count.
+// Puts the line of the count of bounds set by constraints, a text's last.
+fn put_set(out: &mut [u8], at: usize, set: usize, failed: &mut bool) -> usize
+    requires { ⌜ (at ≤ length (now out)) × (longestLine ≤ length (now out)) ⌝ }
+    ensures { λ r. ⌜ r ≤ length (now (out .entry)) ⌝ }
+{
+    let place = next_place(out, at, failed);
+    report::set_line(out, place, set)
+}
+
+// Writes out the text with its last three lines: the verdict, and the counts of conflicts and of bounds set.
 pub(crate) fn finish(
     out: &mut [u8],
     at: usize,
@@ -143,44 +153,51 @@ pub(crate) fn finish(
     values: &[i64; 32],
     n: usize,
     count: usize,
+    set: usize,
     failed: &mut bool,
 )
     requires { ⌜ (at ≤ length (now out)) × (longestLine ≤ length (now out)) ⌝ }
 {
     let after_verdict = put_verdict(out, at, verdict, values, n, failed);
-    let end = put_count(out, after_verdict, count, failed);
+    let after_count = put_count(out, after_verdict, count, failed);
+    let end = put_set(out, after_count, set, failed);
     write(out, end, failed);
 }
 
-// Puts the line `ended`.
-pub(crate) fn put_ended(out: &mut [u8], at: usize, failed: &mut bool) -> usize
+// Puts the line `ended`, if that was the answer to striking out. Where the state is refused for its count of bounds set, the listing is not at its end.
+pub(crate) fn put_ended(out: &mut [u8], at: usize, answer: Exclusion, failed: &mut bool) -> usize
     requires { ⌜ (at ≤ length (now out)) × (longestLine ≤ length (now out)) ⌝ }
     ensures { λ r. ⌜ r ≤ length (now (out .entry)) ⌝ }
 {
     let place = next_place(out, at, failed);
-    report::ended_line(out, place)
+    match answer {
+        Exclusion::Ended => report::ended_line(out, place),
+        _ => place,
+    }
 }
 
-// Writes out the text of a listing with its last two lines: the counts of conflicts and of solutions struck out.
+// Writes out the text of a listing with its last three lines: the counts of conflicts, of solutions struck out and of bounds set.
 pub(crate) fn finish_listing(
     out: &mut [u8],
     at: usize,
     count: usize,
     struck: usize,
+    set: usize,
     failed: &mut bool,
 )
     requires { ⌜ (at ≤ length (now out)) × (longestLine ≤ length (now out)) ⌝ }
 {
     let after_count = put_count(out, at, count, failed);
     let last = next_place(out, after_count, failed);
-    let end = report::struck_line(out, last, struck);
+    let after_struck = report::struck_line(out, last, struck);
+    let end = put_set(out, after_struck, set, failed);
     write(out, end, failed);
 }
 
-// Prints the last two lines alone.
-pub fn print_ending(verdict: Verdict, values: &[i64; 32], n: usize, count: usize) {
+// Prints the last three lines alone.
+pub fn print_ending(verdict: Verdict, values: &[i64; 32], n: usize, count: usize, set: usize) {
     let mut out = [0u8; LONGEST_LINE];
     let mut failed = false;
-    finish(&mut out, 0, verdict, values, n, count, &mut failed);
+    finish(&mut out, 0, verdict, values, n, count, set, &mut failed);
     tell_output(failed);
 }

@@ -104,8 +104,8 @@ pub record Facts (lines divisors : List ℤ) (n m : ℕ) (rows : List ℤ) (numb
 
 -- ---- the level where a conflict is met
 module _ {s : model.Search} {old : List ℕ} {limit : ℕ} {keep : Bool} {lines divisors : List ℤ} {n m budget : ℕ} {now : List ℕ} {rows : List ℤ} {numbers : List ℕ} {levels : List Level} {made conflicts depth : ℕ}
-    {level before : Level} {start done : ℕ} (r : Running s old limit keep lines divisors n m budget now rows numbers levels made conflicts depth level before start done)
-    (here : Level) (j : ℕ) (moved : Propagates (coreHere lines divisors n m rows numbers levels made depth level) (coreHere lines divisors n m rows numbers levels made depth here) (conflict j)) where
+    {level before : Level} {start done earlier tally : ℕ} (r : Running s old limit keep lines divisors n m budget now rows numbers levels made conflicts depth level before start done earlier tally)
+    {tally₁ : ℕ} (here : Level) (j : ℕ) (moved : Propagates (coreHere lines divisors n m rows numbers levels made depth level) (coreHere lines divisors n m rows numbers levels made depth here) (conflict j) tally tally₁) where
   -- the levels with the deepest stored
   abbrev all : List Level
   all = set levels depth here

@@ -27,7 +27,7 @@ use Rattle.backtrack.specs.Mirror.{BoundsKept, Mirrored}
 use Rattle.backtrack.proofs.Mirroring.{mirrored-kept, mirrored-less}
 use Rattle.engine.specs.Counting.{LearnedAt, DismissedAt, Counted}
 use Rattle.engine.specs.declared.Ending.the-variants.{NoSolution}
-use Rattle.engine.proofs.Measures.{stepWeight, slack-small}
+use Rattle.engine.proofs.Measures.{stepWeight, core-slack}
 use Rattle.engine.proofs.Running.{Running, Propagates, coreHere}
 use Rattle.engine.proofs.Arms.{stateAt, Reaches}
 use Rattle.engine.proofs.Conflicting.{conflictWith}
@@ -38,10 +38,10 @@ use Rattle.engine.proofs.Returning.{Back, one-more, flippedTo, flipped-
 
 -- ---- a conflict that the loop counts: where it is met, what it is, the level to go back to, and the buffer with its record
 pub record Meets (s : model.Search) (old : List ℕ) (limit : ℕ) (keep : Bool) (lines divisors : List ℤ) (n m budget : ℕ) (now : List ℕ) (rows : List ℤ) (numbers : List ℕ) (levels : List Level) (made conflicts depth : ℕ)
-    (level before : Level) (start done : ℕ) (here : Level) (back made₁ : ℕ) (rows₁ : List ℤ) (numbers₁ next : List ℕ) : Type 0 where
-  pub running : Running s old limit keep lines divisors n m budget now rows numbers levels made conflicts depth level before start done
+    (level before : Level) (start done earlier tally : ℕ) (here : Level) (tally₁ back made₁ : ℕ) (rows₁ : List ℤ) (numbers₁ next : List ℕ) : Type 0 where
+  pub running : Running s old limit keep lines divisors n m budget now rows numbers levels made conflicts depth level before start done earlier tally
   pub j : ℕ
-  pub moved : Propagates (coreHere lines divisors n m rows numbers levels made depth level) (coreHere lines divisors n m rows numbers levels made depth here) (conflict j)
+  pub moved : Propagates (coreHere lines divisors n m rows numbers levels made depth level) (coreHere lines divisors n m rows numbers levels made depth here) (conflict j) tally tally₁
   pub left : done < limit
   pub afford : conflicts < budget
   pub cut : List ℤ
@@ -56,13 +56,13 @@ pub record Meets (s : model.Search) (old : List ℕ) (limit : ℕ) (keep : Bool)
   pub written : Emitted keep done (recordBytes (recordOf maxVariables (conflicts + 1) falsified number depth back cut used)) now next
 
 pub meets : {s : model.Search} {old : List ℕ} {limit : ℕ} {keep : Bool} {lines divisors : List ℤ} {n m budget : ℕ} {now : List ℕ} {rows : List ℤ} {numbers : List ℕ} {levels : List Level} {made conflicts depth : ℕ}
-    {level before : Level} {start done : ℕ} → Running s old limit keep lines divisors n m budget now rows numbers levels made conflicts depth level before start done →
-    (lower upper : List ℤ) (below above : List ℕ) (d j : ℕ) →
-    Propagates (coreHere lines divisors n m rows numbers levels made depth level) (coreHere lines divisors n m rows numbers levels made depth (held lower upper below above d)) (conflict j) →
+    {level before : Level} {start done earlier tally : ℕ} → Running s old limit keep lines divisors n m budget now rows numbers levels made conflicts depth level before start done earlier tally →
+    (lower upper : List ℤ) (below above : List ℕ) (d j : ℕ) {tally₁ : ℕ} →
+    Propagates (coreHere lines divisors n m rows numbers levels made depth level) (coreHere lines divisors n m rows numbers levels made depth (held lower upper below above d)) (conflict j) tally tally₁ →
     {lowers uppers : List ℤ} → Mirrored n levels lowers uppers depth → done < limit → conflicts < budget →
     {masks : List ℕ} {back made₁ : ℕ} {rows₁ : List ℤ} {numbers₁ masks₁ : List ℕ} {lowers₁ uppers₁ : List ℤ} {next : List ℕ} →
     Counted n m made j depth (conflicts + 1) done keep rows numbers (held lower upper below above) lowers uppers lines divisors masks now back made₁ rows₁ numbers₁ masks₁ lowers₁ uppers₁ next →
-    Meets s old limit keep lines divisors n m budget now rows numbers levels made conflicts depth level before start done (held lower upper below above d) back made₁ rows₁ numbers₁ next
+    Meets s old limit keep lines divisors n m budget now rows numbers levels made conflicts depth level before start done earlier tally (held lower upper below above d) tally₁ back made₁ rows₁ numbers₁ next
 meets {lines = lines} {divisors = divisors} {n = n} {m = m} {rows = rows} {numbers = numbers} {levels = levels} {made = made} {depth = depth} r lower upper below above d j moved {lowers} {uppers} b left afford {back = back} {made₁ = made₁} {rows₁ = rows₁} {numbers₁ = numbers₁} {lowers₁ = lowers₁} {uppers₁ = uppers₁} q =
     let here = held lower upper below above d in
     let c = mirrored-kept n (r .counts .few) levels lowers uppers lowers₁ uppers₁ depth here (q .boxes) (omega (arith, depth-small r, r .levelsLong)) b in
@@ -92,9 +92,9 @@ meets {lines = lines} {divisors = divisors} {n = n} {m = m} {rows = rows} {numbe
     }
 
 module _ {s : model.Search} {old : List ℕ} {limit : ℕ} {keep : Bool} {lines divisors : List ℤ} {n m budget : ℕ} {now : List ℕ} {rows : List ℤ} {numbers : List ℕ} {levels : List Level} {made conflicts depth : ℕ}
-    {level before : Level} {start done : ℕ} {here : Level} {back made₁ : ℕ} {rows₁ : List ℤ} {numbers₁ next : List ℕ}
-    (k : Meets s old limit keep lines divisors n m budget now rows numbers levels made conflicts depth level before start done here back made₁ rows₁ numbers₁ next) where
-  abbrev r : Running s old limit keep lines divisors n m budget now rows numbers levels made conflicts depth level before start done
+    {level before : Level} {start done earlier tally : ℕ} {here : Level} {tally₁ back made₁ : ℕ} {rows₁ : List ℤ} {numbers₁ next : List ℕ}
+    (k : Meets s old limit keep lines divisors n m budget now rows numbers levels made conflicts depth level before start done earlier tally here tally₁ back made₁ rows₁ numbers₁ next) where
+  abbrev r : Running s old limit keep lines divisors n m budget now rows numbers levels made conflicts depth level before start done earlier tally
   r = k .running
 
   abbrev stored : List Level
@@ -105,7 +105,7 @@ module _ {s : model.Search} {old : List ℕ} {limit : ℕ} {keep : Bool} {lines 
 
   abbrev block : ℕ → List ℕ
   block =
-      blockFor s old limit keep lines divisors n m budget now rows numbers levels made conflicts depth level before start done here r (k .left) inside (k .afford) (k .j) (k .moved) (constraintAt n (k .cut) 0)
+      blockFor s old limit keep lines divisors n m budget now rows numbers levels made conflicts depth level before start done earlier tally here r (k .left) inside (k .afford) (k .j) tally₁ (k .moved) (constraintAt n (k .cut) 0)
       (tab (λ i. getD (k .used) i 0) 0 n) (k .number) rows₁ numbers₁ made₁
 
   -- the block that was written is this conflict's
@@ -125,9 +125,9 @@ module _ {s : model.Search} {old : List ℕ} {limit : ℕ} {keep : Bool} {lines 
   emitted e q = subst (λ (bytes : List ℕ). Emitted keep done bytes now next) (block-is ∙ ap block q) (k .written)
 
   pub counted-none : back ≡ 0 →
-      Reaches s limit keep NoSolution (done + 1) (stateAt lines divisors n m budget (conflicts + 1) made₁ depth model.infeasible rows₁ numbers₁ levels here) old next
+      Reaches s limit keep NoSolution (done + 1) (stateAt lines divisors n m budget (conflicts + 1) made₁ depth model.infeasible rows₁ numbers₁ levels here tally₁) old next
   counted-none z =
-      ends-none s old limit keep lines divisors n m budget now rows numbers levels made conflicts depth level before start done here r (k .left) inside (k .afford) (k .j) (k .moved) _ _ (k .number) rows₁ numbers₁ made₁
+      ends-none s old limit keep lines divisors n m budget now rows numbers levels made conflicts depth level before start done earlier tally here r (k .left) inside (k .afford) (k .j) tally₁ (k .moved) _ _ (k .number) rows₁ numbers₁ made₁
       (is-at 0 z) next (emitted 0 z)
 
   -- the bounds of the levels above, there
@@ -140,15 +140,13 @@ module _ {s : model.Search} {old : List ℕ} {limit : ℕ} {keep : Bool} {lines 
     pub back-of : Back lines divisors n m rows numbers levels made depth here back made₁ rows₁
     back-of = record { few = r .counts .few; deep = depth-small r; levelsLong = r .levelsLong; fits = k .moved .fits; some = some; reach = k .reach; shifted = k .kept .shifted; whole = wo }
 
-    pub counted-on : Running s old limit keep lines divisors n m budget next rows₁ numbers₁ stored made₁ (conflicts + 1) (back - 1) (flippedTo back-of) (flippedTo back-of) (back - 1) (done + 1)
+    pub counted-on : Running s old limit keep lines divisors n m budget next rows₁ numbers₁ stored made₁ (conflicts + 1) (back - 1) (flippedTo back-of) (flippedTo back-of) (back - 1) (done + 1) tally₁ tally₁
     counted-on =
         let e = one-more back-of in
-        goes-on s old limit keep lines divisors n m budget now rows numbers levels made conflicts depth level before start done here r (k .left) inside (k .afford) (k .j) (k .moved) _ _ (k .number) rows₁ numbers₁ made₁
+        goes-on s old limit keep lines divisors n m budget now rows numbers levels made conflicts depth level before start done earlier tally here r (k .left) inside (k .afford) (k .j) tally₁ (k .moved) _ _ (k .number) rows₁ numbers₁ made₁
         (back - 1) (is-at (suc (back - 1)) e) (omega (arith, k .reach)) next (emitted (suc (back - 1)) e) (k .kept .apart) (k .kept .rowsLong) (k .kept .numbersLong) (k .kept .count) (flippedTo back-of)
         (flipped-whole back-of) (flipped-is back-of)
 
     pub counted-less : (limit - (done + 1)) * stepWeight + slack (boxOf n (flippedTo back-of .lower) (flippedTo back-of .upper)) < (limit - done) * stepWeight + slack (boxOf n (level .lower) (level .upper))
-    unfolding coreOver model.levels levelOf
-    counted-less =
-        let f = counted-on .fits .levels .0 in
-        omega (arith, slack-small (boxOf n (flippedTo back-of .lower) (flippedTo back-of .upper)) (f .range) (omega (arith, f .box, r .counts .few)), k .left)
+    unfolding coreOver levelOf
+    counted-less = omega (arith, core-slack _ (counted-on .fits) (r .counts .few), k .left)

@@ -22,30 +22,32 @@ use Rattle.layout.specs.Rows.{inputAt, boxOf}
 use Rattle.validity.proofs.Boxes.{Ordered, OpenAt, first-open, lowHalf, low-slack, set-lower-ordered, set-upper-ordered, set-lower-slack, set-upper-slack}
 use Rattle.validity.proofs.Moves.{Clear, Chosen}
 use Rattle.validity.proofs.States.{deepest-ordered}
-use Rattle.state.specs.View.{levelOf, levelsFrom, keptCuts, coreOver, numberFor}
+use Rattle.state.specs.View.{levelOf, levelsFrom, coreOver, numberFor}
 use Rattle.state.specs.Change.{Whole, decidedAt}
 use Rattle.state.specs.declared.Level.{Level}
 use Rattle.state.proofs.Levels.{level-decided}
 use Rattle.propagate.specs.Moves.{stopOf}
-use Rattle.propagate.specs.Propagation.{Propagation, propagation, propagationOf}
+use Rattle.propagate.specs.Propagation.{Propagation, propagation, mostCounted, propagationOf}
 use Rattle.propagate.specs.Ready.{Ready}
 use Rattle.propagate.specs.Divided.{keptOver}
-use Rattle.propagate.specs.declared.propagate.Found.{Found}
+use Rattle.propagate.specs.declared.propagate.Propagated.{Propagated}
 use Rattle.propagate.proofs.Warning.{length-over, over-input}
 use Rattle.propagate.proofs.Fuel.{propagation-keeps}
-use Rattle.propagate.proofs.States.{state-ready, state-descent, state-fits, state-chosen}
+use Rattle.propagate.proofs.States.{state-ready, state-descent, state-count, state-fits, state-chosen}
 use Rattle.engine.specs.Advancing.{Buffered}
 use Rattle.engine.specs.Learning.{Learnable}
 use Rattle.engine.proofs.Measures.{stepWeight}
 use Rattle.engine.proofs.Running.{Running, Propagates, coreHere, depth-here, decided-variable}
 
--- ---- propagation does not widen a box
-slack-propagated : (ks : List Constraint) (number : ℕ → ℕ) (l : model.Level) → Ordered (l .box) → slack (propagation ks number l .level .box) ≤ slack (l .box)
-slack-propagated ks number l o =
-    propagation-keeps ks number (λ k. Ordered (k .box) × (slack (k .box) ≤ slack (l .box))) (λ k p. p .0)
-    (λ k j i v p r. unfold model.raiseLower in (set-lower-ordered i v (k .box) (p .0) (r .fits), omega (arith, set-lower-slack i v (k .box) (r .variable) (p .0) (r .better) (r .fits), p .1)))
-    (λ k j i v p r. unfold model.lowerUpper in (set-upper-ordered i v (k .box) (p .0) (r .fits), omega (arith, set-upper-slack i v (k .box) (r .variable) (p .0) (r .fits) (r .better), p .1)))
-    l (o, omega arith) .holds .1
+-- ---- each bound that propagation sets takes one from the slack, or more
+slack-propagated : (ks : List Constraint) (number : ℕ → ℕ) (l : model.Level) (c : ℕ) → Ordered (l .box) →
+    let p = propagation ks number l c in
+    (c ≤ p .count) × (p .count + slack (p .level .box) ≤ c + slack (l .box))
+slack-propagated ks number l c o =
+    propagation-keeps ks number (λ k d. Ordered (k .box) × ((c ≤ d) × (d + slack (k .box) ≤ c + slack (l .box)))) (λ k d p. p .0)
+    (λ k d j i v p r. unfold model.raiseLower in (set-lower-ordered i v (k .box) (p .0) (r .fits), (omega (arith, p .1 .0), omega (arith, set-lower-slack i v (k .box) (r .variable) (p .0) (r .better) (r .fits), p .1 .1))))
+    (λ k d j i v p r. unfold model.lowerUpper in (set-upper-ordered i v (k .box) (p .0) (r .fits), (omega (arith, p .1 .0), omega (arith, set-upper-slack i v (k .box) (r .variable) (p .0) (r .fits) (r .better), p .1 .1))))
+    l c (o, (omega arith, omega arith)) .holds .1
 
 -- the buffer has the length that it had
 buffered-length : (keep : Bool) (blocks : List (List ℕ)) (old now : List ℕ) (done limit : ℕ) → length blocks ≡ done → length (joined blocks) ≡ blockLength * done → done ≤ limit →
@@ -61,7 +63,7 @@ clear-at (k ∷ ks) box zero c h = not-true (falsified k box) (true-of _ (c .0))
 clear-at (k ∷ ks) box (suc j) c h = clear-at ks box j (c .1) (omega arith)
 
 module _ {s : model.Search} {old : List ℕ} {limit : ℕ} {keep : Bool} {lines divisors : List ℤ} {n m budget : ℕ} {now : List ℕ} {rows : List ℤ} {numbers : List ℕ} {levels : List Level} {made conflicts depth : ℕ}
-    {level before : Level} {start done : ℕ} (r : Running s old limit keep lines divisors n m budget now rows numbers levels made conflicts depth level before start done) where
+    {level before : Level} {start done earlier tally : ℕ} (r : Running s old limit keep lines divisors n m budget now rows numbers levels made conflicts depth level before start done earlier tally) where
   pub depth-small : depth ≤ 32
   depth-small = omega (arith, depth-here lines divisors n m rows numbers levels made depth level (r .fits), r .counts .few)
 
@@ -78,32 +80,43 @@ module _ {s : model.Search} {old : List ℕ} {limit : ℕ} {keep : Bool} {lines 
   unfolding coreOver
   box-ordered = deepest-ordered (coreHere lines divisors n m rows numbers levels made depth level) (r .fits)
 
-  module _ (here : Level) (found : Found) (e : propagationOf n here found ≡ propagation (keptOver n m made rows lines divisors) (numberFor m made) (levelOf n level)) where
-    pub propagates : (q : Move) → stopOf found ≡ q → Propagates (coreHere lines divisors n m rows numbers levels made depth level) (coreHere lines divisors n m rows numbers levels made depth here) q
+  -- propagation counts from the tally on
+  pub countable : tally + slack (boxOf n (level .lower) (level .upper)) ≤ mostCounted
+  unfolding coreOver levelOf
+  countable = omega (arith, r .counted .few, r .counted .fits, r .counts .afford, r .counts .limited)
+
+  module _ (here : Level) (found : Propagated) (e : propagationOf n here found ≡ propagation (keptOver n m made rows lines divisors) (numberFor m made) (levelOf n level) tally) where
+    counts-here : (tally ≤ found .count) × (found .count + slack (levelOf n here .box) ≤ tally + slack (levelOf n level .box))
+    unfolding propagationOf
+    counts-here =
+        subst (λ (q : Propagation). (tally ≤ q .count) × (q .count + slack (q .level .box) ≤ tally + slack (levelOf n level .box))) (sym e) (slack-propagated (keptOver n m made rows lines divisors) (numberFor m made) (levelOf n level) tally box-ordered)
+
+    pub propagates : (q : Move) → stopOf (found .found) ≡ q → Propagates (coreHere lines divisors n m rows numbers levels made depth level) (coreHere lines divisors n m rows numbers levels made depth here) q tally (found .count)
     propagates q f =
         let ls = levelsFrom n levels depth in
         let d = coreHere lines divisors n m rows numbers levels made depth here in
-        let chosen : Chosen (model.kept d) (d .deepest .box) (stopOf found) =
-        unfold coreOver model.kept levelOf in state-chosen n m made rows lines divisors numbers level ls (r .apart) (r .fits) here found e in
-        subst (Propagates (coreHere lines divisors n m rows numbers levels made depth level) d) f
-        (record { fits = state-fits n m made rows lines divisors numbers level ls (r .apart) (r .fits) here found e; next = state-descent n m made rows lines divisors numbers level ls (r .apart) (r .fits) here found e; chosen = chosen })
+        let chosen : Chosen (model.kept d) (d .deepest .box) (stopOf (found .found)) =
+        unfold coreOver model.kept levelOf in state-chosen n m made rows lines divisors numbers level ls (r .apart) (r .fits) here tally found e in
+        subst (λ (x : Move). Propagates (coreHere lines divisors n m rows numbers levels made depth level) d x tally (found .count)) f
+        (record {
+          fits = state-fits n m made rows lines divisors numbers level ls (r .apart) (r .fits) here tally found e;
+          next = state-descent n m made rows lines divisors numbers level ls (r .apart) (r .fits) here tally found e;
+          chosen = chosen;
+          count = state-count n m made rows lines divisors numbers level ls (r .apart) (r .fits) here tally found e;
+          less = unfold coreOver in counts-here .1;
+        })
 
     -- the level where propagation stopped is ready too
-    pub ready-here : (q : Move) → stopOf found ≡ q → Whole here → Ready n m made rows here
+    pub ready-here : (q : Move) → stopOf (found .found) ≡ q → Whole here → Ready n m made rows here
     ready-here q f w = state-ready n m made rows lines divisors numbers here (levelsFrom n levels depth) (r .apart) (propagates q f .fits) (r .counts .few) (r .counts .inputs) made-small w
 
     -- a decision: its variable, and the measure falls
-    pub decided-here : (i : ℕ) → stopOf found ≡ decide i → i < n
+    pub decided-here : (i : ℕ) → stopOf (found .found) ≡ decide i → i < n
     decided-here i f =
         let q = propagates (decide i) f in
         unfold coreOver in decided-variable (coreHere lines divisors n m rows numbers levels made depth here) i (q .fits) (q .chosen)
 
-    slack-here : slack (levelOf n here .box) ≤ slack (levelOf n level .box)
-    unfolding propagationOf
-    slack-here =
-        subst (λ (q : Propagation). slack (q .level .box) ≤ slack (levelOf n level .box)) (sym e) (slack-propagated (keptOver n m made rows lines divisors) (numberFor m made) (levelOf n level) box-ordered)
-
-    pub decide-less : (i : ℕ) → stopOf found ≡ decide i → Whole here →
+    pub decide-less : (i : ℕ) → stopOf (found .found) ≡ decide i → Whole here →
         (limit - done) * stepWeight + slack (boxOf n (decidedAt here i .lower) (decidedAt here i .upper)) <
         (limit - done) * stepWeight + slack (boxOf n (level .lower) (level .upper))
     decide-less i f w =
@@ -114,12 +127,12 @@ module _ {s : model.Search} {old : List ℕ} {limit : ℕ} {keep : Bool} {lines 
         let k : levelOf n (decidedAt here i) .box ≡ lowHalf i (levelOf n here .box) =
         unfold model.decideAt lowHalf in ap (λ (x : model.Level). x .box) (level-decided n here w (r .counts .few) i (decided-here i f)) in
         let less : slack (levelOf n (decidedAt here i) .box) < slack (levelOf n level .box) =
-        rw k (omega (arith, low-slack i (levelOf n here .box) o a, slack-here)) in
+        rw k (omega (arith, low-slack i (levelOf n here .box) o a, counts-here .0, counts-here .1)) in
         let small : slack (boxOf n (decidedAt here i .lower) (decidedAt here i .upper)) < slack (boxOf n (level .lower) (level .upper)) = unfold levelOf in less in
         omega arith
 
     -- a conflict: what learning from it asks
-    pub learnable : (j : ℕ) → stopOf found ≡ conflict j → Whole here × T (allOf boundsInRange (boxOf n (here .lower) (here .upper))) → Learnable n m made rows numbers here j
+    pub learnable : (j : ℕ) → stopOf (found .found) ≡ conflict j → Whole here × T (allOf boundsInRange (boxOf n (here .lower) (here .upper))) → Learnable n m made rows numbers here j
     learnable j f w =
         let q = propagates (conflict j) f in
         let g = ready in
@@ -137,7 +150,7 @@ module _ {s : model.Search} {old : List ℕ} {limit : ℕ} {keep : Bool} {lines 
         }
 
     -- a decision is taken only where no input is falsified
-    pub clear-here : (i : ℕ) → stopOf found ≡ decide i → (j : ℕ) → j < m → falsified (inputAt n lines divisors j) (boxOf n (here .lower) (here .upper)) ≡ false
+    pub clear-here : (i : ℕ) → stopOf (found .found) ≡ decide i → (j : ℕ) → j < m → falsified (inputAt n lines divisors j) (boxOf n (here .lower) (here .upper)) ≡ false
     clear-here i f j h =
         let q = propagates (decide i) f in
         let c : Clear (keptOver n m made rows lines divisors) (boxOf n (here .lower) (here .upper)) = unfold coreOver model.kept levelOf in q .chosen .clear in

@@ -24,7 +24,8 @@ use Rattle.propagate.specs.Divided.{coreApart, Apart}
 use Rattle.propagate.proofs.States.{sizes}
 use Rattle.engine.specs.Advancing.{Starts, Buffered}
 use Rattle.engine.specs.Setting.{RowsPut}
-use Rattle.engine.proofs.Running.{Counts, Running, stepStart, coreHere}
+use Rattle.engine.proofs.Measures.{core-slack}
+use Rattle.engine.proofs.Running.{Counts, Running, stepStart, coreHere, starts-tally}
 use Rattle.engine.proofs.Arms.{stateAt}
 use Rattle.engine.proofs.Blanking.{cuts-put, inputs-restored, apart-starts}
 
@@ -39,7 +40,7 @@ none-written keep buffer = record { written = λ k. refl; untouched = λ k. refl
 -- the state at the start, by its parts
 abbrev pub startOf : Search → Search
 startOf s =
-    record { n = s .n; m = s .m; budget = s .budget; conflicts = s .conflicts; made = s .made; depth = s .depth; status = Undecided; rows = s .rows; divisors = s .divisors; numbers = s .numbers; levels = s .levels }
+    record { n = s .n; m = s .m; budget = s .budget; conflicts = s .conflicts; propagations = s .propagations; made = s .made; depth = s .depth; status = Undecided; rows = s .rows; divisors = s .divisors; numbers = s .numbers; levels = s .levels }
 
 pub view-unmarked : (s : Search) → s .status ≡ Undecided → view (startOf s) ≡ view s
 unfolding view coreOf inputsOf
@@ -48,7 +49,7 @@ view-unmarked s e = rw e
 -- the state at the start, with the rows of the divisor constraints blanked
 start-step : (s : Search) (l : Level) (rows : List ℤ) → s .status ≡ Undecided → levelAt (s .n) (s .levels) (s .depth) ≡ levelOf (s .n) l →
     tab (rowAt (s .n) rows) (s .m) (keptCuts (s .made)) ≡ tab (rowAt (s .n) (s .rows)) (s .m) (keptCuts (s .made)) →
-    view s ≡ stepStart (s .rows) (s .divisors) (s .n) (s .m) (s .budget) (s .conflicts) rows (s .numbers) (s .levels) (s .made) l (s .depth)
+    view s ≡ stepStart (s .rows) (s .divisors) (s .n) (s .m) (s .budget) (s .conflicts) rows (s .numbers) (s .levels) (s .made) l (s .depth) (s .propagations)
 unfolding view coreOf inputsOf coreOver statusOf
 start-step s l rows u h e = rw (u, h, e)
 
@@ -80,7 +81,7 @@ module _ {s : Search} {limit : ℕ} {keep : Bool} {room : ℕ} {buffer : List �
         (subst (λ (k : model.Level). CoreFits (coreApart (s .n) (s .m) (s .made) (s .rows) (s .rows) (s .divisors) (s .numbers) k (levelsFrom (s .n) (s .levels) (s .depth)))) h (unfold coreOf inputsOf in start-fits))
 
     pub running-starts : (l : Level) → l ≡ getD (s .levels) (s .depth) noLevel → Whole l → length (s .numbers) ≡ 64 → length (s .levels) ≡ 33 →
-        Running (view (startOf s)) buffer limit keep (s .rows) (s .divisors) (s .n) (s .m) (s .budget) buffer rows (s .numbers) (s .levels) (s .made) (s .conflicts) (s .depth) l l (s .depth) 0
+        Running (view (startOf s)) buffer limit keep (s .rows) (s .divisors) (s .n) (s .m) (s .budget) buffer rows (s .numbers) (s .levels) (s .made) (s .conflicts) (s .depth) l l (s .depth) 0 (s .propagations) (s .propagations)
     running-starts l e w nl ll =
         let h : levelAt (s .n) (s .levels) (s .depth) ≡ levelOf (s .n) l = unfold levelAt in ap (levelOf (s .n)) (sym e) in
         let z : limit - 0 ≡ limit = omega arith in
@@ -95,6 +96,7 @@ module _ {s : Search} {limit : ℕ} {keep : Bool} {room : ℕ} {buffer : List �
           apart = start-apart;
           fits = start-here l h;
           from = omega arith;
+          counted = starts-tally _ (s .conflicts) (s .propagations) (omega (arith, i .few)) (core-slack _ (start-here l h) (unfold coreOver in start-counts .few));
           turn = refl;
           within = omega arith;
           blocks = [];
@@ -106,10 +108,10 @@ module _ {s : Search} {limit : ℕ} {keep : Bool} {room : ℕ} {buffer : List �
         })
 
 -- ---- the state at the end, with those rows put back
-pub view-restored : (n m budget conflicts made depth : ℕ) (status : Status) (rows lines divisors after : List ℤ) (numbers : List ℕ) (levels : List Level) (l : Level) →
+pub view-restored : (n m budget conflicts tally made depth : ℕ) (status : Status) (rows lines divisors after : List ℤ) (numbers : List ℕ) (levels : List Level) (l : Level) →
     Apart n m rows lines divisors → RowsPut n m divisors lines rows after → m ≤ maxConstraints → depth < length levels →
-    view (record { n = n; m = m; budget = budget; conflicts = conflicts; made = made; depth = depth; status = status; rows = after; divisors = divisors; numbers = numbers; levels = set levels depth l }) ≡
-    stateAt lines divisors n m budget conflicts made depth (statusOf status) rows numbers levels l
+    view (record { n = n; m = m; budget = budget; conflicts = conflicts; propagations = tally; made = made; depth = depth; status = status; rows = after; divisors = divisors; numbers = numbers; levels = set levels depth l }) ≡
+    stateAt lines divisors n m budget conflicts made depth (statusOf status) rows numbers levels l tally
 unfolding view coreOf inputsOf coreOver
-view-restored n m budget conflicts made depth status rows lines divisors after numbers levels l a p few h =
+view-restored n m budget conflicts tally made depth status rows lines divisors after numbers levels l a p few h =
     rw (inputs-restored n m rows lines divisors after a p few, cuts-put n m made divisors lines rows after p few, level-here n levels depth l h, levels-above n levels depth depth l (omega arith))

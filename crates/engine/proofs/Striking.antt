@@ -2,15 +2,16 @@
 use Prim.Native.Nat.{ℕ, zero, suc, _+_, _-_, _*_, _≤_, _<_}
 use native.Mathlib.Omega.{arith}
 use native.Mathlib.Nat.{mul-zero, mul-suc, mul-le-mul-left}
-use borrow.Author.Tests.{eqb-true, eqb-false}
-use mathlib.Core.Bool.{Bool, true, false}
+use borrow.Author.Tests.{eqb-true, eqb-false, ltb-true, ltb-false}
+use mathlib.Core.Bool.{Bool, true, false, _||_}
 use mathlib.Core.List.{List, [], _∷_, _++_, append-assoc, append-nil}
 use mathlib.Core.Logic.{_⊎_, inl, inr, ⊎-elim}
 use mathlib.Core.Path.{_≡_, refl, sym, ap, subst, _∙_}
-use lib.Dec.{eqb}
+use lib.Dec.{eqb, ltb}
 use lib.IntN.{ℤ}
 use lib.ListN.{set, length, drop, length-set, length-append}
 use Rattle.model.specs.Lists.{tab}
+use Rattle.model.specs.Ranges.{maxPropagations}
 use Rattle.model.specs.Constraint.{Bounds}
 use Rattle.model.specs.Points.{Point}
 use Rattle.model.specs.Search as model
@@ -18,13 +19,14 @@ use Rattle.model.specs.Move.{finish, slack}
 use Rattle.model.specs.Conflict.{backUp}
 use Rattle.model.specs.Step.{Verdict, goOn, noSolution, outOfBudget, solution, lowers, withStatus}
 use Rattle.model.specs.Trace.{Trace, advance, joined}
-use Rattle.model.specs.Exclude.{Exclusion, struck, ended, unsolved, unchanged, excludeAt, excludeBy, exclude}
+use Rattle.model.specs.Exclude.{Exclusion, struck, ended, unsolved, Excluded, unchanged, excludeAt, excludeBy, exclude, excludeWithin}
 use Rattle.model.specs.Listing.{Listing, endsWith, listAfter, goesOn}
-use Rattle.lists.proofs.Bools.{clash, or-true, or-false}
+use Rattle.lists.proofs.Bools.{clash, or-true, or-false, lt-or-le}
 use Rattle.lists.proofs.Tab.{length-tab, tab-map}
 use Rattle.layout.specs.Rows.{numberIn, boundsAt, boxOf}
 use Rattle.validity.proofs.States.{CoreFits}
 use Rattle.validity.proofs.Conflicts.{back-fits}
+use Rattle.validity.proofs.Excluding.{within-exclude, past-exclude}
 use Rattle.validity.proofs.Steps.{impossible}
 use Rattle.state.specs.View.{levelOf, coreOver, view}
 use Rattle.state.specs.declared.Level.{Level}
@@ -34,8 +36,8 @@ use Rattle.engine.specs.Advancing.{verdictOf, traceOf, advanceOver, Adva
 use Rattle.backtrack.specs.Struck.{lastOf, ValuesPut}
 use Rattle.engine.specs.declared.Ending.{Ending}
 use Rattle.engine.specs.declared.Ending.the-variants.{GoOn, NoSolution, OutOfBudget, Solution}
-use Rattle.engine.proofs.Measures.{stepWeight, slack-small}
-use Rattle.engine.proofs.Running.{Running, Propagates, stepStart, coreHere}
+use Rattle.engine.proofs.Measures.{stepWeight, core-slack}
+use Rattle.engine.proofs.Running.{Running, Propagates, stepStart, coreHere, starts-tally}
 use Rattle.engine.proofs.Arms.{stateAt, Reaches, finishes}
 use Rattle.engine.proofs.Buffers.{joined-length, part-more}
 use Rattle.engine.proofs.Starting.{with-none}
@@ -57,15 +59,27 @@ excluded-at-0 model.undecided s d e = impossible (cc)
 excluded-at-0 model.infeasible s d e = impossible (cc)
 excluded-at-0 model.solved s d e = let q : ended ≡ struck = sym (ap (λ (k : ℕ). excludeAt k s .answer) d) ∙ e in impossible (cc)
 
--- they end with the first turns that end otherwise, or that leave nothing to strike
-list-ends : (spare limit : ℕ) (s : model.Search) (t : Trace) (d : ℕ) → advance limit s ≡ t → model.depth (t .state .core) ≡ d → ((x : Point) → t .verdict ≡ solution x → (spare ≡ 0) ⊎ (d ≡ 0)) → advanceOver spare limit s ≡ endsWith t
-unfolding advanceOver
-list-ends zero limit s t d e q f = ap endsWith e
-list-ends (suc spare) limit s t d e q f =
-    rw e (not-struck (t .verdict) (exclude (t .state) .answer) t _
-    (λ x h. ⊎-elim (λ (z : suc spare ≡ 0). absurd (omega arith)) (λ (z : d ≡ 0). unfold exclude in excluded-at-0 (t .state .status) (t .state) (q ∙ z)) (f x h)))
+-- inside a listing: of a state that a call would refuse, and at depth 0, nothing is struck
+past-struck : (s : model.Search) → maxPropagations < s .propagations → ¬ (excludeWithin s .answer ≡ struck)
+unfolding unchanged
+past-struck s h e = let q : unsolved ≡ struck = ap (λ (x : Excluded). x .answer) (sym (past-exclude s h)) ∙ e in impossible (cc)
 
-list-goes : (spare limit : ℕ) (s : model.Search) (t : Trace) (x : Point) (b : model.Search) → advance limit s ≡ t → t .verdict ≡ solution x → exclude (t .state) ≡ record { answer = struck; state = b } →
+within-struck : (s : model.Search) → (model.depth (s .core) ≡ 0) ⊎ (maxPropagations < s .propagations) → ¬ (excludeWithin s .answer ≡ struck)
+within-struck s (inr h) e = past-struck s h e
+within-struck s (inl z) e =
+    ⊎-elim (λ (h : maxPropagations < s .propagations). past-struck s h e)
+    (λ (h : s .propagations ≤ maxPropagations). unfold exclude in excluded-at-0 (s .status) s z (ap (λ (x : Excluded). x .answer) (sym (within-exclude s h)) ∙ e)) (lt-or-le maxPropagations (s .propagations))
+
+-- they end with the first turns that end otherwise, or that leave nothing to strike
+list-ends : (spare limit : ℕ) (s : model.Search) (t : Trace) (d k : ℕ) → advance limit s ≡ t → model.depth (t .state .core) ≡ d → t .state .propagations ≡ k →
+    ((x : Point) → t .verdict ≡ solution x → (spare ≡ 0) ⊎ ((d ≡ 0) ⊎ (maxPropagations < k))) → advanceOver spare limit s ≡ endsWith t
+unfolding advanceOver
+list-ends zero limit s t d k e q p f = ap endsWith e
+list-ends (suc spare) limit s t d k e q p f =
+    rw e (not-struck (t .verdict) (excludeWithin (t .state) .answer) t _
+    (λ x h. ⊎-elim (λ (z : suc spare ≡ 0). absurd (omega arith)) (λ (z : (d ≡ 0) ⊎ (maxPropagations < k)). within-struck (t .state) (rw (q, p) z)) (f x h)))
+
+list-goes : (spare limit : ℕ) (s : model.Search) (t : Trace) (x : Point) (b : model.Search) → advance limit s ≡ t → t .verdict ≡ solution x → excludeWithin (t .state) ≡ record { answer = struck; state = b } →
     advanceOver (suc spare) limit s ≡ listAfter (x ∷ []) (advanceOver spare (limit - length (t .blocks)) b)
 unfolding advanceOver
 list-goes spare limit s t x b e f g = rw (e, f, g) (unfold goesOn in refl)
@@ -79,14 +93,18 @@ unfolding listAfter endsWith
 after-end a t = rw append-nil
 
 -- ---- the test of the last solution
-pub last-final : (depth many room : ℕ) (b : Bool) → b ≡ lastOf depth many room → b ≡ true → (room - many ≡ 0) ⊎ (depth ≡ 0)
-last-final depth many room b e t =
-    ⊎-elim (λ (z : eqb depth 0 ≡ true). inr (eqb-true depth 0 z)) (λ (z : eqb many room ≡ true). inl (omega (arith, eqb-true many room z))) (or-true (eqb depth 0) (eqb many room) (sym e ∙ t))
+pub last-final : (depth many room k : ℕ) (b : Bool) → b ≡ lastOf depth many room k → b ≡ true → (room - many ≡ 0) ⊎ ((depth ≡ 0) ⊎ (maxPropagations < k))
+last-final depth many room k b e t =
+    ⊎-elim (λ (z : eqb depth 0 ≡ true). inr (inl (eqb-true depth 0 z)))
+    (λ (z : (eqb many room || ltb maxPropagations k) ≡ true).
+    ⊎-elim (λ (y : eqb many room ≡ true). inl (omega (arith, eqb-true many room y))) (λ (y : ltb maxPropagations k ≡ true). inr (inr (ltb-true maxPropagations k y))) (or-true (eqb many room) (ltb maxPropagations k) z))
+    (or-true (eqb depth 0) (eqb many room || ltb maxPropagations k) (sym e ∙ t))
 
-pub not-last : (depth many room : ℕ) (b : Bool) → b ≡ lastOf depth many room → b ≡ false → many ≤ room → (1 ≤ depth) × (many < room)
-not-last depth many room b e t h =
-    let z = or-false (eqb depth 0) (eqb many room) (sym e ∙ t) in
-    (omega (arith, eqb-false depth 0 (z .0)), omega (arith, eqb-false many room (z .1)))
+pub not-last : (depth many room k : ℕ) (b : Bool) → b ≡ lastOf depth many room k → b ≡ false → many ≤ room → (1 ≤ depth) × ((many < room) × (k ≤ maxPropagations))
+not-last depth many room k b e t h =
+    let z = or-false (eqb depth 0) (eqb many room || ltb maxPropagations k) (sym e ∙ t) in
+    let y = or-false (eqb many room) (ltb maxPropagations k) (z .1) in
+    (omega (arith, eqb-false depth 0 (z .0)), (omega (arith, eqb-false many room (y .0)), ltb-false maxPropagations k (y .1)))
 
 -- where there is room for it, no blocks are kept
 pub none-kept : (keep : Bool) (many room : ℕ) → (keep ≡ true → room ≡ 0) → many < room → keep ≡ false
@@ -125,7 +143,7 @@ module _ {s : model.Search} {limit room n : ℕ} {old : List ℤ} where
         record { gone = k .gone; base = k .base; count = k .count; few = k .few; less = k .less; long = k .long; way = k .way; listed = k .listed; size = k .size; here = h }
 
     -- one more, after turns that found it
-    pub struck-more : many < room → (t : Trace) (values : List ℤ) (b : model.Search) → advance left (k .base) ≡ t → t .verdict ≡ solution (tab (numberIn values) 0 n) → exclude (t .state) ≡ record { answer = struck; state = b } →
+    pub struck-more : many < room → (t : Trace) (values : List ℤ) (b : model.Search) → advance left (k .base) ≡ t → t .verdict ≡ solution (tab (numberIn values) 0 n) → excludeWithin (t .state) ≡ record { answer = struck; state = b } →
         (next : List ℤ) → ValuesPut n many values now next → length next ≡ length now → {There : model.Search → Type 0} → There b →
         Struck s limit room n old (left - length (t .blocks)) (many + 1) next There
     struck-more more t values b e f g next q size h =
@@ -162,22 +180,22 @@ unfolding model.depth coreOver
 depth-at lines divisors n m rows numbers levels made depth l = length-levels n levels depth
 
 pub concludes : {s : model.Search} {limit room n left many done : ℕ} {list list₁ : List ℤ} {Here : model.Search → Type 0} (k : Struck s limit room n list left many list₁ Here) → s .core .variables ≡ n →
-    {keep : Bool} {ending : Ending} {old now : List ℕ} (lines divisors : List ℤ) (m budget conflicts made depth : ℕ) (status : model.Status) (rows : List ℤ) (numbers : List ℕ) (levels : List Level) (l : Level) →
-    Reaches (k .base) left keep ending done (stateAt lines divisors n m budget conflicts made depth status rows numbers levels l) old now → (ending ≡ Solution → (room - many ≡ 0) ⊎ (depth ≡ 0)) →
-    (u : Search) → view u ≡ stateAt lines divisors n m budget conflicts made depth status rows numbers levels l →
+    {keep : Bool} {ending : Ending} {old now : List ℕ} (lines divisors : List ℤ) (m budget conflicts made depth : ℕ) (status : model.Status) (rows : List ℤ) (numbers : List ℕ) (levels : List Level) (l : Level) (tally : ℕ) →
+    Reaches (k .base) left keep ending done (stateAt lines divisors n m budget conflicts made depth status rows numbers levels l tally) old now → (ending ≡ Solution → (room - many ≡ 0) ⊎ ((depth ≡ 0) ⊎ (maxPropagations < tally))) →
+    (u : Search) → view u ≡ stateAt lines divisors n m budget conflicts made depth status rows numbers levels l tally →
     Advances s limit keep room (record { ending = ending; struck = many; blocks = done; state = u }) old now list list₁
 unfolding traceOf view
-concludes {s} {limit} {room} {n} {left} {many} {list₁ = list₁} k v {ending = ending} lines divisors m budget conflicts made depth status rows numbers levels here r f u e =
-    let t = stateAt lines divisors n m budget conflicts made depth status rows numbers levels here in
-    let l : Trace = record { verdict = verdictOf ending t; count = t .conflicts; blocks = r .blocks; state = t } in
+concludes {s} {limit} {room} {n} {left} {many} {list₁ = list₁} k v {ending = ending} lines divisors m budget conflicts made depth status rows numbers levels here tally r f u e =
+    let t = stateAt lines divisors n m budget conflicts made depth status rows numbers levels here tally in
+    let l : Trace = record { verdict = verdictOf ending t; count = t .conflicts; propagations = tally; blocks = r .blocks; state = t } in
     let way : record { struck = k .gone; last = l } ≡ advanceOver room limit s =
-    sym (k .way ∙ ap (listAfter (k .gone)) (list-ends (room - many) left (k .base) l depth (sym (r .trace)) (depth-at lines divisors n m rows numbers levels made depth here) (λ x h. f (ending-solution ending t x h))) ∙ after-end (k .gone) l) in
+    sym (k .way ∙ ap (listAfter (k .gone)) (list-ends (room - many) left (k .base) l depth tally (sym (r .trace)) (depth-at lines divisors n m rows numbers levels made depth here) refl (λ x h. f (ending-solution ending t x h))) ∙ after-end (k .gone) l) in
     record {
       struck = k .gone;
       howMany = sym (k .count);
       blocks = r .blocks;
       many = r .many;
-      trace = subst (λ (x : model.Search). record { struck = k .gone; last = record { verdict = verdictOf ending x; count = x .conflicts; blocks = r .blocks; state = x } } ≡ advanceOver room limit s) (sym e) way;
+      trace = subst (λ (x : model.Search). record { struck = k .gone; last = record { verdict = verdictOf ending x; count = x .conflicts; propagations = x .propagations; blocks = r .blocks; state = x } } ≡ advanceOver room limit s) (sym e) way;
       buffer = r .buffer;
       listed = rw v (k .listed);
     }
@@ -188,18 +206,18 @@ unfolding levelOf boxOf lowers
 lowers-are n l = tab-map (λ (b : Bounds). b .lower) (boundsAt (l .lower) (l .upper)) 0 n ∙ (unfold boundsAt in refl)
 
 module _ {s : model.Search} {limit room n : ℕ} {list : List ℤ} {left many : ℕ} {list₁ : List ℤ} {Here : model.Search → Type 0} (u : Struck s limit room n list left many list₁ Here)
-    {old : List ℕ} {keep : Bool} {lines divisors : List ℤ} {m budget : ℕ} {now : List ℕ} {rows : List ℤ} {numbers : List ℕ} {levels : List Level} {made conflicts depth : ℕ} {level before : Level} {start done : ℕ}
-    (r : Running (u .base) old left keep lines divisors n m budget now rows numbers levels made conflicts depth level before start done)
-    {here : Level} (k : Back lines divisors n m rows numbers levels made depth here depth made rows) where
+    {old : List ℕ} {keep : Bool} {lines divisors : List ℤ} {m budget : ℕ} {now : List ℕ} {rows : List ℤ} {numbers : List ℕ} {levels : List Level} {made conflicts depth : ℕ} {level before : Level} {start done earlier tally : ℕ}
+    (r : Running (u .base) old left keep lines divisors n m budget now rows numbers levels made conflicts depth level before start done earlier tally)
+    (tally₁ : ℕ) {here : Level} (k : Back lines divisors n m rows numbers levels made depth here depth made rows) where
   abbrev core : model.Core
   core = coreHere lines divisors n m rows numbers levels made depth here
 
   abbrev found : model.Search
-  found = stateAt lines divisors n m budget conflicts made depth model.solved rows numbers levels here
+  found = stateAt lines divisors n m budget conflicts made depth model.solved rows numbers levels here tally₁
 
   -- the state after the strike
   abbrev pub struckTo : model.Search
-  struckTo = stepStart lines divisors n m budget conflicts rows numbers (set levels depth here) made (flippedTo k) (depth - 1)
+  struckTo = stepStart lines divisors n m budget conflicts rows numbers (set levels depth here) made (flippedTo k) (depth - 1) tally₁
 
   deep-here : model.depth core ≡ suc (depth - 1)
   deep-here = depth-at lines divisors n m rows numbers levels made depth here ∙ one-more k
@@ -207,24 +225,25 @@ module _ {s : model.Search} {limit room n : ℕ} {list : List ℤ} {left many : 
   backed : backUp (suc (depth - 1)) core ≡ coreHere lines divisors n m rows numbers (set levels depth here) made (depth - 1) (flippedTo k)
   backed = backed-here lines divisors n m made rows numbers levels depth here (inside k) (depth - 1) (omega (arith, k .some)) (flippedTo k) (flipped-is k)
 
-  strikes : exclude found ≡ record { answer = struck; state = struckTo }
+  strikes : tally₁ ≤ maxPropagations → excludeWithin found ≡ record { answer = struck; state = struckTo }
   unfolding exclude excludeBy
-  strikes =
-      ap (λ (d : ℕ). excludeAt d found) deep-here ∙
-      (unfold excludeAt withStatus in ap (λ (c : model.Core). record { answer = struck; state = record { core = c; budget = budget; conflicts = conflicts; status = model.undecided } }) backed)
+  strikes few =
+      within-exclude found few ∙ ap (λ (d : ℕ). excludeAt d found) deep-here ∙
+      (unfold excludeAt withStatus in ap (λ (c : model.Core). record { answer = struck; state = record { core = c; budget = budget; conflicts = conflicts; propagations = tally₁; status = model.undecided } }) backed)
 
-  pub struck-out : many < room → done < left → Propagates (coreHere lines divisors n m rows numbers levels made depth level) core finish →
+  pub struck-out : many < room → tally₁ ≤ maxPropagations → done < left → Propagates (coreHere lines divisors n m rows numbers levels made depth level) core finish tally tally₁ →
       (next : List ℤ) → ValuesPut n many (here .lower) list₁ next → length next ≡ length list₁ → {There : model.Search → Type 0} → There struckTo → Struck s limit room n list (left - done) (many + 1) next There
   unfolding verdictOf coreOver
-  struck-out more h p next q size {There} t =
-      let f = finishes r here h p in
+  struck-out more few h p next q size {There} t =
+      let f = finishes r here tally₁ h p in
       subst (λ (d : ℕ). Struck s limit room n list (left - d) (many + 1) next There) (sym (f .many))
-      (struck-more u more _ (here .lower) struckTo (sym (f .trace)) (ap solution (lowers-are n here)) strikes next q size t)
+      (struck-more u more _ (here .lower) struckTo (sym (f .trace)) (ap solution (lowers-are n here)) (strikes few) next q size t)
 
   -- the turns go on from there
-  pub struck-on : keep ≡ false → Running struckTo old (left - done) keep lines divisors n m budget now rows numbers (set levels depth here) made conflicts (depth - 1) (flippedTo k) (flippedTo k) (depth - 1) 0
-  struck-on off =
+  pub struck-on : keep ≡ false → tally₁ ≤ maxPropagations → Running struckTo old (left - done) keep lines divisors n m budget now rows numbers (set levels depth here) made conflicts (depth - 1) (flippedTo k) (flippedTo k) (depth - 1) 0 tally₁ tally₁
+  struck-on off few =
       let z : left - done - 0 ≡ left - done = omega arith in
+      let fits = subst CoreFits backed (back-fits (depth - 1) core (k .fits) (omega (arith, deep-here))) in
       record {
         counts = r .counts;
         whole = flipped-whole k;
@@ -233,8 +252,9 @@ module _ {s : model.Search} {limit room n : ℕ} {list : List ℤ} {left many : 
         numbersLong = r .numbersLong;
         levelsLong = length-set levels depth here ∙ r .levelsLong;
         apart = r .apart;
-        fits = subst CoreFits backed (back-fits (depth - 1) core (k .fits) (omega (arith, deep-here)));
+        fits = fits;
         from = omega arith;
+        counted = starts-tally _ conflicts tally₁ (omega arith) (core-slack _ fits (unfold coreOver in r .counts .few));
         turn = refl;
         within = omega arith;
         blocks = [];
@@ -246,9 +266,7 @@ module _ {s : model.Search} {limit room n : ℕ} {list : List ℤ} {left many : 
       }
 
   -- and the loop's measure falls
-  pub struck-less : keep ≡ false → many < room →
+  pub struck-less : keep ≡ false → tally₁ ≤ maxPropagations → many < room →
       (room - (many + 1) + (left - done - 0)) * stepWeight + slack (boxOf n (flippedTo k .lower) (flippedTo k .upper)) < (room - many + (left - done)) * stepWeight + slack (boxOf n (level .lower) (level .upper))
-  unfolding coreOver model.levels levelOf
-  struck-less off more =
-      let f = struck-on off .fits .levels .0 in
-      omega (arith, slack-small (boxOf n (flippedTo k .lower) (flippedTo k .upper)) (f .range) (omega (arith, f .box, r .counts .few)))
+  unfolding coreOver levelOf
+  struck-less off few more = omega (arith, core-slack _ (struck-on off few .fits) (r .counts .few))

@@ -9,7 +9,8 @@ use Rattle.model.specs.Bytes.{blockLength}
 use Rattle.model.specs.Search as model
 use Rattle.model.specs.Step.{Verdict, goOn, noSolution, outOfBudget, solution, lowers}
 use Rattle.model.specs.Trace.{Trace, advance, joined}
-use Rattle.model.specs.Exclude.{exclude}
+use Rattle.model.specs.Ranges.{maxPropagations}
+use Rattle.model.specs.Exclude.{excludeWithin}
 use Rattle.model.specs.Points.{Point}
 use Rattle.model.specs.Listing.{Listing, endsWith, goesOn}
 use Rattle.validity.specs.Valid.{Valid}
@@ -33,14 +34,21 @@ pub record Buffered (keep : Bool) (blocks : List (List ℕ)) (old now : List ℕ
   pub untouched : keep ≡ false → now ≡ old
 
 unfoldable pub traceOf : Advanced → List (List ℕ) → Trace
-traceOf r blocks = record { verdict = verdictOf (r .ending) (view (r .state)); count = r .state .conflicts; blocks = blocks; state = view (r .state) }
+traceOf r blocks =
+    record {
+      verdict = verdictOf (r .ending) (view (r .state));
+      count = r .state .conflicts;
+      propagations = r .state .propagations;
+      blocks = blocks;
+      state = view (r .state);
+    }
 
 -- turns, at most `limit` in all, with each solution struck out before the next, while there is room
 unfoldable pub advanceOver : ℕ → ℕ → model.Search → Listing Trace
 advanceOver zero limit s = endsWith (advance limit s)
 advanceOver (suc room) limit s =
     let t = advance limit s in
-    let e = exclude (t .state) in
+    let e = excludeWithin (t .state) in
     goesOn (t .verdict) (e .answer) t (advanceOver room (limit - length (t .blocks)) (e .state))
 
 -- from a state
@@ -53,10 +61,12 @@ pub record Advances (s : model.Search) (limit : ℕ) (keep : Bool) (room : ℕ) 
   pub buffer : Buffered keep blocks old now
   pub listed : list₁ ≡ joined struck ++ drop (s .core .variables * length struck) list
 
--- what the loop asks: a valid state that is not marked, room for the blocks that are kept, and for the solutions that are struck out
+-- what the loop asks: a valid state that is not marked, N5's count within its limit, room for the blocks that are kept, and for the solutions that are
+-- struck out
 pub record Starts (s : Search) (limit : ℕ) (keep : Bool) (room : ℕ) (buffer : List ℕ) (list : List ℤ) : Type 0 where
   pub valid : Valid (view s)
   pub unmarked : s .status ≡ Undecided
+  pub few : s .propagations ≤ maxPropagations
   pub kept : keep ≡ true → blockLength * limit ≤ length buffer
   pub apart : keep ≡ true → room ≡ 0
   pub roomy : s .n * room ≤ length list

@@ -23,8 +23,8 @@ ghost use Rattle.state.specs.View.{view};
 ghost use Rattle.engine.specs.Advancing.{Starts, Advances};
 
 // At most `limit` turns, to a verdict, the first `room` solutions struck out on the way. The level in hand lies in arrays of its own, and is stored when a
-// decision leaves it; `before` is the level where the turn started, at depth `start`, and what the call gives in the end. The block of each counted
-// conflict goes to the buffer, if blocks are kept.
+// decision leaves it; `before` is the level where the turn started, at depth `start`, with the bounds set in `earlier` turns counted, and what the call
+// gives in the end. The block of each counted conflict goes to the buffer, if blocks are kept.
 pub fn advance(
     s: Search,
     buffer: &mut [u8],
@@ -46,9 +46,11 @@ pub fn advance(
     let mut levels = s.levels;
     let mut made = s.made;
     let mut conflicts = s.conflicts;
+    let mut propagations = s.propagations;
     let mut depth = s.depth;
     let mut before = state::whole(levels[depth]);
     let mut start = depth;
+    let mut earlier = propagations;
     // The turns left since the last strike, how many of them are done, and the strikes.
     let mut left = limit;
     let mut done: usize = 0;
@@ -97,7 +99,7 @@ pub fn advance(
     let mut told = first_indivisible(&lines, &divisors, divided, &lower, &upper, n, m, first);
     let mut going = 0 < left;
     while going {
-        let found = propagate(
+        let stopped = propagate(
             &rows,
             &lines,
             &divisors,
@@ -108,6 +110,7 @@ pub fn advance(
             &inputs,
             &cuts,
             told,
+            propagations,
             &mut lower,
             &mut upper,
             &mut below,
@@ -115,6 +118,8 @@ pub fn advance(
             &mut activities,
             &mut reaches,
         );
+        propagations = stopped.count;
+        let found = stopped.found;
         let here = Level {
             lower,
             upper,
@@ -153,9 +158,10 @@ pub fn advance(
                 continue;
             }
             Found::Finish => {
-                if is_last(depth, struck, room) {
+                if is_last(depth, struck, room, propagations) {
                     before = here;
                     start = depth;
+                    earlier = propagations;
                     ending = Ending::Solution;
                     status = Status::Solved;
                     going = false;
@@ -201,6 +207,7 @@ pub fn advance(
                 if back == 0 {
                     before = here;
                     start = depth;
+                    earlier = propagations;
                     ending = Ending::NoSolution;
                     status = Status::Infeasible;
                     going = false;
@@ -249,6 +256,7 @@ pub fn advance(
             decided,
         };
         start = depth;
+        earlier = propagations;
     }
     levels[start] = before;
     put_rows(&lines, &divisors, n, m, &mut rows);
@@ -261,6 +269,7 @@ pub fn advance(
             m,
             budget,
             conflicts,
+            propagations: earlier,
             made,
             depth: start,
             status,

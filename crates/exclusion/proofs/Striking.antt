@@ -74,6 +74,7 @@ module _ (s : Search) (v : Valid (view s)) (d : ℕ) (e : s .depth ≡ suc d) (o
           m = s .m;
           budget = s .budget;
           conflicts = s .conflicts;
+          propagations = s .propagations;
           made = s .made;
           depth = d;
           status = Undecided;
@@ -85,4 +86,4 @@ module _ (s : Search) (v : Valid (view s)) (d : ℕ) (e : s .depth ≡ suc d) (o
     unfolding view coreOf inputsOf withStatus statusOf
     struck h =
         rw (level-here (s .n) (s .levels) d flipped h, levels-above (s .n) (s .levels) d d flipped (omega arith))
-        (ap (λ (c : model.Core). record { core = c; budget = s .budget; conflicts = s .conflicts; status = model.undecided }) backed)
+        (ap (λ (c : model.Core). record { core = c; budget = s .budget; conflicts = s .conflicts; propagations = s .propagations; status = model.undecided }) backed)

@@ -43,6 +43,7 @@ pub fn strike(s: Search) -> Search
         m: s.m,
         budget: s.budget,
         conflicts,
+        propagations: s.propagations,
         made: s.made,
         depth: back,
         status: Status::Undecided,

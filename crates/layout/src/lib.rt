@@ -19,6 +19,9 @@ pub const MAX_CUTS: usize = 64;
 
 pub const MAX_BUDGET: usize = 1_000_000_000;
 
+// Bounds set by constraints, in a state that a call takes: 0 to 2^62.
+pub const MAX_PROPAGATIONS: usize = 4_611_686_018_427_387_904;
+
 // The rows of a search state: the constraints and the cuts.
 pub const MAX_ROWS: usize = MAX_CONSTRAINTS + MAX_CUTS;
 

@@ -1,5 +1,6 @@
 // Made-up states: a valid state of six variables and four constraints, two equations, with one thing changed, so that it is not valid any more.
 use crate::bounds;
+use crate::brink;
 use crate::divided::emptied;
 use crate::divided::shifted;
 use state::Level;
@@ -28,6 +29,7 @@ pub fn marked(s: Search, status: Status) -> Search {
         m: s.m,
         budget: s.budget,
         conflicts: s.conflicts,
+        propagations: s.propagations,
         made: s.made,
         depth: s.depth,
         status,
@@ -205,6 +207,9 @@ pub fn applies(s: Search, kind: usize, solvable: bool) -> bool {
         21 => mark_of(s) == 1,
         22 | 31 => solvable,
         23 | 26 | 30 | 32 => mark_of(s) == 2,
+        46 => brink::is_passed_by_a_turn(s),
+        47 => brink::is_passed_by_a_solution(s),
+        48 => brink::is_passed_by_a_conflict(s),
         _ => true,
     }
 }

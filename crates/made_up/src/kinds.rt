@@ -1,5 +1,6 @@
 // The checks of made-up states, of every kind of change and of the kinds that leave a state valid.
 use crate::bounds;
+use crate::brink;
 use crate::changes::applies;
 use crate::changes::changed;
 use crate::changes::divisor_changed;
@@ -11,6 +12,7 @@ use crate::divided::false_from_1;
 use crate::divided::named;
 use crate::divided::shifted;
 use crate::litter::littered;
+use crate::refusals::is_refused;
 use crate::strikes;
 use block::check::is_zero_from;
 use block::number::u16_at;
@@ -24,21 +26,15 @@ use trials::compare::level_same;
 use trials::compare::mark_of;
 use trials::compare::numbers_same;
 use trials::compare::sizes_of;
-use trials::compare::states_same;
-use trials::listing::agrees;
 use trials::number::added;
 use trials::number::plus;
 use trials::points::enumerate;
-use trials::strikes::REFUSED;
-use trials::strikes::keeps;
 use trials::ways::GO_ON;
-use trials::ways::INVALID;
 use trials::ways::MARK;
 use trials::ways::NO_SOLUTION;
 use trials::ways::OUT_OF_BUDGET;
 use trials::ways::Outcome;
 use trials::ways::ROOM;
-use trials::ways::is_blank;
 use trials::ways::journals_same;
 use trials::ways::open;
 use trials::ways::outcome_of;
@@ -69,73 +65,13 @@ const FALSE_BEHIND: usize = 36;
 
 pub const NAMED: usize = 37;
 
-// The last four are those of `strikes`.
-pub const KINDS: usize = 43;
+// The last are those of `strikes`, four, and of `brink`, six.
+pub const KINDS: usize = 49;
 
 // How many states were tried, and how many of them had a wrong answer.
 pub struct Tried {
     pub states: usize,
     pub wrong: usize,
-}
-
-// Whether an answer to a state is 9 alone, and the state came back whole.
-fn is_refusal(answer: Outcome, after: Search, s: Search) -> bool {
-    if !same(answer, plain(INVALID, 0, 0)) {
-        return false;
-    }
-    states_same(after, s)
-}
-
-fn is_step_refused(s: Search) -> bool {
-    let t = search::step(s);
-    let verdict = t.verdict;
-    let values = t.values;
-    let block = t.block;
-    let after = t.state;
-    if t.recorded {
-        return false;
-    }
-    if !is_blank(&block) {
-        return false;
-    }
-    is_refusal(outcome_of(verdict, t.count, 0, values), after, s)
-}
-
-fn is_run_refused(s: Search) -> bool {
-    let r = search::run(s);
-    let verdict = r.verdict;
-    let values = r.values;
-    let after = r.state;
-    is_refusal(outcome_of(verdict, r.count, 0, values), after, s)
-}
-
-fn is_trace_refused(s: Search) -> bool {
-    let mut buffer = [MARK; ROOM];
-    let t = search::trace(s, &mut buffer);
-    let verdict = t.verdict;
-    let values = t.values;
-    let after = t.state;
-    if !journals_same(&buffer, &[MARK; ROOM]) {
-        return false;
-    }
-    is_refusal(outcome_of(verdict, t.count, t.blocks, values), after, s)
-}
-
-// Whether all five calls refuse a state.
-fn is_refused(s: Search) -> bool {
-    if !keeps(s, REFUSED) {
-        return false;
-    }
-    if !agrees(s, 13) {
-        return false;
-    }
-    if !is_step_refused(s) {
-        return false;
-    }
-    if !is_run_refused(s) {
-        return false;
-    }
-    is_trace_refused(s)
 }
 
 // Whether a state has this outcome by turns and by a run, and these blocks.
@@ -154,11 +90,11 @@ fn has_outcome(s: Search, want: Outcome, journal: &[u8; ROOM]) -> bool {
 fn outcome_at_budget(s: Search) -> Outcome {
     let t = search::step(s);
     if t.recorded {
-        return plain(OUT_OF_BUDGET, s.conflicts, 0);
+        return plain(OUT_OF_BUDGET, s.conflicts, s.propagations, 0);
     }
     let verdict = t.verdict;
     let values = t.values;
-    outcome_of(verdict, t.count, 0, values)
+    outcome_of(verdict, t.count, t.propagations, 0, values)
 }
 
 // Whether a block is that of a conflict on constraint 1 from which nothing was learned.
@@ -176,12 +112,13 @@ fn is_without_cut(block: &[u8; 512], count: usize, depth: usize, back: usize) ->
     is_zero_from(block, 20)
 }
 
-// What a turn leaves of the sizes of a state whose constraint 1 is false from level 0 or 1 on.
-fn sizes_after(s: Search, count: usize, back: usize) -> [usize; 7] {
+// What a turn leaves of the sizes of a state whose constraint 1 is false from level 0 or 1 on: no bound is set.
+fn sizes_after(s: Search, count: usize, back: usize) -> [usize; 8] {
+    let set = s.propagations;
     if back == 0 {
-        return [s.n, s.m, s.budget, count, s.made, s.depth, 1];
+        return [s.n, s.m, s.budget, count, set, s.made, s.depth, 1];
     }
-    [s.n, s.m, s.budget, count, s.made, 0, 0]
+    [s.n, s.m, s.budget, count, set, s.made, 0, 0]
 }
 
 // Whether a turn of such a state goes back to that level and learns nothing.
@@ -197,15 +134,15 @@ fn learns_nothing(s: Search, back: usize) -> bool {
         wanted = NO_SOLUTION;
     }
     if !same(
-        outcome_of(verdict, r.count, 0, values),
-        plain(wanted, count, 0),
+        outcome_of(verdict, r.count, r.propagations, 0, values),
+        plain(wanted, count, s.propagations, 0),
     ) {
         return false;
     }
     if !is_without_cut(&block, count, s.depth, back) {
         return false;
     }
-    counts_same(&sizes_of(after), &sizes_after(s, count, back), 7)
+    counts_same(&sizes_of(after), &sizes_after(s, count, back), 8)
 }
 
 // The state with no mark and one conflict left.
@@ -236,7 +173,7 @@ fn sees_behind(s: Search) -> bool {
     let count = plus(s.conflicts, 2);
     let mut t = marked(false_behind(s), Status::Undecided);
     t.budget = count;
-    let want = plain(NO_SOLUTION, count, 2);
+    let want = plain(NO_SOLUTION, count, s.propagations, 2);
     let mut journal = [MARK; ROOM];
     if !same(walk(t, &mut journal), want) {
         return false;
@@ -288,7 +225,8 @@ fn is_divided_right(s: Search, kind: usize) -> bool {
         }
         MARKED_NONE => {
             let t = marked(emptied(s, -1), Status::Infeasible);
-            has_outcome(t, plain(NO_SOLUTION, s.conflicts, 0), &journal)
+            let want = plain(NO_SOLUTION, s.conflicts, s.propagations, 0);
+            has_outcome(t, want, &journal)
         }
         FALSE_EVERYWHERE => learns_nothing(unspent(emptied(s, -1)), 0),
         FALSE_FROM_1 => goes_back_to_1(s),
@@ -303,6 +241,9 @@ fn is_divided_right(s: Search, kind: usize) -> bool {
 
 // Whether a state that is made in a kind is answered as it must be; the last two kinds before those with divisors as the state that it is made of.
 fn is_right(s: Search, kind: usize) -> bool {
+    if brink::BELOW <= kind {
+        return brink::is_right(s, kind);
+    }
     if strikes::AS_IT_IS <= kind {
         return strikes::is_right(s, kind);
     }

@@ -1,10 +1,13 @@
 // Made-up states: how many of each kind were tried, and each disagreement.
 mod bounds;
+mod brink;
 mod changes;
 mod divided;
+mod given;
 mod kinds;
 mod litter;
 mod print;
+mod refusals;
 mod strikes;
 
 use kinds::Tried;

@@ -1,5 +1,5 @@
 -- Demand 3: what is claimed of every list of turns from a fresh opening of an accepted file.
-use Prim.Native.Nat.{ℕ, zero, suc, _≤_, _<_}
+use Prim.Native.Nat.{ℕ, zero, suc, _*_, _≤_, _<_}
 use mathlib.Core.Bool.{true}
 use mathlib.Core.List.{List, [], _∷_, _++_}
 use mathlib.Core.Logic.{_⊎_, _↔_}
@@ -10,9 +10,11 @@ use Rattle.model.specs.Bytes.{Bytes}
 use Rattle.model.specs.File.{readError, problemIn}
 use Rattle.model.specs.Search.{Search, openProblem, openFile}
 use Rattle.model.specs.Journal.{cutIn}
-use Rattle.model.specs.Validity.{valid}
+use Rattle.model.specs.Move.{slack}
+use Rattle.model.specs.Validity.{admitted}
 use Rattle.model.specs.Step.{Verdict, goOn, noSolution, outOfBudget, solution, Outcome, blockIn, step, run, stepCall}
 use Rattle.model.specs.Trace.{Trace, advance}
+use Rattle.model.specs.Propagations.{boundsSet}
 use Rattle.model.specs.Points.{Point, Inside, allPoints, points, Meets, Solution, First}
 
 -- ---- a list of turns, each on the walk that the one before returned
@@ -41,7 +43,14 @@ journal (suc k) s = blocksIn (stepCall s) ++ journal k (after s (stepCall s))
 
 -- k + 1 turns of the list taken by one call: their blocks, and the answer and walk of the last
 unfoldable pub stepsTogether : ℕ → Search → Trace
-stepsTogether k s = record { verdict = step (stateAfter k s) .verdict; count = step (stateAfter k s) .count; blocks = journal (suc k) s; state = stateAfter (suc k) s }
+stepsTogether k s =
+    record {
+      verdict = step (stateAfter k s) .verdict;
+      count = step (stateAfter k s) .count;
+      propagations = step (stateAfter k s) .propagations;
+      blocks = journal (suc k) s;
+      state = stateAfter (suc k) s;
+    }
 
 -- the point meets the cut, of n coefficients, in each block
 abbrev pub MeetsCuts : ℕ → Point → List (List ℕ) → Type 0
@@ -83,25 +92,32 @@ Agree u v = (u ≡ v) ⊎ ((u ≡ outOfBudget) ⊎ (v ≡ outOfBudget))
 pub record Steps (p : Problem) (s : Search) : Type 0 where
   pub listed : Listed p
   -- no call on a walk of the list is refused: no turn, and no run or trace
-  pub accepted : (k : ℕ) → valid (stateAfter k s) ≡ true
+  pub accepted : (k : ℕ) → admitted (stateAfter k s) ≡ true
   pub taken : (k : ℕ) → answerAt k s ≡ ok (step (stateAfter k s))
   -- after each turn the count, in the answer and in the walk, is the number of journal blocks so far, and at most the number of points
   pub counted : (k : ℕ) → step (stateAfter k s) .count ≡ length (journal (suc k) s)
   pub carried : (k : ℕ) → stateAfter k s .conflicts ≡ length (journal k s)
   pub bounded : (k : ℕ) → length (journal k s) ≤ points (p .domain)
+  -- N5's count, in the answer and in the walk, is the number of bounds that lines set in the turns that were not taken back, and at most (dead ends + 1) times
+  -- the sum of all hi − lo, the domain's slack
+  pub propagated : (k : ℕ) → step (stateAfter k s) .propagations ≡ boundsSet (suc k) s
+  pub tallied : (k : ℕ) → stateAfter k s .propagations ≡ boundsSet k s
+  pub creeping : (k : ℕ) → stateAfter k s .propagations ≤ suc (stateAfter k s .conflicts) * slack (p .domain)
   -- every solution meets every cut in those blocks
   pub cuts : (k : ℕ) (x : Point) → Solution p x → MeetsCuts (variables p) x (journal k s)
-  -- turns kept up reach a verdict, at turn `last`; every later turn gives that verdict and its count, and leaves the walk as it is
+  -- turns kept up reach a verdict, at turn `last`; every later turn gives that verdict and its counts, and leaves the walk as it is
   pub last : ℕ
   pub before : (k : ℕ) → k < last → step (stateAfter k s) .verdict ≡ goOn
   pub reached : ¬ (step (stateAfter last s) .verdict ≡ goOn)
-  pub later : (k : ℕ) → last ≤ k → (step (stateAfter k s) .verdict ≡ step (stateAfter last s) .verdict) × (step (stateAfter k s) .count ≡ step (stateAfter last s) .count)
+  pub later : (k : ℕ) → last ≤ k →
+      (step (stateAfter k s) .verdict ≡ step (stateAfter last s) .verdict) × (step (stateAfter k s) .count ≡ step (stateAfter last s) .count) × (step (stateAfter k s) .propagations ≡ step (stateAfter last s) .propagations)
   pub stays : (k : ℕ) → last < k → stateAfter k s ≡ stateAfter (suc last) s
   -- turns that one call takes are turns of the list
   pub together : (k t : ℕ) → advance (suc t) (stateAfter k s) ≡ stepsTogether t (stateAfter k s)
-  -- a run, from any walk of the list, gives that verdict and its count, and leaves the walk that the verdict leaves
+  -- a run, from any walk of the list, gives that verdict and its counts, and leaves the walk that the verdict leaves
   pub ran : (k : ℕ) →
-      (run (stateAfter k s) .verdict ≡ step (stateAfter last s) .verdict) × (run (stateAfter k s) .count ≡ step (stateAfter last s) .count) × (run (stateAfter k s) .state ≡ stateAfter (suc last) s)
+      (run (stateAfter k s) .verdict ≡ step (stateAfter last s) .verdict) × (run (stateAfter k s) .count ≡ step (stateAfter last s) .count) ×
+      (run (stateAfter k s) .propagations ≡ step (stateAfter last s) .propagations) × (run (stateAfter k s) .state ≡ stateAfter (suc last) s)
   -- with a budget of at least the points the verdict is 'none' exactly when there is no solution, else the first solution; also where no file can hold so large a budget
   pub decides : points (p .domain) ≤ p .budget → Decides p (run s .verdict)
   pub decides-with : (b : ℕ) → points (p .domain) ≤ b → Decides p (verdictWith p b)

@@ -1,5 +1,5 @@
 -- N4's claim: of every list of calls from a fresh opening of an accepted file, turns, traces, runs and strikes in any order.
-use Prim.Native.Nat.{ℕ, _+_, _*_, _≤_, _<_}
+use Prim.Native.Nat.{ℕ, suc, _+_, _-_, _*_, _^_, _≤_, _<_}
 use mathlib.Core.Bool.{Bool, true, false, cond}
 use mathlib.Core.List.{List, [], _∷_, _++_}
 use mathlib.Core.Logic.{_⊎_, _↔_}
@@ -9,10 +9,12 @@ use lib.ListN.{length, take, getElem?}
 use Rattle.model.specs.Problem.{Problem, variables}
 use Rattle.model.specs.File.{problemIn}
 use Rattle.model.specs.Search.{Search, openProblem}
-use Rattle.model.specs.Validity.{valid}
+use Rattle.model.specs.Move.{slack}
+use Rattle.model.specs.Validity.{admitted}
 use Rattle.model.specs.Step.{Verdict, goOn, noSolution, outOfBudget, solution, step, run}
 use Rattle.model.specs.Trace.{Trace, lastStep, advance}
 use Rattle.model.specs.Exclude.{Exclusion, struck, ended, unsolved, Excluded, exclude}
+use Rattle.model.specs.Propagations.{boundsSet}
 use Rattle.model.specs.Points.{Point, points, Solution, Before, allSolutions}
 use Rattle.model.specs.Demand.{MeetsCuts, In, Accepted}
 
@@ -27,18 +29,19 @@ pub data Reply : Type 0 where
   exclusion : Exclusion → Reply
   refused : ℕ → Reply
 
--- with the count that stands in it or in its walk, its journal blocks, and the walk
+-- with the counts that stand in it or in its walk, its journal blocks, and the walk
 pub record Answer : Type 0 where
   pub reply : Reply
   pub count : ℕ
+  pub propagations : ℕ
   pub blocks : List (List ℕ)
   pub state : Search
 
 unfoldable pub traced : Trace → Answer
-traced t = record { reply = verdict (t .verdict); count = t .count; blocks = t .blocks; state = t .state }
+traced t = record { reply = verdict (t .verdict); count = t .count; propagations = t .propagations; blocks = t .blocks; state = t .state }
 
 unfoldable pub excluded : Excluded → Answer
-excluded e = record { reply = exclusion (e .answer); count = e .state .conflicts; blocks = []; state = e .state }
+excluded e = record { reply = exclusion (e .answer); count = e .state .conflicts; propagations = e .state .propagations; blocks = []; state = e .state }
 
 unfoldable pub taken : Call → Search → Answer
 taken oneTurn s = traced (lastStep (step s))
@@ -49,10 +52,10 @@ taken (turns room) s = traced (advance room s)
 -- a foreign walk is refused with 9, before all else
 unfoldable pub answeredBy : Bool → Call → Search → Answer
 answeredBy true c s = taken c s
-answeredBy false c s = record { reply = refused 9; count = 0; blocks = []; state = s }
+answeredBy false c s = record { reply = refused 9; count = 0; propagations = 0; blocks = []; state = s }
 
 unfoldable pub answer : Call → Search → Answer
-answer c s = answeredBy (valid s) c s
+answer c s = answeredBy (admitted s) c s
 
 -- ---- a list of calls, each on the walk that the one before returned; the latest comes first
 unfoldable pub walk : List Call → Search → Search
@@ -117,6 +120,24 @@ unfoldable pub strikes : List Call → Search → ℕ
 strikes [] s = 0
 strikes (c ∷ cs) s = struckIn (says c cs s) + strikes cs s
 
+-- ---- N5: the bounds that lines set in the calls' turns that were not taken back. A run takes at most one turn more than the budget has left
+unfoldable pub turnsOf : Call → Search → ℕ
+turnsOf oneTurn s = 1
+turnsOf allTurns s = suc (s .budget - s .conflicts)
+turnsOf strike s = 0
+turnsOf (turns room) s = room
+
+unfoldable pub setBy : Call → Search → ℕ
+setBy c s = cond (admitted s) (boundsSet (turnsOf c s) s) 0
+
+unfoldable pub setIn : List Call → Search → ℕ
+setIn [] s = 0
+setIn (c ∷ cs) s = setBy c (walk cs s) + setIn cs s
+
+-- enough budget, or few enough strikes, for every count to stay within N5's limit
+abbrev pub Modest : Problem → List Call → Search → Type 0
+Modest p cs s = (points (p .domain) ≤ p .budget) ⊎ (strikes cs s < 2 ^ 32)
+
 -- ---- a list kept up: a strike where a solution stands, else a turn, a run, or a trace with room
 abbrev pub Due : Bool → Call → Type 0
 Due true oneTurn = ⊥
@@ -128,12 +149,12 @@ Due false allTurns = Unit {0}
 Due false strike = ⊥
 Due false (turns room) = 0 < room
 
--- 'ended' and 'none' end a list that shows every solution; 'spent' ends it too
+-- 'ended' and 'none' end a list that shows every solution; 'spent' ends it too, and so does a refusal
 abbrev pub Completes : Reply → Type 0
 Completes r = (r ≡ exclusion ended) ⊎ (r ≡ verdict noSolution)
 
 abbrev pub Ends : Reply → Type 0
-Ends r = Completes r ⊎ (r ≡ verdict outOfBudget)
+Ends r = Completes r ⊎ ((r ≡ verdict outOfBudget) ⊎ (r ≡ refused 9))
 
 abbrev pub KeptUp : List Call → Search → Type 0
 KeptUp [] s = Unit {0}
@@ -157,27 +178,32 @@ pub record Enumerates (p : Problem) (s : Search) : Type 0 where
   -- `allSolutions` lists all solutions in dictionary order, each once
   pub every : (x : Point) → Solution p x ↔ In x (allSolutions p)
   pub ordered : Ascending (allSolutions p)
-  -- no call is refused
-  pub accepted : (cs : List Call) → valid (walk cs s) ≡ true
+  -- no call is refused, with a budget of at least the points or fewer than 2^32 strikes
+  pub accepted : (cs : List Call) → Modest p cs s → admitted (walk cs s) ≡ true
   -- the solutions shown are the first of that list
   pub prefix : (cs : List Call) → shown cs s ≡ take (length (shown cs s)) (allSolutions p)
   -- however often it is shown: after k strikes it is the one at position k, counted from 0
   pub position : (c : Call) (cs : List Call) (x : Point) → says c cs s ≡ verdict (solution x) → getElem? (allSolutions p) (strikes cs s) ≡ some x
-  -- those shown were struck out, but for one that stands; where none stands a strike says 'no form'
+  -- those shown were struck out, but for one that stands; where none stands a strike that is not refused says 'no form'
   pub one-stands : (cs : List Call) → length (shown cs s) ≡ strikes cs s + cond (stands cs s) 1 0
-  pub no-form : (cs : List Call) → stands cs s ≡ false → says strike cs s ≡ exclusion unsolved
+  pub no-form : (cs : List Call) → admitted (walk cs s) ≡ true → stands cs s ≡ false → says strike cs s ≡ exclusion unsolved
   -- the count, in each answer and in the walk, is the number of blocks given so far where no run is among the calls
-  pub counted : (c : Call) (cs : List Call) → answer c (walk cs s) .count ≡ walk (c ∷ cs) s .conflicts
+  pub counted : (c : Call) (cs : List Call) → admitted (walk cs s) ≡ true → answer c (walk cs s) .count ≡ walk (c ∷ cs) s .conflicts
   pub carried : (cs : List Call) → NoRun cs → walk cs s .conflicts ≡ length (blocksOf cs s)
   -- dead ends plus solutions shown, those struck out among them, are at most the number of points
   pub bounded : (cs : List Call) → walk cs s .conflicts + length (shown cs s) ≤ points (p .domain)
+  -- N5's count, in each answer and in the walk, is the number of bounds that lines set in the turns that were not taken back, and at most (dead ends + struck
+  -- out + 1) times the sum of all hi − lo, the domain's slack
+  pub propagated : (c : Call) (cs : List Call) → admitted (walk cs s) ≡ true → answer c (walk cs s) .propagations ≡ walk (c ∷ cs) s .propagations
+  pub tallied : (cs : List Call) → walk cs s .propagations ≡ setIn cs s
+  pub creeping : (cs : List Call) → walk cs s .propagations ≤ suc (walk cs s .conflicts + strikes cs s) * slack (p .domain)
   -- every solution, one struck out too, meets every cut in the blocks
   pub cuts : (cs : List Call) (x : Point) → Solution p x → MeetsCuts (variables p) x (blocksOf cs s)
-  -- 'none', 'spent' and a solution are said again, and the walk stays, until a strike
-  pub again : (c d : Call) (cs : List Call) (v : Verdict) → says c cs s ≡ verdict v → ¬ (v ≡ goOn) → Turns d → (says d (c ∷ cs) s ≡ verdict v) × (walk (d ∷ c ∷ cs) s ≡ walk (c ∷ cs) s)
+  -- 'none', 'spent' and a solution are said again by every call that is not refused, and the walk stays, until a strike
+  pub again : (c d : Call) (cs : List Call) (v : Verdict) → admitted (walk (c ∷ cs) s) ≡ true → says c cs s ≡ verdict v → ¬ (v ≡ goOn) → Turns d → (says d (c ∷ cs) s ≡ verdict v) × (walk (d ∷ c ∷ cs) s ≡ walk (c ∷ cs) s)
   -- with 'ended' or 'none' every solution has been shown
   pub complete : (c : Call) (cs : List Call) → Completes (says c cs s) → shown (c ∷ cs) s ≡ allSolutions p
-  -- a list that is kept up ends; with a budget of at least the points not with 'spent'
+  -- a list that is kept up ends; with a budget of at least the points neither with 'spent' nor, as above, with a refusal
   pub ends : (cs : List Call) → KeptUp cs s → length cs < 2 * points (p .domain)
   pub enough : points (p .domain) ≤ p .budget → (c : Call) (cs : List Call) → ¬ (says c cs s ≡ verdict outOfBudget)
 

@@ -28,6 +28,7 @@ use Rattle.model.specs.Step
 use Rattle.model.specs.Step.{Verdict, goOn, noSolution, outOfBudget, solution, Outcome, runCall}
 use Rattle.model.specs.Trace
 use Rattle.model.specs.Exclude
+use Rattle.model.specs.Propagations
 use Rattle.model.specs.Points
 use Rattle.model.specs.Listing
 use Rattle.model.specs.Enumeration
@@ -210,7 +211,7 @@ unfolding Lists.tab Lists.parts Lists.sum Lists.all Lists.allOf Lists.anyOf List
     Search.levels Search.withLevels Search.withDeepest Search.kept Search.dropped Search.numberAt Search.keptNumber Search.nextNumber Search.newest
     Search.keep Search.levelOf Search.coreOf Search.openProblem Search.openedBy Search.openFile
     Move.firstFalsified Move.improvementAt Move.improvementFrom Move.improvementBy Move.firstImprovement Move.firstOpen Move.nextMove Move.follow Move.slack
-    Move.descendFor Move.descend
+    Move.descendFor Move.descend Move.propagationsBy Move.propagationsFor Move.propagationsIn
     Conflict.unchanged Conflict.takeIf Conflict.resolveWith Conflict.resolveKept Conflict.resolveBy Conflict.usedReason Conflict.resolveAt
     Conflict.analyzeFrom Conflict.analyze Conflict.firstEqual Conflict.numberedBy Conflict.numbered Conflict.leastFalsified Conflict.backjumpLevel Conflict.levelsTested
     Conflict.backFrom Conflict.backUp Conflict.settled Conflict.conflictOf Conflict.learning Conflict.nothingLearned Conflict.noLearning Conflict.conflictBy Conflict.atConflict
@@ -218,16 +219,17 @@ unfolding Lists.tab Lists.parts Lists.sum Lists.all Lists.allOf Lists.anyOf List
     Journal.cutIn
     Validity.scalarsValid Validity.constraintsValid Validity.divisorsValid Validity.cutNumber Validity.numbersValid Validity.reasonValid Validity.reasonsValid
     Validity.levelValid Validity.levelsValid Validity.inside Validity.boxInside Validity.decisionValid Validity.nestedValid
-    Validity.falsifies Validity.anyFalsified Validity.outermost Validity.statusValid Validity.valid Validity.levelShaped Validity.constraintShaped
+    Validity.falsifies Validity.anyFalsified Validity.outermost Validity.statusValid Validity.valid Validity.withinLimit Validity.admitted Validity.levelShaped Validity.constraintShaped
     Validity.shaped
-    Step.lowers Step.withStatus Step.solvedBy Step.budgetSpent Step.recordOf Step.verdictAt Step.statusAt Step.counted Step.onConflict Step.endedAt
+    Step.lowers Step.propagated Step.withStatus Step.solvedBy Step.budgetSpent Step.recordOf Step.verdictAt Step.statusAt Step.counted Step.onConflict Step.endedAt
     Step.ended Step.again Step.stepBy Step.step Step.continue Step.runFor Step.withoutBlock Step.run Step.checked Step.stepCall Step.runCall
-    Trace.withBlocks Trace.lastStep Trace.advanced Trace.advance Trace.joined
-    Exclude.unchanged Exclude.excludeAt Exclude.excludeBy Exclude.exclude Exclude.excludeCall
+    Trace.withBlocks Trace.lastStep Trace.advanced Trace.advance Trace.joined Trace.written Trace.tracedBy Trace.traceCall
+    Exclude.unchanged Exclude.excludeAt Exclude.excludeBy Exclude.exclude Exclude.excludeCall Exclude.excludeWithin
     Points.valuesBetween Points.valuesFrom Points.values Points.prefixed Points.allPoints Points.points Points.dot Points.value
     Points.isMetBy Points.isMet Points.isSolution Points.allSolutions
     Listing.endsWith Listing.listAfter Listing.goesOn Listing.listFrom Listing.roomAt Listing.list Listing.listedIn Listing.listedBy Listing.listCall
     Enumeration.traced Enumeration.excluded Enumeration.taken Enumeration.answeredBy Enumeration.answer Enumeration.walk Enumeration.says Enumeration.shownIn
-    Enumeration.standsAfter Enumeration.stands Enumeration.shown Enumeration.struckIn Enumeration.strikes
+    Enumeration.standsAfter Enumeration.stands Enumeration.shown Enumeration.struckIn Enumeration.strikes Enumeration.turnsOf Enumeration.setBy Enumeration.setIn
+    Propagations.keptBy Propagations.boundsSetBy Propagations.boundsSet
     Demand.after Demand.stateAfter Demand.answerAt Step.blockIn Demand.blocksIn Demand.journal Demand.withBudget Demand.verdictWith
 definitions = tt

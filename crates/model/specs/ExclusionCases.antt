@@ -36,6 +36,7 @@ sameState s t =
     allPairs sameLevel (levels (s .core)) (levels (t .core)) ∷
     eqb (s .budget) (t .budget) ∷
     eqb (s .conflicts) (t .conflicts) ∷
+    eqb (s .propagations) (t .propagations) ∷
     eqb (statusCode (s .status)) (statusCode (t .status)) ∷
     [])
 
@@ -55,13 +56,14 @@ at v = between (pos v) (pos v)
 abbrev level : Box → List Reasons → Level
 level b rs = record { box = b; reasons = rs; decided = 0 }
 
--- the walk that the cut and the one dead end stay in, not marked
+-- the walk that the cut, the one dead end and the one bound set by a line stay in, not marked
 abbrev unmarked : Level → List Level → Search
 unmarked l ls =
     record {
       core = record { variables = 3; inputs = stepping .constraints; cuts = stepCut ∷ []; numbers = 3 ∷ []; made = 1; deepest = l; outer = ls };
       budget = 9;
       conflicts = 1;
+      propagations = 1;
       status = undecided;
     }
 
@@ -106,7 +108,7 @@ madeUpLevel b c r i = record { box = b ∷ c ∷ []; reasons = r ∷ by domain d
 
 abbrev madeUpState : Level → List Level → Status → Search
 madeUpState l ls m =
-    record { core = record { variables = 2; inputs = []; cuts = []; numbers = []; made = 0; deepest = l; outer = ls }; budget = 0; conflicts = 0; status = m }
+    record { core = record { variables = 2; inputs = []; cuts = []; numbers = []; made = 0; deepest = l; outer = ls }; budget = 0; conflicts = 0; propagations = 0; status = m }
 
 abbrev madeUp : Bool
 madeUp =

@@ -14,6 +14,7 @@ pub mod Validity
 pub mod Step
 pub mod Trace
 pub mod Exclude
+pub mod Propagations
 pub mod Points
 pub mod Listing
 pub mod Demand
@@ -24,6 +25,7 @@ pub mod SearchCases
 pub mod DivisorCases
 pub mod ExclusionCases
 pub mod ListingCases
+pub mod PropagationCases
 pub mod FileCases
 pub mod ValidityCases
 pub mod Cases

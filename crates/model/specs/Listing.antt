@@ -7,10 +7,10 @@ use lib.ListN.{length, drop}
 use Rattle.model.specs.Problem.{Result, ok, error}
 use Rattle.model.specs.Points.{Point}
 use Rattle.model.specs.Search.{Status, undecided, infeasible, solved, Search}
-use Rattle.model.specs.Validity.{valid}
+use Rattle.model.specs.Validity.{admitted}
 use Rattle.model.specs.Step.{Verdict, goOn, noSolution, outOfBudget, solution, Outcome, run}
 use Rattle.model.specs.Trace.{joined}
-use Rattle.model.specs.Exclude.{Exclusion, struck, ended, unsolved, exclude}
+use Rattle.model.specs.Exclude.{Exclusion, struck, ended, unsolved, excludeWithin}
 
 -- the solutions struck out, in order, and what comes after the last of them
 pub record Listing (A : Type 0) : Type 0 where
@@ -34,7 +34,7 @@ goesOn outOfBudget e a l = endsWith a
 
 unfoldable pub listFrom : ℕ → Search → Listing Outcome
 listFrom zero s = endsWith (run s)
-listFrom (suc room) s = let o = run s in let e = exclude (o .state) in goesOn (o .verdict) (e .answer) o (listFrom room (e .state))
+listFrom (suc room) s = let o = run s in let e = excludeWithin (o .state) in goesOn (o .verdict) (e .answer) o (listFrom room (e .state))
 
 -- a marked walk gives its verdict again, and nothing is struck out
 unfoldable pub roomAt : Status → ℕ → ℕ
@@ -59,4 +59,4 @@ listedBy true s buffer = let n = s .core .variables in listedIn (list (length bu
 listedBy false s buffer = record { answer = error 9; buffer = buffer }
 
 unfoldable pub listCall : Search → List ℤ → Listed
-listCall s buffer = listedBy (valid s) s buffer
+listCall s buffer = listedBy (admitted s) s buffer

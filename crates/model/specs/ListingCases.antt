@@ -16,15 +16,15 @@ use Rattle.model.specs.SearchCases.{stepping}
 use Rattle.model.specs.ExclusionCases.{sameState, stepped, markedAs, rounds, S-first, S-second, S-third, planC, C-first, C-second}
 
 -- so many numbers that a listing must not touch
-abbrev old : ℕ → List ℤ
+abbrev pub old : ℕ → List ℤ
 old k = replicate k (pos 7)
 
 -- from s, with a buffer of k old numbers: the forms vs are struck out and stand in it, `numbers`, then `rest` old ones; the last run says v, with so many dead
--- ends, and leaves the walk t
-abbrev lists : List Point → List ℤ → ℕ → Verdict → ℕ → Search → ℕ → Search → Bool
+-- ends and as many bounds set as in t, and leaves the walk t
+abbrev pub lists : List Point → List ℤ → ℕ → Verdict → ℕ → Search → ℕ → Search → Bool
 lists vs numbers rest v ends t k s =
     let l = listCall s (old k) in
-    isOk (λ (x : Listing Outcome). all (allPairs sameValues (x .struck) vs ∷ sameVerdict (x .last .verdict) v ∷ eqb (x .last .count) ends ∷ sameState (x .last .state) t ∷ [])) (l .answer) &&
+    isOk (λ (x : Listing Outcome). all (allPairs sameValues (x .struck) vs ∷ sameVerdict (x .last .verdict) v ∷ eqb (x .last .count) ends ∷ eqb (x .last .propagations) (t .propagations) ∷ sameState (x .last .state) t ∷ [])) (l .answer) &&
     sameValues (l .buffer) (numbers ++ old rest)
 
 -- `stepping` has three forms, the last of them at depth 0. Room for none, for one and for two: the form that there is no room for stands

@@ -61,11 +61,19 @@ pub record Stop : Type 0 where
   pub core : Core
   pub falsified : Option ℕ
 
+-- the state after a move; 1 and 4 leave it as it is
+abbrev pub moved : Move → Core → Core
+moved (conflict j) c = c
+moved (newLower j i v) c = withDeepest c (raiseLower i v (constraint (numberAt c j)) (c .deepest))
+moved (newUpper j i v) c = withDeepest c (lowerUpper i v (constraint (numberAt c j)) (c .deepest))
+moved (decide i) c = withLevels c (decideAt i (c .deepest)) (levels c)
+moved finish c = c
+
 unfoldable pub follow : Move → Core → (Core → Stop) → Stop
 follow (conflict j) c go = record { core = c; falsified = some j }
-follow (newLower j i v) c go = go (withDeepest c (raiseLower i v (constraint (numberAt c j)) (c .deepest)))
-follow (newUpper j i v) c go = go (withDeepest c (lowerUpper i v (constraint (numberAt c j)) (c .deepest)))
-follow (decide i) c go = go (withLevels c (decideAt i (c .deepest)) (levels c))
+follow (newLower j i v) c go = go (moved (newLower j i v) c)
+follow (newUpper j i v) c go = go (moved (newUpper j i v) c)
+follow (decide i) c go = go (moved (decide i) c)
 follow finish c go = record { core = c; falsified = none }
 
 -- Every bound that is set lowers the slack, Σ (U − L) of the deepest level, so a fuel above it does not run out: the case `zero` is never reached.
@@ -79,3 +87,18 @@ descendFor (suc fuel) c = follow (nextMove (kept c) (c .deepest .box)) c (descen
 
 unfoldable pub descend : Core → Stop
 descend c = descendFor (suc (slack (c .deepest .box))) c
+
+-- ---- N5: how many of the moves on that way are move 2, 'bounds set by lines'
+unfoldable pub propagationsBy : Move → Core → (Core → ℕ) → ℕ
+propagationsBy (conflict j) c go = 0
+propagationsBy (newLower j i v) c go = suc (go (moved (newLower j i v) c))
+propagationsBy (newUpper j i v) c go = suc (go (moved (newUpper j i v) c))
+propagationsBy (decide i) c go = go (moved (decide i) c)
+propagationsBy finish c go = 0
+
+unfoldable pub propagationsFor : ℕ → Core → ℕ
+propagationsFor zero c = 0
+propagationsFor (suc fuel) c = propagationsBy (nextMove (kept c) (c .deepest .box)) c (propagationsFor fuel)
+
+unfoldable pub propagationsIn : Core → ℕ
+propagationsIn c = propagationsFor (suc (slack (c .deepest .box))) c

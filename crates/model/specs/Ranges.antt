@@ -32,6 +32,10 @@ maxCoefficient = 2 ^ 30
 abbrev pub maxDivisor : ℕ
 maxDivisor = 2 ^ 20
 
+-- N5's count of bounds set, in a walk that a call takes: 0 to 2^62
+abbrev pub maxPropagations : ℕ
+maxPropagations = 2 ^ 62
+
 -- −b ≤ z ≤ b
 unfoldable pub within : ℕ → ℤ → Bool
 within b z = leZ (negℤ (pos b)) z && leZ z (pos b)

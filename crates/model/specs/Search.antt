@@ -72,11 +72,12 @@ pub record Core : Type 0 where
 pub data Status : Type 0 where
   undecided infeasible solved : Status
 
--- A 'walk'. Conflicts are its 'dead ends'.
+-- A 'walk'. Conflicts are its 'dead ends', propagations N5's 'bounds set by lines'.
 pub record Search : Type 0 where
   pub core : Core
   pub budget : ℕ
   pub conflicts : ℕ
+  pub propagations : ℕ
   pub status : Status
 
 unfoldable pub depth : Core → ℕ
@@ -140,7 +141,7 @@ coreOf p =
     record { variables = variables p; inputs = map rounded (p .constraints); cuts = []; numbers = []; made = 0; deepest = levelOf p; outer = [] }
 
 unfoldable pub openProblem : Problem → Search
-openProblem p = record { core = coreOf p; budget = p .budget; conflicts = 0; status = undecided }
+openProblem p = record { core = coreOf p; budget = p .budget; conflicts = 0; propagations = 0; status = undecided }
 
 unfoldable pub openedBy : Result Problem → Result Search
 openedBy (ok p) = ok (openProblem p)

@@ -63,7 +63,7 @@ stepsA =
 
 -- ---- a dead end met at depth 2 whose cut is false from depth 1 on: 'end 1 line 2 cut 3 depth 2 back 1'
 -- limits 0 to 2; −v1 − v2 + v3 + v4 + 1 and v2 − v3 − v4
-abbrev jumping : Problem
+abbrev pub jumping : Problem
 jumping =
     problem (replicate 4 (to 2))
     (linear (neg 1 ∷ neg 1 ∷ pos 1 ∷ pos 1 ∷ []) (pos 1) ∷ linear (pos 0 ∷ pos 1 ∷ neg 1 ∷ neg 1 ∷ []) (pos 0) ∷ []) 9
@@ -167,7 +167,7 @@ equalInput =
     [])
 
 -- limits 0 to 1, 0 to 2, 0 to 1; 2v1 − 3v2 − 3v3 + 2 and −2v1 + 2v2 + v3: the first cut, number 3, is false itself at the second dead end
-abbrev twice : ℕ → Problem
+abbrev pub twice : ℕ → Problem
 twice b = problem (to 1 ∷ to 2 ∷ to 1 ∷ []) (linear (pos 2 ∷ neg 3 ∷ neg 3 ∷ []) (pos 2) ∷ linear (neg 2 ∷ pos 2 ∷ pos 1 ∷ []) (pos 0) ∷ []) b
 
 abbrev twiceCut : Constraint

@@ -1,5 +1,5 @@
 -- Document 01's turn and run, as the public calls give them.
-use Prim.Native.Nat.{ℕ, zero, suc, _-_}
+use Prim.Native.Nat.{ℕ, zero, suc, _+_, _-_}
 use mathlib.Core.Bool.{Bool, true, false, cond}
 use mathlib.Core.List.{List, [], _∷_, map}
 use mathlib.Core.Option.{Option, none, some}
@@ -8,20 +8,21 @@ use lib.IntN.{ℤ}
 use Rattle.model.specs.Constraint.{Bounds, Box}
 use Rattle.model.specs.Problem.{Result, ok, error}
 use Rattle.model.specs.Search.{Core, Status, undecided, infeasible, solved, Search}
-use Rattle.model.specs.Move.{Stop, descend}
+use Rattle.model.specs.Move.{Stop, descend, propagationsIn}
 use Rattle.model.specs.Conflict.{Conflict, atConflict}
 use Rattle.model.specs.Journal.{Record, recordBytes}
-use Rattle.model.specs.Validity.{valid}
+use Rattle.model.specs.Validity.{admitted}
 
 -- 'go on', 'none', 'spent', or the solution's values
 pub data Verdict : Type 0 where
   goOn noSolution outOfBudget : Verdict
   solution : List ℤ → Verdict
 
--- A turn's answer: the verdict, the count, the journal block if a dead end was counted, and the walk.
+-- A turn's answer: the verdict, the count, N5's count, the journal block if a dead end was counted, and the walk.
 pub record Outcome : Type 0 where
   pub verdict : Verdict
   pub count : ℕ
+  pub propagations : ℕ
   pub block : Option (List ℕ)
   pub state : Search
 
@@ -33,17 +34,29 @@ blockIn (some b) = b ∷ []
 unfoldable pub lowers : Box → List ℤ
 lowers box = map (λ (b : Bounds). b .lower) box
 
--- ---- without a dead end
-unfoldable pub withStatus : Search → Core → Status → Search
-withStatus s c m = record { core = c; budget = s .budget; conflicts = s .conflicts; status = m }
+-- N5's count after a turn that is not taken back: the bounds set before it and in it
+unfoldable pub propagated : Search → ℕ
+propagated s = s .propagations + propagationsIn (s .core)
 
+-- the counts stay
+unfoldable pub withStatus : Search → Core → Status → Search
+withStatus s c m = record { core = c; budget = s .budget; conflicts = s .conflicts; propagations = s .propagations; status = m }
+
+-- ---- without a dead end
 unfoldable pub solvedBy : Search → Core → Outcome
-solvedBy s c = record { verdict = solution (lowers (c .deepest .box)); count = s .conflicts; block = none; state = withStatus s c solved }
+solvedBy s c =
+    record {
+      verdict = solution (lowers (c .deepest .box));
+      count = s .conflicts;
+      propagations = propagated s;
+      block = none;
+      state = record { core = c; budget = s .budget; conflicts = s .conflicts; propagations = propagated s; status = solved };
+    }
 
 -- ---- at a dead end
 -- as many as the budget are counted already: the state stays as before the turn
 unfoldable pub budgetSpent : Search → Outcome
-budgetSpent s = record { verdict = outOfBudget; count = s .conflicts; block = none; state = s }
+budgetSpent s = record { verdict = outOfBudget; count = s .conflicts; propagations = s .propagations; block = none; state = s }
 
 unfoldable pub recordOf : ℕ → Conflict → Record
 recordOf count x =
@@ -71,8 +84,9 @@ counted s x =
     record {
       verdict = verdictAt (x .back);
       count = suc (s .conflicts);
+      propagations = propagated s;
       block = some (recordBytes (recordOf (suc (s .conflicts)) x));
-      state = record { core = x .core; budget = s .budget; conflicts = suc (s .conflicts); status = statusAt (x .back) };
+      state = record { core = x .core; budget = s .budget; conflicts = suc (s .conflicts); propagations = propagated s; status = statusAt (x .back) };
     }
 
 unfoldable pub onConflict : Search → Core → ℕ → Outcome
@@ -88,7 +102,7 @@ ended s e = endedAt s (e .core) (e .falsified)
 
 -- the verdict of a marked walk, again
 unfoldable pub again : Search → Verdict → Outcome
-again s v = record { verdict = v; count = s .conflicts; block = none; state = s }
+again s v = record { verdict = v; count = s .conflicts; propagations = s .propagations; block = none; state = s }
 
 unfoldable pub stepBy : Status → Search → Outcome
 stepBy undecided s = ended s (descend (s .core))
@@ -110,18 +124,18 @@ runFor zero s = step s
 runFor (suc fuel) s = let o = step s in continue (o .verdict) o (runFor fuel)
 
 unfoldable pub withoutBlock : Outcome → Outcome
-withoutBlock o = record { verdict = o .verdict; count = o .count; block = none; state = o .state }
+withoutBlock o = record { verdict = o .verdict; count = o .count; propagations = o .propagations; block = none; state = o .state }
 
 unfoldable pub run : Search → Outcome
 run s = withoutBlock (runFor (s .budget - s .conflicts) s)
 
--- ---- the calls: a foreign walk is refused with 9, before all else
+-- ---- the calls: a foreign walk is refused with 9, before all else. A run tests its state once, and not after each turn
 unfoldable pub checked : {A : Type 0} → Bool → A → Result A
 checked true o = ok o
 checked false o = error 9
 
 unfoldable pub stepCall : Search → Result Outcome
-stepCall s = checked (valid s) (step s)
+stepCall s = checked (admitted s) (step s)
 
 unfoldable pub runCall : Search → Result Outcome
-runCall s = checked (valid s) (run s)
+runCall s = checked (admitted s) (run s)

@@ -1,26 +1,27 @@
 -- Turns repeated with their blocks: a run that keeps the journal.
-use Prim.Native.Nat.{ℕ, zero, suc, _+_, _*_, _/_}
+use Prim.Native.Nat.{ℕ, zero, suc, _*_, _/_}
 use mathlib.Core.Bool.{Bool, true, false}
 use mathlib.Core.List.{List, [], _∷_, _++_}
 use lib.ListN.{length, drop}
 use Rattle.model.specs.Bytes.{blockLength}
 use Rattle.model.specs.Problem.{Result, ok, error}
 use Rattle.model.specs.Search.{Search}
-use Rattle.model.specs.Validity.{valid}
+use Rattle.model.specs.Validity.{admitted}
 use Rattle.model.specs.Step.{Verdict, goOn, noSolution, outOfBudget, solution, Outcome, blockIn, step}
 
--- the last turn's verdict and count, the blocks of all of them, and the walk
+-- the last turn's verdict and counts, the blocks of all of them, and the walk
 pub record Trace : Type 0 where
   pub verdict : Verdict
   pub count : ℕ
+  pub propagations : ℕ
   pub blocks : List (List ℕ)
   pub state : Search
 
 unfoldable pub withBlocks : List (List ℕ) → Trace → Trace
-withBlocks bs t = record { verdict = t .verdict; count = t .count; blocks = bs ++ t .blocks; state = t .state }
+withBlocks bs t = record { verdict = t .verdict; count = t .count; propagations = t .propagations; blocks = bs ++ t .blocks; state = t .state }
 
 unfoldable pub lastStep : Outcome → Trace
-lastStep o = record { verdict = o .verdict; count = o .count; blocks = blockIn (o .block); state = o .state }
+lastStep o = record { verdict = o .verdict; count = o .count; propagations = o .propagations; blocks = blockIn (o .block); state = o .state }
 
 unfoldable pub advanced : Verdict → Outcome → (Search → Trace) → Trace
 advanced goOn o go = withBlocks (blockIn (o .block)) (go (o .state))
@@ -28,9 +29,9 @@ advanced noSolution o go = lastStep o
 advanced outOfBudget o go = lastStep o
 advanced (solution v) o go = lastStep o
 
--- at most `limit` turns, to a verdict; with none it answers 'go on', the count and the walk as they are
+-- at most `limit` turns, to a verdict; with none it answers 'go on', the counts and the walk as they are
 unfoldable pub advance : ℕ → Search → Trace
-advance zero s = record { verdict = goOn; count = s .conflicts; blocks = []; state = s }
+advance zero s = record { verdict = goOn; count = s .conflicts; propagations = s .propagations; blocks = []; state = s }
 advance (suc limit) s = let o = step s in advanced (o .verdict) o (advance limit)
 
 -- ---- into a lent buffer: as many turns as it has room for blocks. They stand at its start; its other bytes stay
@@ -51,4 +52,4 @@ tracedBy true s buffer = written (advance (length buffer / blockLength) s) buffe
 tracedBy false s buffer = record { answer = error 9; buffer = buffer }
 
 unfoldable pub traceCall : Search → List ℕ → Traced
-traceCall s buffer = tracedBy (valid s) s buffer
+traceCall s buffer = tracedBy (admitted s) s buffer

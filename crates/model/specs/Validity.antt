@@ -6,7 +6,7 @@ use lib.Dec.{leb, ltb, eqb}
 use lib.Signed.{leZ, ltZ}
 use lib.ListN.{length}
 use Rattle.model.specs.Lists.{tab, all, allOf, anyOf, allPairs}
-use Rattle.model.specs.Ranges.{maxVariables, maxConstraints, maxCuts, maxBudget}
+use Rattle.model.specs.Ranges.{maxVariables, maxConstraints, maxCuts, maxBudget, maxPropagations}
 use Rattle.model.specs.Constraint.{Constraint, Bounds, Box, isInequality, lowerAt, upperAt, isOpen, falsified, inRange, divisorInRange, equalℤ}
 use Rattle.model.specs.Problem.{boundsInRange}
 use Rattle.model.specs.Search.{Reason, domain, decision, flipped, constraint, Reasons, Level, Core, Status, undecided, infeasible, solved, Search, depth, levels, kept, dropped}
@@ -105,6 +105,14 @@ valid s =
     nestedValid (s .core .variables) (s .core .deepest) (s .core .outer) ∷
     statusValid (s .core) (s .status) ∷
     [])
+
+-- N5's limit. It stands apart from what every turn keeps: a turn may pass it, and then the next call refuses the state.
+unfoldable pub withinLimit : Search → Bool
+withinLimit s = leb (s .propagations) maxPropagations
+
+-- what a call takes
+unfoldable pub admitted : Search → Bool
+admitted s = valid s && withinLimit s
 
 -- ---- the shape of a state: its lists are as long as its numbers say, and its cuts carry no divisor. Every state that the code can hold has it, so no call tests it.
 unfoldable pub levelShaped : ℕ → Level → Bool

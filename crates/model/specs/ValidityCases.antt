@@ -24,6 +24,7 @@ state l ls ks ns made ends status =
       core = record { variables = 2; inputs = A-first ∷ A-second ∷ []; cuts = ks; numbers = ns; made = made; deepest = l; outer = ls };
       budget = 5;
       conflicts = ends;
+      propagations = 0;
       status = status;
     }
 
@@ -98,6 +99,7 @@ withInput k l status =
       core = record { variables = 2; inputs = k ∷ A-second ∷ []; cuts = []; numbers = []; made = 0; deepest = l; outer = [] };
       budget = 5;
       conflicts = 1;
+      propagations = 0;
       status = status;
     }
 
@@ -127,6 +129,7 @@ many first =
       core = record { variables = 2; inputs = A-first ∷ A-second ∷ []; cuts = replicate 64 cut; numbers = tab (λ (k : ℕ). k) first 64; made = 65; deepest = root; outer = [] };
       budget = 65;
       conflicts = 65;
+      propagations = 0;
       status = undecided;
     }
 

@@ -37,7 +37,7 @@ module _ (p : Problem) where
   -- ---- the state
   pub opened : (rows : List ℤ) (numbers : List ℕ) (levels : List Level) → tab (inputAt (p .n) rows (p .divisors)) 0 (p .m) ≡ map rounded (problemOf p .constraints) →
       levelOf (p .n) (getD levels 0 noLevel) ≡ model.levelOf (problemOf p) →
-      view (record { n = p .n; m = p .m; budget = p .budget; conflicts = 0; made = 0; depth = 0; status = Undecided; rows = rows; divisors = p .divisors; numbers = numbers; levels = levels }) ≡ model.openProblem (problemOf p)
+      view (record { n = p .n; m = p .m; budget = p .budget; conflicts = 0; propagations = 0; made = 0; depth = 0; status = Undecided; rows = rows; divisors = p .divisors; numbers = numbers; levels = levels }) ≡ model.openProblem (problemOf p)
   unfolding view coreOf coreOver inputsOf levelAt levelsFrom keptCuts tab statusOf model.openProblem model.coreOf problemOf
   opened rows numbers levels r l =
       λ i.
@@ -45,5 +45,6 @@ module _ (p : Problem) where
         core = record { variables = variables-are i; inputs = r i; cuts = []; numbers = []; made = 0; deepest = l i; outer = [] };
         budget = p .budget;
         conflicts = 0;
+        propagations = 0;
         status = model.undecided;
       }

@@ -88,6 +88,7 @@ pub fn from_problem(p: Problem) -> Search
         m,
         budget,
         conflicts: 0,
+        propagations: 0,
         made: 0,
         depth: 0,
         status: Status::Undecided,

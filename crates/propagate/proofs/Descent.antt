@@ -1,20 +1,20 @@
 -- The model's descent from a valid state goes through propagation: it is propagation at the deepest level, and then the move where that stops.
-use Prim.Native.Nat.{ℕ, zero, suc, _<_}
+use Prim.Native.Nat.{ℕ, zero, suc, _+_, _<_}
 use native.Mathlib.Omega.{arith}
-use mathlib.Core.Path.{_≡_, refl, _∙_}
+use mathlib.Core.Path.{_≡_, ap, _∙_}
 use lib.IntN.{ℤ}
 use Rattle.model.specs.Search.{Level, Core, constraint, withLevels, withDeepest, kept, dropped, numberAt, raiseLower, lowerUpper}
-use Rattle.model.specs.Move.{Move, conflict, newLower, newUpper, decide, finish, nextMove, follow, slack, descend}
+use Rattle.model.specs.Move.{Move, conflict, newLower, newUpper, decide, finish, nextMove, follow, slack, descend, propagationsBy, propagationsIn}
 use Rattle.validity.proofs.Boxes.{Ordered, set-lower-slack, set-upper-slack}
 use Rattle.validity.proofs.Moves.{Raises, Lowers, Chosen, next-chosen}
 use Rattle.validity.proofs.States.{CoreFits, deepest-ordered, raise-fits, lower-fits}
-use Rattle.validity.proofs.Steps.{descent-next}
+use Rattle.validity.proofs.Steps.{descent-next, moves-next}
 use Rattle.propagate.specs.Propagation.{Propagation, propagateBy, propagateFor, propagation}
 use Rattle.propagate.proofs.Fuel.{Stopped, propagation-keeps}
 
 -- propagation at a state's deepest level
-abbrev pub propagated : Core → Propagation
-propagated c = propagation (kept c) (numberAt c) (c .deepest)
+abbrev pub propagated : Core → ℕ → Propagation
+propagated c k = propagation (kept c) (numberAt c) (c .deepest) k
 
 -- the state with another deepest level is valid
 abbrev pub FitsAt : Core → Level → Type 0
@@ -33,42 +33,59 @@ module _ (c : Core) where
   unfolding withDeepest withLevels kept numberAt dropped
   lower-at l j i v f m = lower-fits (withDeepest c l) j i v f m
 
+  -- where the descent from a level, and the count of its moves 2 from k on, go through propagation
+  record Through (l : Level) (k : ℕ) (r : Propagation) : Type 0 where
+    stop : descend (withDeepest c l) ≡ follow (r .move) (withDeepest c (r .level)) descend
+    count : k + propagationsIn (withDeepest c l) ≡ r .count + propagationsBy (r .move) (withDeepest c (r .level)) propagationsIn
+
   -- one move of propagation is one of the descent
-  by-follows : (m : Move) (l : Level) (go : Level → Propagation) → FitsAt c l → Chosen (kept c) (l .box) m →
-      ((k : Level) → FitsAt c k → slack (k .box) < slack (l .box) → descend (withDeepest c k) ≡ follow (go k .move) (withDeepest c (go k .level)) descend) →
-      follow m (withDeepest c l) descend ≡ follow (propagateBy m (numberAt c) l go .move) (withDeepest c (propagateBy m (numberAt c) l go .level)) descend
-  unfolding propagateBy follow raiseLower lowerUpper withDeepest withLevels numberAt dropped
-  by-follows (conflict j) l go f m next = refl
-  by-follows (newLower j i v) l go f m next =
-      next _ (raise-at l j i v f m) (set-lower-slack i v (l .box) (m .variable) (ordered-at l f) (m .better) (m .fits))
-  by-follows (newUpper j i v) l go f m next =
-      next _ (lower-at l j i v f m) (set-upper-slack i v (l .box) (m .variable) (ordered-at l f) (m .fits) (m .better))
-  by-follows (decide i) l go f m next = refl
-  by-follows finish l go f m next = refl
+  by-through : (m : Move) (l : Level) (k : ℕ) (go : Level → ℕ → Propagation) → FitsAt c l → Chosen (kept c) (l .box) m →
+      descend (withDeepest c l) ≡ follow m (withDeepest c l) descend → propagationsIn (withDeepest c l) ≡ propagationsBy m (withDeepest c l) propagationsIn →
+      ((d : Level) (e : ℕ) → FitsAt c d → slack (d .box) < slack (l .box) → Through d e (go d e)) → Through l k (propagateBy m (numberAt c) l k go)
+  unfolding propagateBy follow propagationsBy raiseLower lowerUpper withDeepest withLevels numberAt dropped
+  by-through (conflict j) l k go f m s n next = record { stop = s; count = ap (λ (x : ℕ). k + x) n }
+  by-through (newLower j i v) l k go f m s n next =
+      let t = next _ (suc k) (raise-at l j i v f m) (set-lower-slack i v (l .box) (m .variable) (ordered-at l f) (m .better) (m .fits)) in
+      record { stop = s ∙ t .stop; count = ap (λ (x : ℕ). k + x) n ∙ omega (arith, t .count) }
+  by-through (newUpper j i v) l k go f m s n next =
+      let t = next _ (suc k) (lower-at l j i v f m) (set-upper-slack i v (l .box) (m .variable) (ordered-at l f) (m .fits) (m .better)) in
+      record { stop = s ∙ t .stop; count = ap (λ (x : ℕ). k + x) n ∙ omega (arith, t .count) }
+  by-through (decide i) l k go f m s n next = record { stop = s; count = ap (λ (x : ℕ). k + x) n }
+  by-through finish l k go f m s n next = record { stop = s; count = ap (λ (x : ℕ). k + x) n }
 
-  next-follows : (l : Level) → FitsAt c l → descend (withDeepest c l) ≡ follow (nextMove (kept c) (l .box)) (withDeepest c l) descend
+  next-stop : (l : Level) → FitsAt c l → descend (withDeepest c l) ≡ follow (nextMove (kept c) (l .box)) (withDeepest c l) descend
   unfolding withDeepest withLevels kept
-  next-follows l f = descent-next (withDeepest c l) f
+  next-stop l f = descent-next (withDeepest c l) f
 
-  for-follows : (fuel : ℕ) (l : Level) → FitsAt c l → slack (l .box) < fuel →
-      descend (withDeepest c l) ≡ follow (propagateFor fuel (kept c) (numberAt c) l .move) (withDeepest c (propagateFor fuel (kept c) (numberAt c) l .level)) descend
+  next-count : (l : Level) → FitsAt c l → propagationsIn (withDeepest c l) ≡ propagationsBy (nextMove (kept c) (l .box)) (withDeepest c l) propagationsIn
+  unfolding withDeepest withLevels kept
+  next-count l f = moves-next (withDeepest c l) f
+
+  for-through : (fuel : ℕ) (l : Level) (k : ℕ) → FitsAt c l → slack (l .box) < fuel → Through l k (propagateFor fuel (kept c) (numberAt c) l k)
   unfolding propagateFor
-  for-follows zero l f h = let z : ⊥ = omega arith in absurd z
-  for-follows (suc fuel) l f h =
-      next-follows l f ∙
-      by-follows (nextMove (kept c) (l .box)) l (propagateFor fuel (kept c) (numberAt c)) f (next-chosen (kept c) (l .box) (ordered-at l f))
-      (λ k q s. for-follows fuel k q (omega arith))
+  for-through zero l k f h = let z : ⊥ = omega arith in absurd z
+  for-through (suc fuel) l k f h =
+      by-through (nextMove (kept c) (l .box)) l k (propagateFor fuel (kept c) (numberAt c)) f (next-chosen (kept c) (l .box) (ordered-at l f)) (next-stop l f) (next-count l f)
+      (λ d e q s. for-through fuel d e q (omega arith))
 
   -- a state with its own deepest level
   fits-own : CoreFits c → FitsAt c (c .deepest)
   unfolding withDeepest withLevels
   fits-own f = f
 
+  through : CoreFits c → (k : ℕ) → Through (c .deepest) k (propagated c k)
+  unfolding propagation
+  through f k = for-through (suc (slack (c .deepest .box))) (c .deepest) k (fits-own f) (omega arith)
+
   -- going through propagation is going through the descent
-  pub descent-propagated : CoreFits c → descend c ≡ follow (propagated c .move) (withDeepest c (propagated c .level)) descend
-  unfolding propagation withDeepest withLevels
-  descent-propagated f = for-follows (suc (slack (c .deepest .box))) (c .deepest) (fits-own f) (omega arith)
+  pub descent-propagated : (k : ℕ) → CoreFits c → descend c ≡ follow (propagated c k .move) (withDeepest c (propagated c k .level)) descend
+  unfolding withDeepest withLevels
+  descent-propagated k f = through f k .stop
+
+  pub count-propagated : (k : ℕ) → CoreFits c → k + propagationsIn c ≡ propagated c k .count + propagationsBy (propagated c k .move) (withDeepest c (propagated c k .level)) propagationsIn
+  unfolding withDeepest withLevels
+  count-propagated k f = through f k .count
 
   -- where it stops the state is valid, the move is the next one there, and it sets no bound
-  pub propagated-stopped : CoreFits c → Stopped (kept c) (FitsAt c) (propagated c)
-  propagated-stopped f = propagation-keeps (kept c) (numberAt c) (FitsAt c) ordered-at raise-at lower-at (c .deepest) (fits-own f)
+  pub propagated-stopped : (k : ℕ) → CoreFits c → Stopped (kept c) (λ l e. FitsAt c l) (propagated c k)
+  propagated-stopped k f = propagation-keeps (kept c) (numberAt c) (λ l e. FitsAt c l) (λ l e. ordered-at l) (λ l e. raise-at l) (λ l e. lower-at l) (c .deepest) k (fits-own f)

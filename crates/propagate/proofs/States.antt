@@ -14,7 +14,7 @@ use Rattle.model.specs.Constraint.{inRange}
 use Rattle.model.specs.File.{noConstraint}
 use Rattle.model.specs.Problem.{boundsInRange}
 use Rattle.model.specs.Search as model
-use Rattle.model.specs.Move.{follow, descend}
+use Rattle.model.specs.Move.{follow, descend, propagationsBy, propagationsIn}
 use Rattle.lists.proofs.Bools.{true-of, T-of, lt-or-le}
 use Rattle.lists.proofs.Tab.{length-tab, getD-tab}
 use Rattle.lists.proofs.AllOf.{allOf-getD, allOf-of, allOf-replicate}
@@ -32,10 +32,10 @@ use Rattle.propagate.specs.Moves.{stopOf}
 use Rattle.propagate.specs.Propagation.{Propagation, propagation, propagationOf}
 use Rattle.propagate.specs.Ready.{keptRows, Ready}
 use Rattle.propagate.specs.Divided.{keptOver, coreApart, blankRow, Apart}
-use Rattle.propagate.specs.declared.propagate.Found.{Found}
+use Rattle.propagate.specs.declared.propagate.Propagated.{Propagated}
 use Rattle.propagate.proofs.Warning.{zero-or, length-over, over-cut}
 use Rattle.propagate.proofs.Fuel.{Stopped}
-use Rattle.propagate.proofs.Descent.{FitsAt, propagated, descent-propagated, propagated-stopped}
+use Rattle.propagate.proofs.Descent.{FitsAt, propagated, descent-propagated, count-propagated, propagated-stopped}
 
 -- a blank is in range
 blank-range : (n : ℕ) → inRange (blankRow n) ≡ true
@@ -72,31 +72,38 @@ module _ (n m made : ℕ) (rows lines divisors : List ℤ) (numbers : List ℕ) 
   pub state-ready : n ≤ maxVariables → m ≤ maxConstraints → made ≤ maxBudget → Whole l → Ready n m made rows l
   state-ready few inputs cuts w = record { few = few; inputs = inputs; cuts = cuts; whole = w; constraints = state-range; bounds = state-bounds }
 
-  module _ (k : Level) (found : Found) (e : propagationOf n k found ≡ propagation (keptOver n m made rows lines divisors) (numberFor m made) (levelOf n l)) where
-    state-propagated : propagated (coreApart n m made rows lines divisors numbers (levelOf n l) ls) ≡ propagationOf n k found
+  module _ (k : Level) (count : ℕ) (found : Propagated) (e : propagationOf n k found ≡ propagation (keptOver n m made rows lines divisors) (numberFor m made) (levelOf n l) count) where
+    state-propagated : propagated (coreApart n m made rows lines divisors numbers (levelOf n l) ls) count ≡ propagationOf n k found
     unfolding coreOver model.kept
     state-propagated =
-        ap (λ (number : ℕ → ℕ). propagation (keptOver n m made rows lines divisors) number (levelOf n l))
+        ap (λ (number : ℕ → ℕ). propagation (keptOver n m made rows lines divisors) number (levelOf n l) count)
         (number-over (tab (inputAt n lines divisors) 0 m) n m made rows numbers (levelOf n l) ls (length-tab (inputAt n lines divisors) 0 m)) ∙ sym e
 
     pub state-descent : descend (coreApart n m made rows lines divisors numbers (levelOf n l) ls) ≡
-        follow (stopOf found) (coreApart n m made rows lines divisors numbers (levelOf n k) ls) descend
+        follow (stopOf (found .found)) (coreApart n m made rows lines divisors numbers (levelOf n k) ls) descend
     unfolding coreOver model.withDeepest model.withLevels propagationOf
     state-descent =
         let c = coreApart n m made rows lines divisors numbers (levelOf n l) ls in
-        subst (λ (p : Propagation). descend c ≡ follow (p .move) (model.withDeepest c (p .level)) descend) state-propagated (descent-propagated c f)
+        subst (λ (p : Propagation). descend c ≡ follow (p .move) (model.withDeepest c (p .level)) descend) state-propagated (descent-propagated c count f)
 
-    state-stopped : Stopped (keptOver n m made rows lines divisors) (FitsAt (coreApart n m made rows lines divisors numbers (levelOf n l) ls)) (propagationOf n k found)
+    pub state-count : count + propagationsIn (coreApart n m made rows lines divisors numbers (levelOf n l) ls) ≡
+        found .count + propagationsBy (stopOf (found .found)) (coreApart n m made rows lines divisors numbers (levelOf n k) ls) propagationsIn
+    unfolding coreOver model.withDeepest model.withLevels propagationOf
+    state-count =
+        let c = coreApart n m made rows lines divisors numbers (levelOf n l) ls in
+        subst (λ (p : Propagation). count + propagationsIn c ≡ p .count + propagationsBy (p .move) (model.withDeepest c (p .level)) propagationsIn) state-propagated (count-propagated c count f)
+
+    state-stopped : Stopped (keptOver n m made rows lines divisors) (λ l₁ d. FitsAt (coreApart n m made rows lines divisors numbers (levelOf n l) ls) l₁) (propagationOf n k found)
     unfolding coreOver model.kept
     state-stopped =
         let c = coreApart n m made rows lines divisors numbers (levelOf n l) ls in
-        subst (Stopped (keptOver n m made rows lines divisors) (FitsAt c)) state-propagated (propagated-stopped c f)
+        subst (Stopped (keptOver n m made rows lines divisors) (λ l₁ d. FitsAt c l₁)) state-propagated (propagated-stopped c count f)
 
     pub state-fits : CoreFits (coreApart n m made rows lines divisors numbers (levelOf n k) ls)
     unfolding coreOver model.withDeepest model.withLevels propagationOf
     state-fits = state-stopped .holds
 
-    pub state-chosen : Chosen (keptOver n m made rows lines divisors) (boxOf n (k .lower) (k .upper)) (stopOf found)
+    pub state-chosen : Chosen (keptOver n m made rows lines divisors) (boxOf n (k .lower) (k .upper)) (stopOf (found .found))
     unfolding propagationOf levelOf
     state-chosen = state-stopped .chosen
 

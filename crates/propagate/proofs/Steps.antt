@@ -1,8 +1,9 @@
 -- One turn of propagation's loop: a bound that is set keeps what propagation asks, leaves its answer as it was, and lowers the slack.
 use Prim.Native.Nat.{ℕ, _+_, _<_}
 use native.Mathlib.Omega.{arith}
+use native.Mathlib.Numerals.{add-one}
 use mathlib.Core.List.{List}
-use mathlib.Core.Path.{_≡_, sym, ap, subst, _∙_}
+use mathlib.Core.Path.{_≡_, sym, ap, ap₂, subst, _∙_}
 use lib.Dec.{lit≤}
 use lib.IntN.{ℤ, _-ℤ_}
 use lib.ListN.{length, length-set}
@@ -38,9 +39,9 @@ use Rattle.propagate.proofs.Numbers.{number-reason}
 abbrev pub boxAt : ℕ → Level → Box
 boxAt n l = boxOf n (l .lower) (l .upper)
 
--- with the kept constraints ks
-unfoldable pub answer : List Constraint → ℕ → ℕ → ℕ → Level → Propagation
-answer ks n m made l = propagation ks (numberFor m made) (levelOf n l)
+-- with the kept constraints ks, and so many bounds set before
+unfoldable pub answer : List Constraint → ℕ → ℕ → ℕ → Level → ℕ → Propagation
+answer ks n m made l count = propagation ks (numberFor m made) (levelOf n l) count
 
 -- what the scans ask
 pub scan-fits : (n m made : ℕ) (rows : List ℤ) (l : Level) → Ready n m made rows l → ScanFits n (m + keptCuts made) rows (l .lower) (l .upper)
@@ -52,7 +53,7 @@ pub record Next (ks : List Constraint) (n m made : ℕ) (rows : List ℤ) (l : L
   pub constraint : j < m + keptCuts made
   pub variable : i < n
   pub ready : Ready n m made rows k
-  pub same : answer ks n m made l ≡ answer ks n m made k
+  pub same : (count : ℕ) → answer ks n m made l count ≡ answer ks n m made k (count + 1)
   pub less : slack (boxAt n k) < slack (boxAt n l)
 
 module _ (ks : List Constraint) (n m made : ℕ) (rows : List ℤ) (long : length ks ≡ m + keptCuts made) (l : Level) (r : Ready n m made rows l) where
@@ -60,19 +61,19 @@ module _ (ks : List Constraint) (n m made : ℕ) (rows : List ℤ) (long : lengt
   ordered = range-ordered (boxAt n l) (r .bounds)
 
   -- the answer is what the next move leads to
-  follows : (move : Move) → move ≡ nextMove ks (boxAt n l) →
-      answer ks n m made l ≡ propagateBy move (numberFor m made) (levelOf n l) (propagation ks (numberFor m made))
+  follows : (count : ℕ) (move : Move) → move ≡ nextMove ks (boxAt n l) →
+      answer ks n m made l count ≡ propagateBy move (numberFor m made) (levelOf n l) count (propagation ks (numberFor m made))
   unfolding answer levelOf
-  follows move e =
-      propagation-next ks (numberFor m made) (levelOf n l) ordered ∙
-      ap (λ (x : Move). propagateBy x (numberFor m made) (levelOf n l) (propagation ks (numberFor m made))) (sym e)
+  follows count move e =
+      propagation-next ks (numberFor m made) (levelOf n l) count ordered ∙
+      ap (λ (x : Move). propagateBy x (numberFor m made) (levelOf n l) count (propagation ks (numberFor m made))) (sym e)
 
   chosen : (move : Move) → move ≡ nextMove ks (boxAt n l) → Chosen ks (boxAt n l) move
   chosen move e = subst (Chosen ks (boxAt n l)) (sym e) (next-chosen ks (boxAt n l) ordered)
 
   -- a level with a smaller box
   nested-next : (j i : ℕ) (k : Level) → (j < m + keptCuts made) × (i < n) → Whole k → Ordered (boxAt n k) → Nested (boxAt n k) (boxAt n l) → slack (boxAt n k) < slack (boxAt n l) →
-      answer ks n m made l ≡ answer ks n m made k → Next ks n m made rows l j i k
+      ((count : ℕ) → answer ks n m made l count ≡ answer ks n m made k (count + 1)) → Next ks n m made rows l j i k
   nested-next j i k places w o h less e =
       record {
         constraint = places .0;
@@ -100,9 +101,9 @@ module _ (ks : List Constraint) (n m made : ℕ) (rows : List ℤ) (long : lengt
     raised-level =
         level-raised n l (r .whole) (r .few) i v (numberFor m made j) (raise-places .1) ∙ rw (number-reason m made j (r .inputs) (r .cuts) (raise-places .0))
 
-    raised-answer : answer ks n m made l ≡ answer ks n m made (raised l i v (numberFor m made j))
+    raised-answer : (count : ℕ) → answer ks n m made l count ≡ answer ks n m made (raised l i v (numberFor m made j)) (count + 1)
     unfolding propagateBy answer
-    raised-answer = follows (newLower j i v) e ∙ ap (propagation ks (numberFor m made)) (sym raised-level)
+    raised-answer count = follows count (newLower j i v) e ∙ ap₂ (propagation ks (numberFor m made)) (sym raised-level) (sym (add-one count))
 
     pub raise-next : Next ks n m made rows l j i (raised l i v (numberFor m made j))
     raise-next =
@@ -142,9 +143,9 @@ module _ (ks : List Constraint) (n m made : ℕ) (rows : List ℤ) (long : lengt
     lowered-level =
         level-lowered n l (r .whole) (r .few) i v (numberFor m made j) (lower-places .1) ∙ rw (number-reason m made j (r .inputs) (r .cuts) (lower-places .0))
 
-    lowered-answer : answer ks n m made l ≡ answer ks n m made (lowered l i v (numberFor m made j))
+    lowered-answer : (count : ℕ) → answer ks n m made l count ≡ answer ks n m made (lowered l i v (numberFor m made j)) (count + 1)
     unfolding propagateBy answer
-    lowered-answer = follows (newUpper j i v) e ∙ ap (propagation ks (numberFor m made)) (sym lowered-level)
+    lowered-answer count = follows count (newUpper j i v) e ∙ ap₂ (propagation ks (numberFor m made)) (sym lowered-level) (sym (add-one count))
 
     pub lower-next : Next ks n m made rows l j i (lowered l i v (numberFor m made j))
     lower-next =
@@ -174,8 +175,8 @@ module _ (ks : List Constraint) (n m made : ℕ) (rows : List ℤ) (long : lengt
         }
 
   -- where the next move sets no bound, it is the answer
-  pub stop-answer : (found : Found) → stopOf found ≡ nextMove ks (boxAt n l) → propagationOf n l found ≡ answer ks n m made l
+  pub stop-answer : (found : Found) (count : ℕ) → stopOf found ≡ nextMove ks (boxAt n l) → propagationOf n l (record { found = found; count = count }) ≡ answer ks n m made l count
   unfolding propagateBy propagationOf stopOf
-  stop-answer (Conflict j) e = sym (follows (conflict j) e)
-  stop-answer (Decide i) e = sym (follows (decide i) e)
-  stop-answer Finish e = sym (follows finish e)
+  stop-answer (Conflict j) count e = sym (follows count (conflict j) e)
+  stop-answer (Decide i) count e = sym (follows count (decide i) e)
+  stop-answer Finish count e = sym (follows count finish e)

@@ -12,12 +12,12 @@ ghost use mathlib.Core.Path.{_≡_};
 ghost use Prim.Native.Nat.{ℕ, _+_, _≤_};
 ghost use Rattle.model.specs.Lists.{withDefault};
 ghost use Rattle.model.specs.Ranges.{maxVariables};
-ghost use Rattle.model.specs.Move.{finish, firstOpen};
+ghost use Rattle.model.specs.Move.{finish, firstOpen, slack};
 ghost use Rattle.layout.specs.Rows.{boxOf};
 ghost use Rattle.state.specs.View.{keptCuts, numberFor, levelOf};
 ghost use Rattle.state.specs.Change.{held};
 ghost use Rattle.propagate.specs.Moves.{stopOf};
-ghost use Rattle.propagate.specs.Propagation.{propagation, propagationOf};
+ghost use Rattle.propagate.specs.Propagation.{propagation, propagationOf, mostCounted};
 ghost use Rattle.propagate.specs.Ready.{Ready};
 ghost use Rattle.propagate.specs.Tracked.{Tracked};
 ghost use Rattle.propagate.specs.Divided.{keptOver, Apart, Columns, Warned};
@@ -28,6 +28,12 @@ pub enum Found {
     Conflict(usize),
     Decide(usize),
     Finish,
+}
+
+// That, and the count of bounds that constraints set so far.
+pub struct Propagated {
+    pub found: Found,
+    pub count: usize,
 }
 
 // Where no constraint sets a bound: a decision at the first open variable, or the solution.
@@ -44,7 +50,7 @@ fn decide_or_finish<'a>(lower: &'a [i64; 32], upper: &'a [i64; 32], n: usize) ->
 
 // Move 2, repeated on the level in hand until the next move is a conflict, a decision or the end. `told` is the position of the first constraint that
 // the level falsifies. What is kept of each inequality follows the level; at a conflict it is stale. A divisor constraint is tested where a bound of one
-// of its variables is set: `columns` has those that mention each variable.
+// of its variables is set: `columns` has those that mention each variable. Each bound that is set is counted, on top of the `earlier` ones.
 pub fn propagate<'a>(
     rows: &'a [i64; 4224],
     lines: &'a [i64; 4224],
@@ -56,23 +62,26 @@ pub fn propagate<'a>(
     inputs: &'a [usize; 64],
     cuts: &'a [usize; 64],
     told: usize,
+    earlier: usize,
     lower: &mut [i64; 32],
     upper: &mut [i64; 32],
     below: &mut [usize; 32],
     above: &mut [usize; 32],
     activities: &mut [i64; 128],
     reaches: &mut [i64; 128],
-) -> Found
+) -> Propagated
     requires { ⌜ Ready n m made (now rows) (held (now lower) (now upper) (now below) (now above) 0) ⌝ }
     requires { ⌜ Warned (keptOver n m made (now rows) (now lines) (now divisors)) n (now rows) (now lower) (now upper) (now activities) (now reaches) (m + keptCuts made) told × Masked n m (m + keptCuts made) (now rows) (now inputs) (now cuts) ⌝ }
     requires { ⌜ Apart n m (now rows) (now lines) (now divisors) × Columns n m (now lines) (now divisors) (now columns) ⌝ }
-    ensures { λ r. ⌜ ((d : ℕ) → propagationOf n (held (now (lower .exit)) (now (upper .exit)) (now (below .exit)) (now (above .exit)) d) r ≡ propagation (keptOver n m made (now (rows .entry)) (now (lines .entry)) (now (divisors .entry))) (numberFor m made) (levelOf n (held (now (lower .entry)) (now (upper .entry)) (now (below .entry)) (now (above .entry)) d))) ⌝ }
+    requires { ⌜ earlier + slack (boxOf n (now lower) (now upper)) ≤ mostCounted ⌝ }
+    ensures { λ r. ⌜ ((d : ℕ) → propagationOf n (held (now (lower .exit)) (now (upper .exit)) (now (below .exit)) (now (above .exit)) d) r ≡ propagation (keptOver n m made (now (rows .entry)) (now (lines .entry)) (now (divisors .entry))) (numberFor m made) (levelOf n (held (now (lower .entry)) (now (upper .entry)) (now (below .entry)) (now (above .entry)) d)) earlier) ⌝ }
     ensures { λ r. ⌜ Ready n m made (now (rows .entry)) (held (now (lower .exit)) (now (upper .exit)) (now (below .exit)) (now (above .exit)) 0) ⌝ }
-    ensures { λ r. ⌜ (Tracked n (now (rows .entry)) (now (lower .exit)) (now (upper .exit)) (now (activities .exit)) (now (reaches .exit)) 0) × ((i : ℕ) → r ≡ Found.Decide i → Tracked n (now (rows .entry)) (now (lower .exit)) (now (upper .exit)) (now (activities .exit)) (now (reaches .exit)) (m + keptCuts made)) ⌝ }
+    ensures { λ r. ⌜ (Tracked n (now (rows .entry)) (now (lower .exit)) (now (upper .exit)) (now (activities .exit)) (now (reaches .exit)) 0) × ((i : ℕ) → r .found ≡ Found.Decide i → Tracked n (now (rows .entry)) (now (lower .exit)) (now (upper .exit)) (now (activities .exit)) (now (reaches .exit)) (m + keptCuts made)) ⌝ }
 {
     let kept = kept_count(m, made);
     let open = open_mask(lower, upper, n);
     let mut falsified = told;
+    let mut count = earlier;
     while falsified == kept {
         let better = first_improvement(
             rows,
@@ -93,17 +102,21 @@ pub fn propagate<'a>(
                 let first = raise_lower(rows, i, v, number, kept, lower, below, activities);
                 let due = columns[i];
                 falsified = first_indivisible(lines, divisors, due, lower, upper, n, m, first);
+                count += 1;
             }
             Move::Upper(j, i, v) => {
                 let number = number_of(m, made, j);
                 let first = lower_upper(rows, i, v, number, kept, upper, above, activities);
                 let due = columns[i];
                 falsified = first_indivisible(lines, divisors, due, lower, upper, n, m, first);
+                count += 1;
             }
             Move::Nothing => {
-                return decide_or_finish(lower, upper, n);
+                let found = decide_or_finish(lower, upper, n);
+                return Propagated { found, count };
             }
         }
     }
-    Found::Conflict(falsified)
+    let found = Found::Conflict(falsified);
+    Propagated { found, count }
 }

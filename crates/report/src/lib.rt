@@ -8,6 +8,7 @@ pub use line::ends_line;
 pub use line::none_line;
 pub use line::plan_line;
 pub use line::refused_line;
+pub use line::set_line;
 pub use line::solution_line;
 pub use line::spent_line;
 pub use line::struck_line;

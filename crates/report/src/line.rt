@@ -150,6 +150,14 @@ pub fn struck_line(out: &mut [u8], at: usize, count: usize) -> usize
     put_last(out, at, b"struck ", count)
 }
 
+// `set 1`: the count of bounds that constraints set, document 02's N5.
+pub fn set_line(out: &mut [u8], at: usize, count: usize) -> usize
+    requires { ⌜ at + longestLine ≤ length (now out) ⌝ }
+    ensures { λ r. ⌜ Ends longestLine at r ⌝ }
+{
+    put_last(out, at, b"set ", count)
+}
+
 // `refused 4`: an error's number in the documents' tables.
 pub fn refused_line(out: &mut [u8], at: usize, error: usize) -> usize
     requires { ⌜ at + longestLine ≤ length (now out) ⌝ }

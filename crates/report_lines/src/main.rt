@@ -61,13 +61,19 @@ fn struck(count: usize) {
     write(&out, end);
 }
 
+fn set(count: usize) {
+    let mut out = [0u8; LONGEST_LINE];
+    let end = report::set_line(&mut out, 0, count);
+    write(&out, end);
+}
+
 fn refused(error: usize) {
     let mut out = [0u8; LONGEST_LINE];
     let end = report::refused_line(&mut out, 0, error);
     write(&out, end);
 }
 
-// Document 01's plan A: its four lines in one buffer.
+// Plan A of the documents: its five lines in one buffer.
 fn plan_a() {
     let mut block = [0u8; 512];
     block[4] = 1;
@@ -82,7 +88,8 @@ fn plan_a() {
     let after_end = report::end_line(&mut out, after_plan, &block);
     let after_solution = report::solution_line(&mut out, after_end, &values, 2);
     let after_ends = report::ends_line(&mut out, after_solution, 1);
-    write(&out, after_ends);
+    let after_set = report::set_line(&mut out, after_ends, 1);
+    write(&out, after_set);
 }
 
 fn plans() {
@@ -127,6 +134,11 @@ fn main() {
     ends(1000000000);
     struck(0);
     struck(4611686018427387904);
+    set(0);
+    set(4611686018427387904);
+    // the most that a call can tell: 2^62, and a run of 10^9 + 1 turns with 2^26 bounds each
+    set(4678794882494496768);
+    set(18446744073709551615);
     refused(1);
     refused(9);
     refused(10);

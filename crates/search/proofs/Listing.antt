@@ -7,12 +7,12 @@ use lib.ListN.{length}
 use Rattle.model.specs.Search.{Status, undecided, infeasible, solved, Search, depth}
 use Rattle.model.specs.Step.{Verdict, goOn, noSolution, outOfBudget, solution, Outcome, blockIn, withStatus, withoutBlock, run}
 use Rattle.model.specs.Trace.{Trace, lastStep, advance}
-use Rattle.model.specs.Exclude.{Exclusion, struck, ended, unsolved, unchanged, excludeAt, excludeBy, exclude}
+use Rattle.model.specs.Exclude.{Exclusion, struck, ended, unsolved, unchanged, excludeAt, excludeBy, exclude, excludeWithin}
 use Rattle.model.specs.Listing.{Listing, endsWith, listAfter, goesOn, listFrom}
 use Rattle.validity.specs.Valid.{Valid}
 use Rattle.validity.proofs.States.{sizes-fit}
 use Rattle.validity.proofs.Steps.{Counted}
-use Rattle.validity.proofs.Excluding.{exclude-valid}
+use Rattle.validity.proofs.Excluding.{within-by, within-valid}
 use Rattle.validity.proofs.Repeating.{Same, run-same, advance-counted}
 use Rattle.engine.specs.Advancing.{advanceOver}
 use Rattle.search.proofs.Proceeding.{advance-valid}
@@ -29,25 +29,25 @@ by-counted undecided s = record { conflicts = omega arith; budget = refl }
 by-counted infeasible s = record { conflicts = omega arith; budget = refl }
 by-counted solved s = at-counted (depth (s .core)) s
 
-exclude-counted : (s : Search) → Counted s [] (exclude s .state)
-unfolding exclude
-exclude-counted s = by-counted (s .status) s
+within-counted : (s : Search) → Counted s [] (excludeWithin s .state)
+unfolding unchanged
+within-counted s = within-by (λ e. Counted s [] (e .state)) s (unfold exclude in by-counted (s .status) s) (record { conflicts = omega arith; budget = refl })
 
 -- ---- a run's answer has no block
 unfoldable pub withoutBlocks : Trace → Trace
-withoutBlocks t = record { verdict = t .verdict; count = t .count; blocks = []; state = t .state }
+withoutBlocks t = record { verdict = t .verdict; count = t .count; propagations = t .propagations; blocks = []; state = t .state }
 
 pub record Lists (a : Listing Trace) (b : Listing Outcome) : Type 0 where
   pub struck : a .struck ≡ b .struck
   pub last : withoutBlocks (a .last) ≡ lastStep (b .last)
 
-same-trace : {v w : Verdict} {c d : ℕ} {s t : Search} → v ≡ w → c ≡ d → s ≡ t →
-    _≡_ {A = Trace} (record { verdict = v; count = c; blocks = []; state = s }) (record { verdict = w; count = d; blocks = []; state = t })
-same-trace e f g = rw (e, f, g)
+same-trace : {v w : Verdict} {c d k l : ℕ} {s t : Search} → v ≡ w → c ≡ d → k ≡ l → s ≡ t →
+    _≡_ {A = Trace} (record { verdict = v; count = c; propagations = k; blocks = []; state = s }) (record { verdict = w; count = d; propagations = l; blocks = []; state = t })
+same-trace e f g h = rw (e, f, g, h)
 
 run-last : (s : Search) → Valid s → withoutBlocks (advance (suc (s .budget - s .conflicts)) s) ≡ lastStep (run s)
 unfolding withoutBlocks lastStep blockIn run withoutBlock
-run-last s v = let r : Same (advance (suc (s .budget - s .conflicts)) s) (run s) = run-same s v in same-trace (r .verdict) (r .count) (r .state)
+run-last s v = let r : Same (advance (suc (s .budget - s .conflicts)) s) (run s) = run-same s v in same-trace (r .verdict) (r .count) (r .propagations) (r .state)
 
 -- ---- from solution to solution
 goes-lists : (v : Verdict) (x : Exclusion) (t : Trace) (o : Outcome) (l : Listing Trace) (k : Listing Outcome) → withoutBlocks t ≡ lastStep o → Lists l k → Lists (goesOn v x t l) (goesOn v x o k)
@@ -60,9 +60,9 @@ goes-lists noSolution x t o l k e h = record { struck = refl; last = e }
 goes-lists outOfBudget x t o l k e h = record { struck = refl; last = e }
 
 next-lists : {v w : Verdict} {s u : Search} (t : Trace) (o : Outcome) (go : Search → Listing Trace) (to : Search → Listing Outcome) → v ≡ w → s ≡ u → withoutBlocks t ≡ lastStep o →
-    Lists (go (exclude s .state)) (to (exclude s .state)) →
-    Lists (goesOn v (exclude s .answer) t (go (exclude s .state))) (goesOn w (exclude u .answer) o (to (exclude u .state)))
-next-lists {v} {w} {s} t o go to p q e h = rw (← p, ← q) (goes-lists v (exclude s .answer) t o (go (exclude s .state)) (to (exclude s .state)) e h)
+    Lists (go (excludeWithin s .state)) (to (excludeWithin s .state)) →
+    Lists (goesOn v (excludeWithin s .answer) t (go (excludeWithin s .state))) (goesOn w (excludeWithin u .answer) o (to (excludeWithin u .state)))
+next-lists {v} {w} {s} t o go to p q e h = rw (← p, ← q) (goes-lists v (excludeWithin s .answer) t o (go (excludeWithin s .state)) (to (excludeWithin s .state)) e h)
 
 pub lists-same : (room : ℕ) (s : Search) → Valid s → Lists (advanceOver room (suc (s .budget - s .conflicts)) s) (listFrom room s)
 unfolding advanceOver listFrom endsWith
@@ -71,9 +71,9 @@ lists-same (suc room) s v =
     let limit = suc (s .budget - s .conflicts) in
     let t = advance limit s in
     let w = advance-valid limit s v in
-    let e = exclude (t .state) .state in
+    let e = excludeWithin (t .state) .state in
     let c = advance-counted limit s v in
-    let d = exclude-counted (t .state) in
+    let d = within-counted (t .state) in
     let left : limit - length (t .blocks) ≡ suc (e .budget - e .conflicts) = omega (arith, c .conflicts, c .budget, d .conflicts, d .budget, sizes-fit (t .state) (w .tests) .conflicts) in
     let r = run-same s v in
-    next-lists t (run s) (advanceOver room (limit - length (t .blocks))) (listFrom room) (r .verdict) (r .state) (run-last s v) (rw left (lists-same room e (exclude-valid (t .state) w)))
+    next-lists t (run s) (advanceOver room (limit - length (t .blocks))) (listFrom room) (r .verdict) (r .state) (run-last s v) (rw left (lists-same room e (within-valid (t .state) w)))

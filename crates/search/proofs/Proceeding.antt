@@ -9,11 +9,11 @@ use lib.ListN.{length}
 use Rattle.model.specs.Search as model
 use Rattle.model.specs.Step.{Verdict, goOn, noSolution, outOfBudget, solution, Outcome, blockIn, lowers, again, stepBy, step}
 use Rattle.model.specs.Trace.{Trace, withBlocks, lastStep, advanced, advance, joined}
-use Rattle.model.specs.Exclude.{Exclusion, struck, ended, unsolved, exclude}
+use Rattle.model.specs.Exclude.{Exclusion, struck, ended, unsolved, excludeWithin}
 use Rattle.model.specs.Listing.{Listing, endsWith, listAfter, goesOn, roomAt}
 use Rattle.validity.specs.Valid.{Valid}
 use Rattle.validity.proofs.Steps.{step-valid, impossible}
-use Rattle.validity.proofs.Excluding.{exclude-valid}
+use Rattle.validity.proofs.Excluding.{within-valid}
 use Rattle.state.specs.View.{statusOf, view}
 use Rattle.state.specs.declared.Search.{Search}
 use Rattle.state.specs.declared.Status.{Status}
@@ -55,7 +55,7 @@ over-valid zero limit s v = advance-valid limit s v
 over-valid (suc room) limit s v =
     let t = advance limit s in
     let w = advance-valid limit s v in
-    goes-valid (t .verdict) (exclude (t .state) .answer) t _ w (over-valid room (limit - length (t .blocks)) (exclude (t .state) .state) (exclude-valid (t .state) w))
+    goes-valid (t .verdict) (excludeWithin (t .state) .answer) t _ w (over-valid room (limit - length (t .blocks)) (excludeWithin (t .state) .state) (within-valid (t .state) w))
 
 -- ---- the sizes of the state after them
 pub after-sizes : {s : model.Search} {limit : ℕ} {keep : Bool} {room : ℕ} {a : Advanced} {old now : List ℕ} {list list₁ : List ℤ} → Valid s → Advances s limit keep room a old now list list₁ → SizesFit (a .state)

@@ -5,6 +5,7 @@ use mathlib.Core.Bool.{Bool, true, false, cond}
 use mathlib.Core.List.{List, [], _++_, append-nil}
 use mathlib.Core.Option.{Option, none, some}
 use mathlib.Core.Path.{_≡_, refl, sym, ap, subst, _∙_}
+use borrow.Author.Tests.{leb-true}
 use lib.Dec.{eqb}
 use lib.IntN.{ℤ}
 use lib.ListN.{getD, length, take, drop}
@@ -16,9 +17,10 @@ use Rattle.model.specs.Problem.{Result, ok, error}
 use Rattle.model.specs.Step.{Outcome, blockIn as blocksIn, lowers, checked, step, stepCall, runCall}
 use Rattle.model.specs.Trace.{Trace, lastStep, advance, joined, written, tracedBy, traceCall}
 use Rattle.model.specs.Listing.{Listing, endsWith, listFrom, roomAt, list as listOver, listedIn, listedBy, listCall}
-use Rattle.model.specs.Validity.{valid}
+use Rattle.model.specs.Ranges.{maxPropagations}
+use Rattle.model.specs.Validity.{valid, withinLimit, admitted}
 use Rattle.layout.specs.Rows.{numberIn}
-use Rattle.lists.proofs.Bools.{T-of}
+use Rattle.lists.proofs.Bools.{T-of, and-true}
 use Rattle.lists.proofs.Tab.{length-tab}
 use Rattle.fields.specs.Fields.{zeros, filled}
 use Rattle.state.specs.View.{noLevel, levelAt, coreOver, coreOf, statusOf, view}
@@ -40,8 +42,15 @@ use Rattle.search.proofs.Proceeding.{room-none, trace-alone}
 use Rattle.search.proofs.Listing.{withoutBlocks, Lists, lists-same}
 
 -- ---- a state that passed the test
-pub valid-view : (s : Search) → valid (view s) ≡ true → Valid (view s)
-valid-view s e = record { shape = unfold view in view-shaped s; tests = T-of e }
+module _ (s : Search) (e : admitted (view s) ≡ true) where
+  parts : (valid (view s) ≡ true) × (withinLimit (view s) ≡ true)
+  parts = and-true (valid (view s)) (withinLimit (view s)) (unfold admitted in e)
+
+  pub valid-view : Valid (view s)
+  valid-view = record { shape = unfold view in view-shaped s; tests = T-of (parts .0) }
+
+  pub few-view : s .propagations ≤ maxPropagations
+  few-view = leb-true (s .propagations) maxPropagations (unfold withinLimit view in parts .1)
 
 -- ---- the values of a solution
 view-lowers : (s : Search) → lowers (view s .core .deepest .box) ≡ tab (numberIn (getD (s .levels) (s .depth) noLevel .lower)) 0 (s .n)
@@ -83,14 +92,14 @@ written-shown : (s : Search) (a : Advanced) (t : Trace) (blocks : List (List ℕ
 unfolding written
 written-shown s a t blocks old now e b = rw (b, ← e) (unfold traceOf in refl)
 
-pub trace-shown : (s : Search) (a : Advanced) (old now : List ℕ) (list list₁ : List ℤ) → valid (view s) ≡ true →
+pub trace-shown : (s : Search) (a : Advanced) (old now : List ℕ) (list list₁ : List ℤ) → admitted (view s) ≡ true →
     Advances (view s) (length old / blockLength) true (roomAt (statusOf (s .status)) 0) a old now list list₁ → seenTraced (answered a) now ≡ traceSeen s old
 unfolding traceSeen traceCall
 trace-shown s a old now list list₁ v h =
     answer-shown s a (h .blocks) now (h .many) ∙
     rw v (unfold tracedBy in written-shown s a (advance (length old / blockLength) (view s)) (h .blocks) old now (trace-alone (statusOf (s .status)) h) (h .buffer .written refl))
 
-pub trace-refused : (s : Search) (old : List ℕ) → valid (view s) ≡ false → seenTraced (refusal s) old ≡ traceSeen s old
+pub trace-refused : (s : Search) (old : List ℕ) → admitted (view s) ≡ false → seenTraced (refusal s) old ≡ traceSeen s old
 unfolding traceSeen traceCall refusal
 trace-refused s old v = rw v (unfold tracedBy shown seenTraced verdictOf refusedIn in refl)
 
@@ -116,7 +125,7 @@ step-by s false h = refl
 
 pub step-shown : (s : Search) → traceSeen s noBlock ≡ stepSeen s
 unfolding traceSeen traceCall stepSeen stepCall
-step-shown s = step-by s (valid (view s)) (λ e. sizes s (valid-view s e) .afford)
+step-shown s = step-by s (admitted (view s)) (λ e. sizes s (valid-view s e) .afford)
 
 -- how many blocks a turn gives
 few-blocks : (b : Option (List ℕ)) (k : ℕ) → k ≡ length (blocksIn b) → cond (eqb k 1) 1 0 ≡ k
@@ -130,7 +139,7 @@ step-blocks (ok o) s k e = few-blocks (o .block) k e
 step-blocks (error x) s k e = rw e
 
 pub step-seen : (s : Search) (t : Traced) (block : List ℕ) → seenTraced t block ≡ traceSeen s noBlock →
-    seenStepped (record { verdict = t .verdict; values = t .values; count = t .count; recorded = eqb (t .blocks) 1; block = block; state = t .state }) ≡ stepSeen s
+    seenStepped (record { verdict = t .verdict; values = t .values; count = t .count; propagations = t .propagations; recorded = eqb (t .blocks) 1; block = block; state = t .state }) ≡ stepSeen s
 unfolding seenStepped seenTraced shown stepSeen
 step-seen s t block e =
     let q = e ∙ step-shown s in
@@ -138,7 +147,7 @@ step-seen s t block e =
     rw k q
 
 -- ---- a listing, and a run, which has no room for a strike
-module _ (s : Search) (a : Advanced) (room : ℕ) (old now : List ℕ) (list list₁ : List ℤ) (v : valid (view s) ≡ true) (h : Advances (view s) (s .budget - s .conflicts + 1) false room a old now list list₁) where
+module _ (s : Search) (a : Advanced) (room : ℕ) (old now : List ℕ) (list list₁ : List ℤ) (v : admitted (view s) ≡ true) (h : Advances (view s) (s .budget - s .conflicts + 1) false room a old now list list₁) where
   lists : Lists (record { struck = h .struck; last = traceOf a (h .blocks) }) (listFrom room (view s))
   lists =
       subst (λ (l : Listing Trace). Lists l (listFrom room (view s))) (sym (h .trace ∙ ap (λ (k : ℕ). advanceOver room k (view s)) (add-one (s .budget - s .conflicts))))
@@ -150,20 +159,20 @@ module _ (s : Search) (a : Advanced) (room : ℕ) (old now : List ℕ) (list lis
       answer-shown s (record { ending = a .ending; struck = 0; blocks = 0; state = a .state }) [] [] refl ∙
       ap (λ (t : Trace). shown s (ok t) []) (unfold withoutBlocks traceOf in lists .last)
 
-pub run-shown : (s : Search) (a : Advanced) (old now : List ℕ) (list list₁ : List ℤ) → valid (view s) ≡ true →
+pub run-shown : (s : Search) (a : Advanced) (old now : List ℕ) (list list₁ : List ℤ) → admitted (view s) ≡ true →
     Advances (view s) (s .budget - s .conflicts + 1) false (roomAt (statusOf (s .status)) 0) a old now list list₁ → seenRan (ranOf (answered a)) ≡ runSeen s
 unfolding runSeen runCall
 run-shown s a old now list list₁ v h =
     ran-shown s a (roomAt (statusOf (s .status)) 0) old now list list₁ v h ∙ rw (v, room-none (statusOf (s .status))) (unfold checked turn listFrom endsWith in refl)
 
-pub run-refused : (s : Search) → valid (view s) ≡ false → seenRan (ranOf (refusal s)) ≡ runSeen s
+pub run-refused : (s : Search) → admitted (view s) ≡ false → seenRan (ranOf (refusal s)) ≡ runSeen s
 unfolding seenRan ranOf refusal runSeen runCall
 run-refused s v = rw v (unfold checked turn shown seenTraced verdictOf refusedIn in refl)
 
 same-seen : {k l : ℕ} {x y : List ℤ} {p q : Seen} → k ≡ l → x ≡ y → p ≡ q → _≡_ {A = SeenListing} (record { struck = k; numbers = x; last = p }) (record { struck = l; numbers = y; last = q })
 same-seen e f g = rw (e, f, g)
 
-pub list-shown : (s : Search) (a : Advanced) (old now : List ℕ) (list list₁ : List ℤ) → valid (view s) ≡ true →
+pub list-shown : (s : Search) (a : Advanced) (old now : List ℕ) (list list₁ : List ℤ) → admitted (view s) ≡ true →
     Advances (view s) (s .budget - s .conflicts + 1) false (roomAt (statusOf (s .status)) (length list / s .n)) a old now list list₁ →
     seenListed (listedOf (answered a) (a .struck)) list₁ ≡ listSeen s list
 unfolding seenListed listedOf listSeen listCall listedBy listedIn struckIn lastIn turn listOver ranOf view coreOf coreOver
@@ -175,12 +184,12 @@ list-shown s a old now list list₁ v h =
     (h .listed ∙ ap (λ (vs : List Point). joined vs ++ drop (view s .core .variables * length vs) list) e)
     (ran-shown s a room old now list list₁ v h))
 
-pub list-refused : (s : Search) (list : List ℤ) → valid (view s) ≡ false → seenListed (listedOf (refusal s) 0) list ≡ listSeen s list
+pub list-refused : (s : Search) (list : List ℤ) → admitted (view s) ≡ false → seenListed (listedOf (refusal s) 0) list ≡ listSeen s list
 unfolding seenListed listedOf listSeen listCall
 list-refused s list v = rw v (unfold listedBy struckIn lastIn turn shown refusal seenRan seenTraced verdictOf refusedIn in refl)
 
 -- ---- where the turns ended
 pub answered-as : (a : Advanced) (e : Ending) → a .ending ≡ e →
-    record { verdict = caseOf e; values = valuesAt e (a .state); count = a .state .conflicts; blocks = a .blocks; state = a .state } ≡ answered a
+    record { verdict = caseOf e; values = valuesAt e (a .state); count = a .state .conflicts; propagations = a .state .propagations; blocks = a .blocks; state = a .state } ≡ answered a
 unfolding answered
 answered-as a e q = rw q

@@ -6,6 +6,7 @@ use mathlib.Core.Path.{_≡_}
 use lib.IntN.{ℤ}
 use lib.ListN.{getD, length}
 use Rattle.model.specs.Bytes.{blockLength}
+use Rattle.model.specs.Ranges.{maxPropagations}
 use Rattle.layout.specs.Rows.{numberIn}
 use Rattle.fields.specs.Fields.{room, zeros, filled}
 use Rattle.validity.specs.Valid.{Valid}
@@ -20,9 +21,10 @@ use Rattle.search.specs.declared.Listed.{Listed}
 use Rattle.search.specs.declared.Ran.{Ran}
 use Rattle.search.specs.declared.Traced.{Traced}
 
--- a valid state, room for the blocks that are kept, and for the solutions that are struck out
+-- a valid state, N5's count within its limit, room for the blocks that are kept, and for the solutions that are struck out
 pub record Proceeds (s : Search) (limit : ℕ) (keep : Bool) (many : ℕ) (buffer : List ℕ) (list : List ℤ) : Type 0 where
   pub valid : Valid (view s)
+  pub few : s .propagations ≤ maxPropagations
   pub kept : keep ≡ true → blockLength * limit ≤ length buffer
   pub apart : keep ≡ true → many ≡ 0
   pub roomy : s .n * many ≤ length list
@@ -42,15 +44,15 @@ valuesAt ending.Solution s = filled (numberIn (getD (s .levels) (s .depth) noLev
 
 unfoldable pub answered : Advanced → Traced
 answered a =
-    record { verdict = caseOf (a .ending); values = valuesAt (a .ending) (a .state); count = a .state .conflicts; blocks = a .blocks; state = a .state }
+    record { verdict = caseOf (a .ending); values = valuesAt (a .ending) (a .state); count = a .state .conflicts; propagations = a .state .propagations; blocks = a .blocks; state = a .state }
 
 unfoldable pub refusal : Search → Traced
-refusal s = record { verdict = Invalid; values = zeros room; count = 0; blocks = 0; state = s }
+refusal s = record { verdict = Invalid; values = zeros room; count = 0; propagations = 0; blocks = 0; state = s }
 
 -- a run's answer: that of a trace, without its blocks
 unfoldable pub ranOf : Traced → Ran
-ranOf t = record { verdict = t .verdict; values = t .values; count = t .count; state = t .state }
+ranOf t = record { verdict = t .verdict; values = t .values; count = t .count; propagations = t .propagations; state = t .state }
 
 -- a listing's: that of a trace after its strikes, without its blocks
 unfoldable pub listedOf : Traced → ℕ → Listed
-listedOf t struck = record { struck = struck; verdict = t .verdict; values = t .values; count = t .count; state = t .state }
+listedOf t struck = record { struck = struck; verdict = t .verdict; values = t .values; count = t .count; propagations = t .propagations; state = t .state }

@@ -21,7 +21,7 @@ pub record SeenListing : Type 0 where
 
 unfoldable pub seenListed : Listed → List ℤ → SeenListing
 seenListed r numbers =
-    record { struck = r .struck; numbers = numbers; last = seenRan (record { verdict = r .verdict; values = r .values; count = r .count; state = r .state }) }
+    record { struck = r .struck; numbers = numbers; last = seenRan (record { verdict = r .verdict; values = r .values; count = r .count; propagations = r .propagations; state = r .state }) }
 
 -- ---- what N4's answer shows; a refusal shows its number alone
 unfoldable pub struckIn : Result (Listing Outcome) → ℕ

@@ -24,6 +24,7 @@ blank =
       m = 0;
       budget = 0;
       conflicts = 0;
+      propagations = 0;
       made = 0;
       depth = 0;
       status = Undecided;

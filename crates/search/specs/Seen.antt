@@ -26,6 +26,7 @@ pub record Seen : Type 0 where
   -- the array that holds the values, whole
   pub values : List ℤ
   pub count : ℕ
+  pub propagations : ℕ
   -- how many journal blocks there are, and the bytes that hold them, whole
   pub blocks : ℕ
   pub bytes : List ℕ
@@ -55,18 +56,25 @@ seenTraced r bytes =
       verdict = verdictOf (r .verdict) (take (r .state .n) (r .values));
       values = r .values;
       count = r .count;
+      propagations = r .propagations;
       blocks = r .blocks;
       bytes = bytes;
       state = view (r .state);
       refused = refusedIn (r .verdict) (r .state);
     }
 
+-- a turn's answer and a run's as a trace's: with a block at most, and with none
+abbrev pub stepTrace : Stepped → Traced
+stepTrace r = record { verdict = r .verdict; values = r .values; count = r .count; propagations = r .propagations; blocks = cond (r .recorded) 1 0; state = r .state }
+
+abbrev pub runTrace : Ran → Traced
+runTrace r = record { verdict = r .verdict; values = r .values; count = r .count; propagations = r .propagations; blocks = 0; state = r .state }
+
 unfoldable pub seenStepped : Stepped → Seen
-seenStepped r =
-    seenTraced (record { verdict = r .verdict; values = r .values; count = r .count; blocks = cond (r .recorded) 1 0; state = r .state }) (r .block)
+seenStepped r = seenTraced (stepTrace r) (r .block)
 
 unfoldable pub seenRan : Ran → Seen
-seenRan r = seenTraced (record { verdict = r .verdict; values = r .values; count = r .count; blocks = 0; state = r .state }) []
+seenRan r = seenTraced (runTrace r) []
 
 -- ---- what document 01's answer shows
 -- the array of 32 numbers: the values, and zeros past them or where there are none
@@ -91,13 +99,14 @@ shown given (ok t) bytes =
       verdict = ok (t .verdict);
       values = valuesOf (t .verdict);
       count = t .count;
+      propagations = t .propagations;
       blocks = length (t .blocks);
       bytes = bytes;
       state = t .state;
       refused = none;
     }
 shown given (error e) bytes =
-    record { verdict = error e; values = zeros room; count = 0; blocks = 0; bytes = bytes; state = view given; refused = some given }
+    record { verdict = error e; values = zeros room; count = 0; propagations = 0; blocks = 0; bytes = bytes; state = view given; refused = some given }
 
 unfoldable pub turn : Result Outcome → Result Trace
 turn (ok o) = ok (lastStep o)

@@ -36,6 +36,7 @@ pub fn blank() -> Search
         m: 0,
         budget: 0,
         conflicts: 0,
+        propagations: 0,
         made: 0,
         depth: 0,
         status: Status::Undecided,
@@ -46,7 +47,7 @@ pub fn blank() -> Search
     }
 }
 
-// The answer to a state that is not valid.
+// The answer to a state that is refused.
 pub fn refused(s: Search) -> Traced
     ensures { λ r. ⌜ r ≡ refusal s ⌝ }
 {
@@ -54,6 +55,7 @@ pub fn refused(s: Search) -> Traced
         verdict: Verdict::Invalid,
         values: [0; 32],
         count: 0,
+        propagations: 0,
         blocks: 0,
         state: s,
     }
@@ -128,6 +130,7 @@ pub fn answer(a: Advanced) -> Traced
     let blocks = a.blocks;
     let state = a.state;
     let count = state.conflicts;
+    let propagations = state.propagations;
     let mut verdict = Verdict::GoOn;
     let mut values = [0i64; 32];
     let ending = a.ending;
@@ -148,6 +151,7 @@ pub fn answer(a: Advanced) -> Traced
         verdict,
         values,
         count,
+        propagations,
         blocks,
         state,
     }
@@ -164,6 +168,7 @@ pub fn without_blocks(t: Traced) -> Ran
         verdict,
         values,
         count: t.count,
+        propagations: t.propagations,
         state,
     }
 }
@@ -181,6 +186,7 @@ pub fn listed(t: Traced, struck: usize) -> Listed
         verdict,
         values,
         count,
+        propagations: t.propagations,
         state,
     }
 }

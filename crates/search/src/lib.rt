@@ -12,7 +12,7 @@ ghost use Rattle.search.specs.Seen.{seenStepped, seenRan, seenTraced, st
 
 mod answers;
 
-// What a turn, a run or a trace answers: 'go on', 'none', 'spent', a solution, or 9 for a state that is not valid.
+// What a turn, a run or a trace answers: 'go on', 'none', 'spent', a solution, or 9 for a state that is refused.
 pub enum Verdict {
     GoOn,
     NoSolution,
@@ -33,6 +33,7 @@ pub struct Stepped {
     pub verdict: Verdict,
     pub values: [i64; 32],
     pub count: usize,
+    pub propagations: usize,
     pub recorded: bool,
     pub block: [u8; 512],
     pub state: Search,
@@ -43,6 +44,7 @@ pub struct Ran {
     pub verdict: Verdict,
     pub values: [i64; 32],
     pub count: usize,
+    pub propagations: usize,
     pub state: Search,
 }
 
@@ -51,12 +53,13 @@ pub struct Traced {
     pub verdict: Verdict,
     pub values: [i64; 32],
     pub count: usize,
+    pub propagations: usize,
     pub blocks: usize,
     pub state: Search,
 }
 
 // What striking out a solution answers: 'struck'; 'ended' for one that no decision led to; 'no form' for a state that is not marked as solved; or 9 for one
-// that is not valid.
+// that is refused.
 pub enum Exclusion {
     Struck,
     Ended,
@@ -77,6 +80,7 @@ pub struct Listed {
     pub verdict: Verdict,
     pub values: [i64; 32],
     pub count: usize,
+    pub propagations: usize,
     pub state: Search,
 }
 
@@ -102,7 +106,7 @@ pub fn open(file: &[u8]) -> Opened
 pub fn trace(s: Search, buffer: &mut [u8]) -> Traced
     ensures { λ r. ⌜ seenTraced r (now (buffer .exit)) ≡ traceSeen s (now (buffer .entry)) ⌝ }
 {
-    if !validate::is_valid(s) {
+    if !validate::is_admitted(s) {
         return answers::refused(s);
     }
     let limit = buffer.len() / block::LENGTH;
@@ -125,6 +129,7 @@ pub fn step(s: Search) -> Stepped
         verdict,
         values,
         count: t.count,
+        propagations: t.propagations,
         recorded,
         block,
         state,
@@ -135,7 +140,7 @@ pub fn step(s: Search) -> Stepped
 pub fn run(s: Search) -> Ran
     ensures { λ r. ⌜ seenRan r ≡ runSeen s ⌝ }
 {
-    if !validate::is_valid(s) {
+    if !validate::is_admitted(s) {
         let t = answers::refused(s);
         return answers::without_blocks(t);
     }
@@ -151,7 +156,7 @@ pub fn run(s: Search) -> Ran
 pub fn exclude(s: Search) -> Excluded
     ensures { λ r. ⌜ seenExcluded r ≡ excludeSeen s ⌝ }
 {
-    if !validate::is_valid(s) {
+    if !validate::is_admitted(s) {
         return Excluded {
             answer: Exclusion::Invalid,
             state: s,
@@ -184,7 +189,7 @@ pub fn exclude(s: Search) -> Excluded
 pub fn list(s: Search, solutions: &mut [i64]) -> Listed
     ensures { λ r. ⌜ seenListed r (now (solutions .exit)) ≡ listSeen s (now (solutions .entry)) ⌝ }
 {
-    if !validate::is_valid(s) {
+    if !validate::is_admitted(s) {
         let t = answers::refused(s);
         return answers::listed(t, 0);
     }

@@ -8,13 +8,13 @@ use Rattle.model.specs.Problem.{Problem, variables}
 use Rattle.model.specs.Search.{Core, Status, undecided, infeasible, solved, Search, levelOf, coreOf, openProblem}
 use Rattle.model.specs.Move.{descend}
 use Rattle.model.specs.Conflict.{atConflict}
-use Rattle.model.specs.Step.{Verdict, goOn, noSolution, outOfBudget, solution, Outcome, solvedBy, budgetSpent, counted, onConflict, endedAt, ended, again, stepBy, step, continue, runFor, withoutBlock, run}
+use Rattle.model.specs.Step.{Verdict, goOn, noSolution, outOfBudget, solution, Outcome, propagated, solvedBy, budgetSpent, counted, onConflict, endedAt, ended, again, stepBy, step, continue, runFor, withoutBlock, run}
 use Rattle.model.specs.Demand.{withBudget, verdictWith}
 use Rattle.validity.proofs.Steps.{spent-or-counted, impossible}
 
 -- the search under another budget
 abbrev under : Search → ℕ → Search
-under s b = record { core = s .core; budget = b; conflicts = s .conflicts; status = s .status }
+under s b = record { core = s .core; budget = b; conflicts = s .conflicts; propagations = s .propagations; status = s .status }
 
 module _ (b c : ℕ) (less : b ≤ c) where
   -- x is the answer under b and y that under c: the same verdict, and where it goes on the same state but for the budget
@@ -32,7 +32,7 @@ module _ (b c : ℕ) (less : b ≤ c) where
       spent-or-counted (λ x. Either s x (onConflict (under s c) d j)) (under s b) d j h (λ e. unfold budgetSpent in inl refl)
       (λ l.
       spent-or-counted (λ y. Either s (counted (under s b) (atConflict d j)) y) (under s c) d j (omega arith) (λ e. let z : ⊥ = omega arith in absurd z)
-      (λ k. unfold counted in inr (record { verdict = refl; next = λ g. (counted s (atConflict d j) .state, refl, refl, refl, l) })))
+      (λ k. unfold counted propagated in inr (record { verdict = refl; next = λ g. (counted s (atConflict d j) .state, refl, refl, refl, l) })))
 
   step-beside : (m : Status) (s : Search) → s .conflicts ≤ b → Either s (stepBy m (under s b)) (stepBy m (under s c))
   unfolding stepBy ended again Either

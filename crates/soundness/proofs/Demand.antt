@@ -1,8 +1,8 @@
 -- Demand 3, of every list of turns from a fresh opening of an accepted file.
-use Prim.Native.Nat.{ℕ, _+_, _-_, _≤_}
+use Prim.Native.Nat.{ℕ, suc, _+_, _-_, _≤_, _<_}
 use native.Mathlib.Omega.{arith}
 use mathlib.Core.List.{List, [], _∷_}
-use mathlib.Core.Path.{_≡_, refl, ap, _∙_}
+use mathlib.Core.Path.{_≡_, refl, sym, ap, _∙_}
 use lib.Dec.{T, eqb→eq}
 use lib.ListN.{length, length-map}
 use Rattle.model.specs.Lists.{allOf}
@@ -10,10 +10,11 @@ use Rattle.model.specs.Constraint.{Constraint, rounded}
 use Rattle.model.specs.Problem.{Problem, variables, ok, resultOf}
 use Rattle.model.specs.File.{problemIn, readFile}
 use Rattle.model.specs.Search.{Search, coreOf, openProblem, openedBy, openFile}
-use Rattle.model.specs.Validity.{constraintShaped, statusValid}
+use Rattle.model.specs.Validity.{constraintShaped, statusValid, admitted}
 use Rattle.model.specs.Points.{Solution}
-use Rattle.model.specs.Step.{goOn, Outcome, step, withoutBlock, run}
-use Rattle.model.specs.Demand.{stateAfter, answerAt, withBudget, verdictWith, Steps, Accepted, Demand3}
+use Rattle.model.specs.Step.{goOn, Outcome, step, runFor, withoutBlock, run}
+use Rattle.model.specs.Propagations.{boundsSet}
+use Rattle.model.specs.Demand.{stateAfter, answerAt, journal, withBudget, verdictWith, Steps, Accepted, Demand3}
 use Rattle.format.proofs.AcceptedShape as Small
 use Rattle.format.proofs.AcceptedShape.{tests, sizes, accepted-domain, accepted-constraints, accepted-divisors, problem-shaped}
 use Rattle.integer.specs.Tests.{and-left, and-right}
@@ -25,8 +26,9 @@ use Rattle.soundness.proofs.Opened.{meets-inequalities}
 use Rattle.soundness.proofs.Runs.{ProblemFits, opened-fits, opened-open}
 use Rattle.soundness.proofs.Verdicts.{decides-with, same-verdict}
 use Rattle.soundness.proofs.Budgets.{smaller-budget}
-use Rattle.soundness.proofs.StepLists.{call-taken, valid-after, still, reached-after, list-conflicts, list-counted, list-few, list-cuts, run-ends-list}
-use Rattle.soundness.proofs.Together.{together, stays, ran-after}
+use Rattle.soundness.proofs.StepLists.{afterTurns, turnBlocks, state-next, valid-after, step-tells, Reached, still, reached-after, reached-creeps, list-conflicts, list-counted, list-few, list-cuts, SaysSame, run-ends-list}
+use Rattle.soundness.proofs.Tallies.{turns-set, few-admitted}
+use Rattle.soundness.proofs.Unrefused.{call-taken, state-taken, journal-taken, stays, together-after, ran-after}
 
 -- ---- an accepted file
 coefficients : (n : ℕ) (ks : List Constraint) → T (allOf (constraintShaped n) ks) → Every (λ (k : Constraint). length (k .coefficients) ≡ n) ks
@@ -75,32 +77,56 @@ module _ (p : Problem) (z : Small.Sizes p) (f : ProblemFits p) where
   unfolding withBudget
   own-budget = refl
 
+  -- no turn of a list is refused
+  opened-fine : (s : Search) → Valid s → Reached p (Solution p) 0 s → T (admitted s)
+  opened-fine s v r = few-admitted p z f (Solution p) 0 s v r (omega arith)
+
+  start : Reached p (Solution p) 0 (openProblem p)
+  start = still (opened-open p f)
+
+  state-is : (k : ℕ) → stateAfter k (openProblem p) ≡ afterTurns k (openProblem p)
+  state-is k = state-taken p (Solution p) 0 opened-fine k (openProblem p) opened-valid start
+
+  journal-is : (k : ℕ) → journal k (openProblem p) ≡ turnBlocks k (openProblem p)
+  journal-is k = journal-taken p (Solution p) 0 opened-fine k (openProblem p) opened-valid start
+
+  pub opened-propagations : openProblem p .propagations ≡ 0
+  unfolding openProblem
+  opened-propagations = refl
+
+  set-is : (k : ℕ) → afterTurns k (openProblem p) .propagations ≡ boundsSet k (openProblem p)
+  set-is k = omega (arith, turns-set k (openProblem p) opened-valid, opened-propagations)
+
   steps-of : Steps p (openProblem p)
   unfolding run withoutBlock answerAt
   steps-of =
       let s = openProblem p in
       let v = opened-valid in
-      let o = opened-open p f in
-      let e = run-ends-list p (Solution p) 0 (s .budget - s .conflicts) s v o opened-fuel in
-      let reached : ¬ (step (stateAfter (e .last) s) .verdict ≡ goOn) = λ h. e .reached (ap (λ (x : Outcome). x .verdict) (e .ran) ∙ h) in
-      let later : (k : ℕ) → e .last ≤ k → (step (stateAfter k s) .verdict ≡ step (stateAfter (e .last) s) .verdict) × (step (stateAfter k s) .count ≡ step (stateAfter (e .last) s) .count) =
-      λ k h. (e .later k h .0 ∙ ap (λ (x : Outcome). x .verdict) (e .ran), e .later k h .1 ∙ ap (λ (x : Outcome). x .count) (e .ran)) in
+      let e = run-ends-list p (Solution p) 0 (s .budget - s .conflicts) s (opened-open p f) opened-fuel in
+      let ran : runFor (s .budget - s .conflicts) s ≡ step (stateAfter (e .last) s) = rw (state-is (e .last)) (e .ran) in
+      let before : (k : ℕ) → k < e .last → step (stateAfter k s) .verdict ≡ goOn = λ k h. rw (state-is k) (e .before k h) in
+      let reached : ¬ (step (stateAfter (e .last) s) .verdict ≡ goOn) = λ h. e .reached (ap (λ (x : Outcome). x .verdict) ran ∙ h) in
+      let later : (k : ℕ) → e .last ≤ k → SaysSame (step (stateAfter k s)) (step (stateAfter (e .last) s)) = λ k h. rw (← ran, state-is k) (e .later k h) in
       let own : run s .verdict ≡ verdictWith p (p .budget) = unfold verdictWith in ap (λ (x : Search). run x .verdict) own-budget in
+      let admits : (k : ℕ) → T (admitted (stateAfter k s)) = λ k. rw (state-is k) (opened-fine (afterTurns k s) (valid-after k s v) (reached-after p (Solution p) 0 k s start)) in
       record {
         listed = record { every = points-every (p .domain); once = points-once (p .domain) };
-        accepted = λ k. true-of _ (valid-after k s v .tests);
-        taken = λ k. call-taken (stateAfter k s) (valid-after k s v);
-        counted = λ k. omega (arith, list-counted p (Solution p) 0 k s v (still o), opened-conflicts);
-        carried = λ k. omega (arith, list-conflicts p (Solution p) 0 k s v (still o), opened-conflicts);
-        bounded = λ k. omega (arith, list-few p (Solution p) 0 k s v (still o), points-size (p .domain));
-        cuts = λ k x q. list-cuts p (Solution p) 0 k s (z .few-variables) v (still o) x (meets-inequalities x (p .constraints) (q .meets));
+        accepted = λ k. true-of _ (admits k);
+        taken = λ k. call-taken (stateAfter k s) (admits k);
+        counted = λ k. rw (state-is k, journal-is (suc k)) (omega (arith, list-counted p (Solution p) 0 k s v start, opened-conflicts));
+        carried = λ k. rw (state-is k, journal-is k) (omega (arith, list-conflicts p (Solution p) 0 k s start, opened-conflicts));
+        bounded = λ k. rw (journal-is k) (omega (arith, list-few p (Solution p) 0 k s start, points-size (p .domain)));
+        propagated = λ k. rw (state-is k) (step-tells (afterTurns k s) (valid-after k s v) .propagations ∙ ap (λ (x : Search). x .propagations) (sym (state-next k s)) ∙ set-is (suc k));
+        tallied = λ k. rw (state-is k) (set-is k);
+        creeping = λ k. rw (state-is k) (omega (arith, reached-creeps p (Solution p) 0 (afterTurns k s) (reached-after p (Solution p) 0 k s start)));
+        cuts = λ k x q. rw (journal-is k) (list-cuts p (Solution p) 0 k s (z .few-variables) start x (meets-inequalities x (p .constraints) (q .meets)));
         last = e .last;
-        before = e .before;
+        before = before;
         reached = reached;
         later = later;
-        stays = stays p (Solution p) 0 s v (still o) (e .last) (e .before) reached later;
-        together = λ k t. together p (Solution p) 0 t (stateAfter k s) (valid-after k s v) (reached-after p (Solution p) 0 k s v (still o));
-        ran = ran-after p (Solution p) 0 s v (still o) (e .last) (e .before) reached later;
+        stays = stays p (Solution p) 0 opened-fine s v start (e .last) before reached later;
+        together = together-after p (Solution p) 0 opened-fine s v start (e .last) before reached later;
+        ran = ran-after p (Solution p) 0 opened-fine s v start (e .last) before reached later;
         decides = λ h. rw own (decides-with p (p .budget) f h);
         decides-with = λ b h. decides-with p b f h;
         smaller = λ b c h. smaller-budget b c h p;

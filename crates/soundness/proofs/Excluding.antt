@@ -1,12 +1,12 @@
 -- A solution struck out: the solutions after it are left, and one point less.
-use Prim.Native.Nat.{ℕ, suc, _-_, _<_}
+use Prim.Native.Nat.{ℕ, zero, suc, _-_, _<_}
 use native.Mathlib.Omega.{arith}
 use mathlib.Core.List.{List, [], _∷_}
 use mathlib.Core.Logic.{_⊎_, inl, inr}
 use mathlib.Core.Path.{_≡_, refl, sym, ap, subst, _∙_}
 use lib.ListN.{length}
 use Rattle.model.specs.Problem.{Problem}
-use Rattle.model.specs.Search.{Level, Core, undecided, infeasible, solved, Search, depth, levels, withLevels, kept, flipAt}
+use Rattle.model.specs.Search.{Level, Core, Status, undecided, infeasible, solved, Search, depth, levels, withLevels, kept, flipAt}
 use Rattle.model.specs.Conflict.{backFrom, backUp}
 use Rattle.model.specs.Points.{Point, Inside, Before}
 use Rattle.model.specs.Step.{withStatus, lowers}
@@ -69,7 +69,7 @@ module _ (p : Problem) (u : Point) (Left Rest : Point → Type 0) (split : (x : 
   unfolding withStatus
   strike-open k s o ls d here e =
       let b = strike-sound (d .at .room) (s .core) o ls (d .at .sound) here (d .finishes .fixed) e in
-      record { room = b .left; sound = b .sound; total = omega (arith, d .at .total, b .less); budget = d .at .budget; afford = d .at .afford; status = refl }
+      record { room = b .left; sound = b .sound; total = omega (arith, d .at .total, b .less); budget = d .at .budget; afford = d .at .afford; creeps = omega (arith, d .at .creeps); status = refl }
 
 -- ---- what a strike answers
 pub exclude-unsolved : (s : Search) → (s .status ≡ undecided) ⊎ (s .status ≡ infeasible) → exclude s ≡ unchanged unsolved s
@@ -84,3 +84,17 @@ exclude-ended s e n = rw (e, n)
 pub exclude-struck : (s : Search) (o : Level) (ls : List Level) → s .status ≡ solved → s .core .outer ≡ o ∷ ls → exclude s ≡ record { answer = struck; state = withStatus s (backUp (depth (s .core)) (s .core)) undecided }
 unfolding exclude excludeBy
 exclude-struck s o ls e n = rw e (let deep : depth (s .core) ≡ suc (length ls) = unfold depth in ap length n in rw deep (unfold excludeAt in refl))
+
+-- N5's count stays
+pub exclude-set : (s : Search) → exclude s .state .propagations ≡ s .propagations
+unfolding exclude excludeBy excludeAt unchanged withStatus
+exclude-set s = by (s .status)
+  where
+    at : (d : ℕ) → excludeAt d s .state .propagations ≡ s .propagations
+    at zero = refl
+    at (suc d) = refl
+
+    by : (m : Status) → excludeBy m s .state .propagations ≡ s .propagations
+    by undecided = refl
+    by infeasible = refl
+    by solved = at (depth (s .core))

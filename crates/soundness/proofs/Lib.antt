@@ -1,4 +1,4 @@
--- Demand 3 and N4: the argument for searches from an opening, from what is left to search up to lists of turns and of all calls.
+-- Demand 3, N4 and N5's count: the argument for searches from an opening, from what is left to search up to lists of turns and of all calls.
 pub mod Sizes
 pub mod Solutions
 pub mod Remaining
@@ -9,7 +9,9 @@ pub mod Runs
 pub mod Verdicts
 pub mod Budgets
 pub mod StepLists
+pub mod Tallies
 pub mod Together
+pub mod Unrefused
 pub mod Taking
 pub mod Standing
 pub mod Demand

@@ -1,5 +1,5 @@
 -- N4's claim, of every list of calls from a fresh opening of an accepted file.
-use Prim.Native.Nat.{ℕ, zero, suc, _+_, _*_, _≤_, _<_}
+use Prim.Native.Nat.{ℕ, zero, suc, _+_, _*_, _^_, _≤_, _<_}
 use native.Mathlib.Omega.{arith}
 use mathlib.Core.Bool.{Bool, true, false, cond}
 use mathlib.Core.List.{List, [], _∷_, _++_, append-nil}
@@ -14,9 +14,12 @@ use Rattle.model.specs.Search.{Level, infeasible, Search, openProblem}
 use Rattle.model.specs.Points.{Point, Solution, allSolutions}
 use Rattle.model.specs.Step.{Verdict, goOn, noSolution, outOfBudget, solution, step, lowers}
 use Rattle.model.specs.Trace.{advance}
-use Rattle.model.specs.Demand.{stateAfter, In}
+use Rattle.model.specs.Move.{slack}
+use Rattle.model.specs.Validity.{admitted}
+use Rattle.model.specs.Propagations.{boundsSet}
+use Rattle.model.specs.Demand.{In}
 use Rattle.model.specs.Exclude.{Excluded, ended, unsolved, unchanged, exclude}
-use Rattle.model.specs.Enumeration.{Call, oneTurn, allTurns, strike, turns, verdict, exclusion, Answer, traced, excluded, taken, answer, walk, says, stands, shown, strikes, Completes, Turns, Ascending, Enumerates, Listings}
+use Rattle.model.specs.Enumeration.{Call, oneTurn, allTurns, strike, turns, verdict, exclusion, Answer, traced, excluded, taken, answeredBy, answer, walk, says, stands, shown, strikes, turnsOf, setBy, setIn, Modest, Completes, Turns, Ascending, Enumerates, Listings}
 use Rattle.format.proofs.AcceptedShape as Small
 use Rattle.format.proofs.AcceptedShape.{tests, sizes}
 use Rattle.lists.proofs.Bools.{true-of}
@@ -28,11 +31,12 @@ use Rattle.soundness.proofs.Remaining.{Remains}
 use Rattle.soundness.proofs.Opened.{meets-inequalities}
 use Rattle.soundness.proofs.OneStep.{Solved, open-same}
 use Rattle.soundness.proofs.Runs.{ProblemFits, opened-open}
-use Rattle.soundness.proofs.Demand.{fits-of, opened-valid, opened-conflicts}
-use Rattle.soundness.proofs.Excluding.{some-room, exclude-unsolved, exclude-struck}
-use Rattle.soundness.proofs.StepLists.{reached-few, repeats-reached, Reached, still, found, over, reached-after, state-next, fixed-after, stepped}
+use Rattle.soundness.proofs.Demand.{fits-of, opened-valid, opened-conflicts, opened-propagations}
+use Rattle.soundness.proofs.Tallies.{turns-set, few-admitted}
+use Rattle.soundness.proofs.Excluding.{some-room, exclude-unsolved, exclude-struck, exclude-set}
+use Rattle.soundness.proofs.StepLists.{afterTurns, reached-few, reached-creeps, repeats-reached, Reached, still, found, over, reached-after, valid-after, step-tells, state-next, fixed-after}
 use Rattle.soundness.proofs.Taking.{takes, Leaves, turn-leaves}
-use Rattle.soundness.proofs.Standing.{Headed, isSolved, Stands, left-order, solved-head, answered, Standing, standing}
+use Rattle.soundness.proofs.Standing.{Headed, isSolved, Stands, left-order, solved-head, answered, said-admitted, Standing, standing}
 
 -- ---- lists
 prefix-take : (n : ℕ) (us vs : List Point) → us ++ take n vs ≡ take (length (us ++ take n vs)) (us ++ vs)
@@ -53,17 +57,25 @@ none-in : (us : List Point) → ((x : Point) → In x us → ⊥) → us ≡ []
 none-in [] f = refl
 none-in (u ∷ us) f = absurd (f u (inl refl))
 
-module _ (p : Problem) (few : variables p ≤ maxVariables) (m : Search) (start : Stands p few m false 0 [] [] (Unit {0}) (Unit {0}) 0) where
+module _ (p : Problem) (sized : Small.Sizes p) (fits : ProblemFits p) (m : Search) (start : Stands p (sized .few-variables) m false 0 [] [] (Unit {0}) (Unit {0}) 0) (unset : m .propagations ≡ 0) where
+  abbrev few : variables p ≤ maxVariables
+  few = sized .few-variables
+
   st : (cs : List Call) → Standing p few m cs
   st cs = standing p few m start cs
 
-  says-taken : (c : Call) (cs : List Call) → says c cs m ≡ taken c (walk cs m) .reply
+  says-taken : (c : Call) (cs : List Call) → admitted (walk cs m) ≡ true → says c cs m ≡ taken c (walk cs m) .reply
   unfolding says
-  says-taken c cs = ap (λ (a : Answer). a .reply) (answered c (walk cs m) (st cs .valid))
+  says-taken c cs h = ap (λ (a : Answer). a .reply) (answered c (walk cs m) h)
 
-  walk-taken : (c : Call) (cs : List Call) → walk (c ∷ cs) m ≡ taken c (walk cs m) .state
+  walk-taken : (c : Call) (cs : List Call) → admitted (walk cs m) ≡ true → walk (c ∷ cs) m ≡ taken c (walk cs m) .state
   unfolding walk
-  walk-taken c cs = ap (λ (a : Answer). a .state) (answered c (walk cs m) (st cs .valid))
+  walk-taken c cs h = ap (λ (a : Answer). a .state) (answered c (walk cs m) h)
+
+  -- a call that says a verdict was not refused
+  spoken : (c : Call) (cs : List Call) (v : Verdict) → says c cs m ≡ verdict v → admitted (walk cs m) ≡ true
+  unfolding says
+  spoken c cs v e = said-admitted c (walk cs m) (λ h. impossible (let f = sym e ∙ h in cc))
 
   -- ---- the last turn of a call that gives a verdict
   abbrev LeftAfter : List Call → Point → Type 0
@@ -71,26 +83,25 @@ module _ (p : Problem) (few : variables p ≤ maxVariables) (m : Search) (start 
 
   record Last (c : Call) (cs : List Call) (v : Verdict) : Type 0 where
     t : ℕ
-    verdict : step (stateAfter t (walk cs m)) .verdict ≡ v
-    count : answer c (walk cs m) .count ≡ step (stateAfter t (walk cs m)) .count
-    state : walk (c ∷ cs) m ≡ stateAfter (suc t) (walk cs m)
-    leaves : Leaves p few (LeftAfter cs) (length (st cs .gone)) v (stateAfter t (walk cs m)) (walk (c ∷ cs) m)
+    verdict : step (afterTurns t (walk cs m)) .verdict ≡ v
+    state : walk (c ∷ cs) m ≡ afterTurns (suc t) (walk cs m)
+    leaves : Leaves p few (LeftAfter cs) (length (st cs .gone)) v (afterTurns t (walk cs m)) (walk (c ∷ cs) m)
 
   last-of : (c : Call) (cs : List Call) (v : Verdict) → Turns c → says c cs m ≡ verdict v → Last c cs v
   last-of c cs v h e =
       let s = walk cs m in
       let w = st cs in
+      let k = spoken c cs v e in
       let q = takes p few (LeftAfter cs) (length (w .gone)) c s h (w .valid) (w .reached) in
-      let x = stateAfter (q .t) s in
-      let own : verdict (step x .verdict) ≡ verdict v = sym (q .reply) ∙ sym (says-taken c cs) ∙ e in
+      let x = afterTurns (q .t) s in
+      let own : verdict (step x .verdict) ≡ verdict v = sym (q .reply) ∙ sym (says-taken c cs k) ∙ e in
       let said : step x .verdict ≡ v = cc in
-      let state = walk-taken c cs ∙ q .state in
-      let here : step x .state ≡ walk (c ∷ cs) m = sym (state-next (q .t) s (w .valid)) ∙ sym state in
-      let l = turn-leaves p few (LeftAfter cs) (length (w .gone)) x (reached-after p (LeftAfter cs) (length (w .gone)) (q .t) s (w .valid) (w .reached)) in
+      let state = walk-taken c cs k ∙ q .state in
+      let here : step x .state ≡ walk (c ∷ cs) m = sym (state-next (q .t) s) ∙ sym state in
+      let l = turn-leaves p few (LeftAfter cs) (length (w .gone)) x (reached-after p (LeftAfter cs) (length (w .gone)) (q .t) s (w .reached)) in
       record {
         t = q .t;
         verdict = said;
-        count = ap (λ (a : Answer). a .count) (answered c s (w .valid)) ∙ q .count;
         state = state;
         leaves = subst (Leaves p few (LeftAfter cs) (length (w .gone)) v x) here (subst (λ (u : Verdict). Leaves p few (LeftAfter cs) (length (w .gone)) u x (step x .state)) said l);
       }
@@ -99,8 +110,8 @@ module _ (p : Problem) (few : variables p ≤ maxVariables) (m : Search) (start 
   unfolding taken traced excluded advance
   turns-of oneTurn cs v e n = tt
   turns-of allTurns cs v e n = tt
-  turns-of strike cs v e n = impossible (let f = sym (says-taken strike cs) ∙ e in cc)
-  turns-of (turns zero) cs v e n = let f = sym (says-taken (turns zero) cs) ∙ e in absurd (n (cc))
+  turns-of strike cs v e n = impossible (let f = sym (says-taken strike cs (spoken strike cs v e)) ∙ e in cc)
+  turns-of (turns zero) cs v e n = let f = sym (says-taken (turns zero) cs (spoken (turns zero) cs v e)) ∙ e in absurd (n (cc))
   turns-of (turns (suc t)) cs v e n = omega arith
 
   last-said : (c : Call) (cs : List Call) (v : Verdict) → says c cs m ≡ verdict v → ¬ (v ≡ goOn) → Last c cs v
@@ -125,9 +136,9 @@ module _ (p : Problem) (few : variables p ≤ maxVariables) (m : Search) (start 
   unmarked cs h (over o) = exclude-unsolved (walk cs m) (inr (o .status))
   unmarked cs h (found o) = impossible (let e = sym h ∙ st cs .mark ∙ ap isSolved (o .at .status) in cc)
 
-  no-form : (cs : List Call) → stands cs m ≡ false → says strike cs m ≡ exclusion unsolved
+  no-form : (cs : List Call) → admitted (walk cs m) ≡ true → stands cs m ≡ false → says strike cs m ≡ exclusion unsolved
   unfolding taken excluded unchanged
-  no-form cs h = says-taken strike cs ∙ ap (λ (x : Excluded). exclusion (x .answer)) (unmarked cs h (st cs .reached))
+  no-form cs a h = says-taken strike cs a ∙ ap (λ (x : Excluded). exclusion (x .answer)) (unmarked cs h (st cs .reached))
 
   -- the solutions shown: those struck out and the one that stands
   some-shown : (b : Bool) (cs : List Call) → b ≡ isSolved (walk cs m .status) → Reached p (LeftAfter cs) (length (st cs .gone)) (walk cs m) →
@@ -145,39 +156,45 @@ module _ (p : Problem) (few : variables p ≤ maxVariables) (m : Search) (start 
       let w = st cs in
       omega (arith, ap length (w .list), length-append (w .gone) (take (cond (stands cs m) 1 0) (w .left)), some-shown (stands cs m) cs (w .mark) (w .reached) .0)
 
-  -- the count in an answer is that of its state
-  turns-count : (c : Call) (cs : List Call) → Turns c → taken c (walk cs m) .count ≡ taken c (walk cs m) .state .conflicts
+  -- the counts in an answer are those of its state
+  record Counts (a : Answer) : Type 0 where
+    count : a .count ≡ a .state .conflicts
+    propagations : a .propagations ≡ a .state .propagations
+
+  turns-count : (c : Call) (cs : List Call) → Turns c → Counts (taken c (walk cs m))
   turns-count c cs h =
       let w = st cs in
-      let q = takes p few (LeftAfter cs) (length (w .gone)) c (walk cs m) h (w .valid) (w .reached) in
-      let r = reached-after p (LeftAfter cs) (length (w .gone)) (q .t) (walk cs m) (w .valid) (w .reached) in
-      q .count ∙ stepped p (LeftAfter cs) (length (w .gone)) (stateAfter (q .t) (walk cs m)) r .count ∙ ap (λ (s : Search). s .conflicts) (sym (state-next (q .t) (walk cs m) (w .valid)) ∙ sym (q .state))
+      let s = walk cs m in
+      let q = takes p few (LeftAfter cs) (length (w .gone)) c s h (w .valid) (w .reached) in
+      let t = step-tells (afterTurns (q .t) s) (valid-after (q .t) s (w .valid)) in
+      let e = sym (state-next (q .t) s) ∙ sym (q .state) in
+      record { count = q .count ∙ t .count ∙ ap (λ (x : Search). x .conflicts) e; propagations = q .propagations ∙ t .propagations ∙ ap (λ (x : Search). x .propagations) e }
 
-  taken-count : (c : Call) (cs : List Call) → taken c (walk cs m) .count ≡ taken c (walk cs m) .state .conflicts
+  taken-count : (c : Call) (cs : List Call) → Counts (taken c (walk cs m))
   taken-count oneTurn cs = turns-count oneTurn cs tt
   taken-count allTurns cs = turns-count allTurns cs tt
-  taken-count strike cs = unfold taken excluded in refl
-  taken-count (turns zero) cs = unfold taken traced advance in refl
+  taken-count strike cs = unfold taken excluded in record { count = refl; propagations = refl }
+  taken-count (turns zero) cs = unfold taken traced advance in record { count = refl; propagations = refl }
   taken-count (turns (suc t)) cs = turns-count (turns (suc t)) cs (omega arith)
 
-  counted : (c : Call) (cs : List Call) → answer c (walk cs m) .count ≡ walk (c ∷ cs) m .conflicts
-  counted c cs = ap (λ (a : Answer). a .count) (answered c (walk cs m) (st cs .valid)) ∙ taken-count c cs ∙ ap (λ (s : Search). s .conflicts) (sym (walk-taken c cs))
+  counts : (c : Call) (cs : List Call) → admitted (walk cs m) ≡ true → Counts (answer c (walk cs m))
+  counts c cs h = subst Counts (sym (answered c (walk cs m) h)) (taken-count c cs)
 
   -- a verdict is said again
-  again : (c d : Call) (cs : List Call) (v : Verdict) → says c cs m ≡ verdict v → ¬ (v ≡ goOn) → Turns d → (says d (c ∷ cs) m ≡ verdict v) × (walk (d ∷ c ∷ cs) m ≡ walk (c ∷ cs) m)
-  again c d cs v e n h =
+  again : (c d : Call) (cs : List Call) (v : Verdict) → admitted (walk (c ∷ cs) m) ≡ true → says c cs m ≡ verdict v → ¬ (v ≡ goOn) → Turns d → (says d (c ∷ cs) m ≡ verdict v) × (walk (d ∷ c ∷ cs) m ≡ walk (c ∷ cs) m)
+  again c d cs v a e n h =
       let w = st cs in
       let l = last-said c cs v e n in
-      let x = stateAfter (l .t) (walk cs m) in
-      let r = repeats-reached p (LeftAfter cs) (length (w .gone)) x (reached-after p (LeftAfter cs) (length (w .gone)) (l .t) (walk cs m) (w .valid) (w .reached)) (λ g. n (sym (l .verdict) ∙ g)) in
+      let x = afterTurns (l .t) (walk cs m) in
+      let r = repeats-reached p (LeftAfter cs) (length (w .gone)) x (reached-after p (LeftAfter cs) (length (w .gone)) (l .t) (walk cs m) (w .reached)) (λ g. n (sym (l .verdict) ∙ g)) in
       let y = walk (c ∷ cs) m in
-      let here : y ≡ step x .state = l .state ∙ state-next (l .t) (walk cs m) (w .valid) in
+      let here : y ≡ step x .state = l .state ∙ state-next (l .t) (walk cs m) in
       let rests : step y .state ≡ y = rw here (r .state) in
       let z = st (c ∷ cs) in
       let q = takes p few (LeftAfter (c ∷ cs)) (length (z .gone)) d y h (z .valid) (z .reached) in
-      let same : (t : ℕ) → stateAfter t y ≡ y = λ t. fixed-after t y (z .valid) rests in (
-        says-taken d (c ∷ cs) ∙ q .reply ∙ ap (λ (s : Search). verdict (step s .verdict)) (same (q .t) ∙ here) ∙ ap verdict (r .verdict ∙ l .verdict),
-        walk-taken d (c ∷ cs) ∙ q .state ∙ same (suc (q .t)),
+      let same : (t : ℕ) → afterTurns t y ≡ y = λ t. fixed-after t y rests in (
+        says-taken d (c ∷ cs) a ∙ q .reply ∙ ap (λ (s : Search). verdict (step s .verdict)) (same (q .t) ∙ here) ∙ ap verdict (r .verdict ∙ l .verdict),
+        walk-taken d (c ∷ cs) a ∙ q .state ∙ same (suc (q .t)),
       )
 
   -- ---- 'ended' and 'none'
@@ -233,7 +250,7 @@ module _ (p : Problem) (few : variables p ≤ maxVariables) (m : Search) (start 
       take-none (suc n) = refl
 
   complete : (c : Call) (cs : List Call) → Completes (says c cs m) → shown (c ∷ cs) m ≡ allSolutions p
-  complete c cs (inl e) = ended-complete c cs (sym (says-taken c cs) ∙ e)
+  complete c cs (inl e) = ended-complete c cs (sym (says-taken c cs (unfold says in said-admitted c (walk cs m) (λ h. impossible (let f = sym e ∙ h in cc)))) ∙ e)
   complete c cs (inr e) = none-complete (c ∷ cs) (last-said c cs noSolution e (λ n. impossible (cc)) .leaves .status) (st (c ∷ cs) .reached)
 
   -- ---- a list kept up
@@ -243,20 +260,58 @@ module _ (p : Problem) (few : variables p ≤ maxVariables) (m : Search) (start 
   kept-few cs n h i (found d) = omega (arith, h, d .at .total, some-room p (LeftAfter cs) (d .at .room) (walk cs m .core) (d .at .sound), bit (stands cs m))
   kept-few cs n h i (over o) = absurd (i (o .status))
 
+  -- ---- N5's count
+  turns-taken : (c : Call) (cs : List Call) → Turns c → taken c (walk cs m) .state .propagations ≡ boundsSet (turnsOf c (walk cs m)) (walk cs m) + walk cs m .propagations
+  turns-taken c cs h =
+      let w = st cs in
+      let q = takes p few (LeftAfter cs) (length (w .gone)) c (walk cs m) h (w .valid) (w .reached) in
+      rw (q .state, q .many) (omega (arith, turns-set (suc (q .t)) (walk cs m) (w .valid)))
+
+  taken-set : (c : Call) (cs : List Call) → taken c (walk cs m) .state .propagations ≡ boundsSet (turnsOf c (walk cs m)) (walk cs m) + walk cs m .propagations
+  unfolding taken turnsOf boundsSet
+  taken-set oneTurn cs = turns-taken oneTurn cs tt
+  taken-set allTurns cs = turns-taken allTurns cs tt
+  taken-set strike cs = unfold excluded in omega (arith, exclude-set (walk cs m))
+  taken-set (turns zero) cs = unfold traced advance in omega arith
+  taken-set (turns (suc t)) cs = turns-taken (turns (suc t)) cs (omega arith)
+
+  tallied : (cs : List Call) → walk cs m .propagations ≡ setIn cs m
+  unfolding walk answer answeredBy setIn setBy
+  tallied [] = unset
+  tallied (c ∷ cs) = by (tallied cs) (admitted (walk cs m))
+    where
+      by : walk cs m .propagations ≡ setIn cs m → (t : Bool) → answeredBy t c (walk cs m) .state .propagations ≡ cond t (boundsSet (turnsOf c (walk cs m)) (walk cs m)) 0 + setIn cs m
+      by e true = omega (arith, e, taken-set c cs)
+      by e false = omega (arith, e)
+
+  creeping : (cs : List Call) → walk cs m .propagations ≤ suc (walk cs m .conflicts + strikes cs m) * slack (p .domain)
+  creeping cs = let w = st cs in rw (w .many) (reached-creeps p (LeftAfter cs) (length (w .gone)) (walk cs m) (w .reached))
+
+  -- with so much budget there are no more strikes than points
+  few-strikes : (cs : List Call) → Modest p cs m → strikes cs m < 2 ^ 32
+  few-strikes cs (inl h) = let w = st cs in omega (arith, w .many, points-size (p .domain), sized .small-budget, reached-few p (LeftAfter cs) (length (w .gone)) (walk cs m) (w .reached))
+  few-strikes cs (inr h) = h
+
+  accepted : (cs : List Call) → Modest p cs m → admitted (walk cs m) ≡ true
+  accepted cs h = let w = st cs in true-of _ (few-admitted p sized fits (LeftAfter cs) (length (w .gone)) (walk cs m) (w .valid) (w .reached) (omega (arith, w .many, few-strikes cs h)))
+
   pub enumerates : Enumerates p m
   enumerates =
       let total = points-size (p .domain) in
       record {
         every = solutions-every p;
         ordered = solutions-ascending p;
-        accepted = λ cs. true-of _ (st cs .valid .tests);
+        accepted = accepted;
         prefix = λ cs. let w = st cs in rw (w .list, w .split) (prefix-take (cond (stands cs m) 1 0) (w .gone) (w .left));
         position = position;
         one-stands = λ cs. omega (arith, shown-length cs, st cs .many);
         no-form = no-form;
-        counted = counted;
+        counted = λ c cs h. unfold walk in counts c cs h .count;
         carried = λ cs h. st cs .carried h;
         bounded = λ cs. let w = st cs in omega (arith, total, shown-length cs, some-shown (stands cs m) cs (w .mark) (w .reached) .1);
+        propagated = λ c cs h. unfold walk in counts c cs h .propagations;
+        tallied = tallied;
+        creeping = creeping;
         cuts = λ cs x z. st cs .cuts x (meets-inequalities x (p .constraints) (z .meets));
         again = again;
         complete = complete;
@@ -288,5 +343,5 @@ listings =
       lists = λ f a.
           let p = problemIn f in
           let z = sizes p (tests f (a .fine) .sized) in
-          enumerates p (z .few-variables) (openProblem p) (fresh p z (fits-of f a));
+          enumerates p z (fits-of f a) (openProblem p) (fresh p z (fits-of f a)) (opened-propagations p z (fits-of f a));
     }

@@ -89,6 +89,7 @@ opened-open p f =
       total = omega arith;
       budget = refl;
       afford = omega arith;
+      creeps = omega arith;
       status = refl;
     }
 

@@ -5,7 +5,6 @@ use mathlib.Core.Bool.{Bool, true, false, cond}
 use mathlib.Core.List.{List, [], _∷_, _++_, append-nil, append-assoc}
 use mathlib.Core.Logic.{_⊎_, inl, inr, ⊎-elim}
 use mathlib.Core.Path.{_≡_, refl, sym, ap, ap₂, subst, _∙_}
-use lib.Dec.{T}
 use lib.ListN.{length, take, length-append}
 use Rattle.model.specs.Ranges.{maxVariables}
 use Rattle.model.specs.Problem.{Problem, variables}
@@ -14,11 +13,10 @@ use Rattle.model.specs.Conflict.{backUp}
 use Rattle.model.specs.Points.{Point, Before, FirstOf, allSolutions}
 use Rattle.model.specs.Step.{Verdict, goOn, noSolution, outOfBudget, solution, Outcome, lowers, withStatus, again, step}
 use Rattle.model.specs.Trace.{advance}
-use Rattle.model.specs.Demand.{stateAfter, MeetsCuts, In}
+use Rattle.model.specs.Demand.{MeetsCuts, In}
 use Rattle.model.specs.Exclude.{Exclusion, ended, unsolved, Excluded, unchanged, exclude}
-use Rattle.model.specs.Enumeration.{Call, oneTurn, allTurns, strike, turns, Reply, verdict, exclusion, Answer, traced, excluded, taken, answeredBy, answer, walk, says, blocksOf, NoRun, shownIn, standsAfter, stands, shown, struckIn, strikes, Due, Ends, KeptUp, Turns, Ascending}
-use Rattle.model.specs.Validity.{valid}
-use Rattle.lists.proofs.Bools.{true-of}
+use Rattle.model.specs.Enumeration.{Call, oneTurn, allTurns, strike, turns, Reply, verdict, exclusion, refused, Answer, traced, excluded, taken, answeredBy, answer, walk, says, blocksOf, NoRun, shownIn, standsAfter, stands, shown, struckIn, strikes, Due, Ends, KeptUp, Turns, Ascending}
+use Rattle.model.specs.Validity.{admitted}
 use Rattle.validity.specs.Valid.{Valid}
 use Rattle.validity.proofs.Conflicts.{MeetsInequalities}
 use Rattle.validity.proofs.Excluding.{exclude-valid}
@@ -27,7 +25,7 @@ use Rattle.soundness.proofs.Sizes.{before-asym, not-before-itself, befo
 use Rattle.soundness.proofs.Solutions.{solutions-ascending}
 use Rattle.soundness.proofs.OneStep.{Open, Solved, shown-first}
 use Rattle.soundness.proofs.Excluding.{strike-open, exclude-unsolved, exclude-ended, exclude-struck}
-use Rattle.soundness.proofs.StepLists.{valid-after, Reached, still, found, over, reached-after, list-conflicts, stepped, fixed-after, solved-again, cuts-append, state-next}
+use Rattle.soundness.proofs.StepLists.{afterTurns, valid-after, Reached, still, found, over, reached-after, list-conflicts, stepped, fixed-after, solved-again, cuts-append, state-next}
 use Rattle.soundness.proofs.Taking.{Takes, takes, Leaves, turn-leaves}
 
 -- ---- ascending lists
@@ -123,9 +121,9 @@ module _ (p : Problem) (few : variables p ≤ maxVariables) where
     left-ascending = left-order (w .gone) (w .left) (w .split)
 
     -- ---- a call that changes nothing
-    stays : (r : Reply) (count : ℕ) (Silent₁ Kept₁ : Type 0) → standsAfter r b ≡ b → struckIn r ≡ 0 → shownIn r ≡ [] → (Silent₁ → Silent) → (Kept₁ → ⊥) →
-        StandsAfter (record { reply = r; count = count; blocks = []; state = s }) b k vs bs Silent₁ Kept₁ calls
-    stays r count Silent₁ Kept₁ e f g h n =
+    stays : (r : Reply) (count propagations : ℕ) (Silent₁ Kept₁ : Type 0) → standsAfter r b ≡ b → struckIn r ≡ 0 → shownIn r ≡ [] → (Silent₁ → Silent) → (Kept₁ → ⊥) →
+        StandsAfter (record { reply = r; count = count; propagations = propagations; blocks = []; state = s }) b k vs bs Silent₁ Kept₁ calls
+    stays r count propagations Silent₁ Kept₁ e f g h n =
         record {
           gone = w .gone;
           left = w .left;
@@ -161,46 +159,46 @@ module _ (p : Problem) (few : variables p ≤ maxVariables) where
       unfolding standsAfter
       kept-up goOn c l t g h q = let e = w .kept (q .2) .0 in (omega (arith, l .1), λ n. impossible (let z = l .0 .status in cc))
       kept-up noSolution c l t g h q = absurd (q .1 (inl (inr refl)))
-      kept-up outOfBudget c l t g h q = absurd (q .1 (inr refl))
+      kept-up outOfBudget c l t g h q = absurd (q .1 (inr (inl refl)))
       kept-up (solution z) c l t g h q =
           let e = w .kept (q .2) .0 in
           let f : _≡_ {A = ℕ} (cond b 1 0) 0 = ap (λ (i : Bool). cond i 1 0) (due-false b c t (q .0)) in
           (omega arith, λ n. impossible (let z = l .0 .at .status in cc))
 
     -- a solution that stands is shown again
-    solved-says : (t : ℕ) → Reached p Left gone s → b ≡ true → IsSolution (step (stateAfter t s) .verdict)
+    solved-says : (t : ℕ) → Reached p Left gone s → b ≡ true → IsSolution (step (afterTurns t s) .verdict)
     unfolding isSolved again
     solved-says t (still o) h = impossible (let e = sym h ∙ w .mark ∙ ap isSolved (o .status) in cc)
     solved-says t (over o) h = impossible (let e = sym h ∙ w .mark ∙ ap isSolved (o .status) in cc)
     solved-says t (found d) h =
         let e = solved-again p Left gone s d in
-        let f = fixed-after t s (w .valid) (ap (λ (o : Outcome). o .state) e) in
+        let f = fixed-after t s (ap (λ (o : Outcome). o .state) e) in
         subst IsSolution (sym (ap (λ (z : Search). step z .verdict) f ∙ ap (λ (o : Outcome). o .verdict) e)) tt
 
     turned : (c : Call) (a : Answer) (Silent₁ : Type 0) → Takes p few Left gone c s a → Turns c → (Silent₁ → Silent × NoRun (c ∷ [])) →
         StandsAfter a b k vs bs Silent₁ (Due b c × ¬ (Ends (a .reply)) × Kept) calls
     unfolding struckIn
     turned c a Silent₁ q d n =
-        let x = stateAfter (q .t) s in
-        let y = stateAfter (suc (q .t)) s in
+        let x = afterTurns (q .t) s in
+        let y = afterTurns (suc (q .t)) s in
         let v = step x .verdict in
-        let r = reached-after p Left gone (q .t) s (w .valid) (w .reached) in
-        let l : Leaves p few Left gone v x y = subst (Leaves p few Left gone v x) (sym (state-next (q .t) s (w .valid))) (turn-leaves p few Left gone x r) in
-        let before = list-conflicts p Left gone (q .t) s (w .valid) (w .reached) in
-        let total = list-conflicts p Left gone (suc (q .t)) s (w .valid) (w .reached) in
+        let r = reached-after p Left gone (q .t) s (w .reached) in
+        let l : Leaves p few Left gone v x y = subst (Leaves p few Left gone v x) (sym (state-next (q .t) s)) (turn-leaves p few Left gone x r) in
+        let before = list-conflicts p Left gone (q .t) s (w .reached) in
+        let total = list-conflicts p Left gone (suc (q .t)) s (w .reached) in
         rw (q .reply, q .state)
         (record {
           gone = w .gone;
           left = w .left;
           split = w .split;
           valid = valid-after (suc (q .t)) s (w .valid);
-          reached = reached-after p Left gone (suc (q .t)) s (w .valid) (w .reached);
+          reached = reached-after p Left gone (suc (q .t)) s (w .reached);
           many = omega (arith, w .many);
           mark = marked x y v l (solved-says (q .t) (w .reached));
           list = listed x y v l;
           carried = λ i. omega (arith, total, w .carried (n i .0), length-append bs (a .blocks), ap length (q .blocks (n i .1)));
           cuts = λ z m. cuts-append (variables p) z bs (a .blocks) (w .cuts z m) (q .cuts z m);
-          kept = kept-up x y v c l d (omega arith) (omega (arith, stepped p Left gone x r .blocks, ap (λ (z : Search). z .conflicts) (state-next (q .t) s (w .valid))));
+          kept = kept-up x y v c l d (omega arith) (omega (arith, stepped p Left gone x r .blocks, ap (λ (z : Search). z .conflicts) (state-next (q .t) s)));
         })
 
     -- ---- a strike
@@ -243,7 +241,7 @@ module _ (p : Problem) (few : variables p ≤ maxVariables) where
     unfolding excluded unchanged shownIn
     unstruck x Silent₁ e f g n i =
         subst (λ (z : Excluded). StandsAfter (excluded z) b k vs bs Silent₁ (Due b strike × ¬ (Ends (exclusion (z .answer))) × Kept) calls) (sym e)
-        (stays (exclusion x) (s .conflicts) Silent₁ (Due b strike × ¬ (Ends (exclusion x)) × Kept) f g refl n i)
+        (stays (exclusion x) (s .conflicts) (s .propagations) Silent₁ (Due b strike × ¬ (Ends (exclusion x)) × Kept) f g refl n i)
 
     by-depth : (Silent₁ : Type 0) (ls : List Level) → Solved p Left gone s → s .core .outer ≡ ls → (Silent₁ → Silent) →
         StandsAfter (excluded (exclude s)) b k vs bs Silent₁ (Due b strike × ¬ (Ends (exclusion (exclude s .answer))) × Kept) calls
@@ -268,19 +266,43 @@ module _ (p : Problem) (few : variables p ≤ maxVariables) where
     one-more (turns (suc t)) Silent₁ n =
         let h : 0 < suc t = omega arith in turned (turns (suc t)) (taken (turns (suc t)) s) Silent₁ (takes p few Left gone (turns (suc t)) s h (w .valid) (w .reached)) h n
     one-more (turns zero) Silent₁ n =
-        unfold taken traced advance in stays (verdict goOn) (s .conflicts) Silent₁ (Due b (turns zero) × ¬ (Ends (verdict goOn)) × Kept) (unfold standsAfter in refl) (unfold struckIn in refl) (unfold shownIn in refl) (λ i. n i .0) (λ q. no-room b (q .0))
+        unfold taken traced advance in stays (verdict goOn) (s .conflicts) (s .propagations) Silent₁ (Due b (turns zero) × ¬ (Ends (verdict goOn)) × Kept) (unfold standsAfter in refl) (unfold struckIn in refl) (unfold shownIn in refl) (λ i. n i .0) (λ q. no-room b (q .0))
       where
         no-room : (i : Bool) → Due i (turns zero) → ⊥
         no-room true d = d
         no-room false d = omega arith
 
 -- ---- lists
-pub answered : (c : Call) (s : Search) → Valid s → answer c s ≡ taken c s
+pub answered : (c : Call) (s : Search) → admitted s ≡ true → answer c s ≡ taken c s
+unfolding answer answeredBy
+answered c s e = rw e
+
+pub refusing : (c : Call) (s : Search) → admitted s ≡ false → answer c s ≡ answeredBy false c s
 unfolding answer
-answered c s v = go (valid s) (v .tests)
+refusing c s e = rw e
+
+-- a call says so exactly where it is refused
+pub said-admitted : (c : Call) (s : Search) → ¬ (answer c s .reply ≡ refused 9) → admitted s ≡ true
+unfolding answer answeredBy
+said-admitted c s = by (admitted s)
   where
-    go : (t : Bool) → T t → answeredBy t c s ≡ taken c s
-    go t h = unfold answeredBy in rw (true-of t h)
+    by : (t : Bool) → ¬ (answeredBy t c s .reply ≡ refused 9) → t ≡ true
+    by true n = refl
+    by false n = absurd (n refl)
+
+pub refused-only : (c : Call) (s : Search) (n : ℕ) → answer c s .reply ≡ refused n → admitted s ≡ false
+unfolding answer answeredBy taken traced excluded
+refused-only c s n = by (admitted s)
+  where
+    never : (c : Call) → ¬ (taken c s .reply ≡ refused n)
+    never oneTurn e = impossible (cc)
+    never allTurns e = impossible (cc)
+    never strike e = impossible (cc)
+    never (turns room) e = impossible (cc)
+
+    by : (t : Bool) → answeredBy t c s .reply ≡ refused n → t ≡ false
+    by true e = absurd (never c e)
+    by false e = refl
 
 no-run-more : (c : Call) (cs : List Call) → NoRun (c ∷ cs) → NoRun cs × NoRun (c ∷ [])
 no-run-more oneTurn cs h = (h, tt)
@@ -293,10 +315,13 @@ module _ (p : Problem) (few : variables p ≤ maxVariables) (m : Search) where
   Standing cs = Stands p few (walk cs m) (stands cs m) (strikes cs m) (shown cs m) (blocksOf cs m) (NoRun cs) (KeptUp cs m) (length cs)
 
   pub standing : Stands p few m false 0 [] [] (Unit {0}) (Unit {0}) 0 → (cs : List Call) → Standing cs
-  unfolding walk says stands strikes shown blocksOf
+  unfolding walk says stands strikes shown blocksOf answer
   standing w [] = w
-  standing w (c ∷ cs) =
-      let r = standing w cs in
-      subst (λ (a : Answer). Stands p few (a .state) (standsAfter (a .reply) (stands cs m)) (struckIn (a .reply) + strikes cs m) (shown cs m ++ cond (stands cs m) [] (shownIn (a .reply))) (blocksOf cs m ++ a .blocks) (NoRun (c ∷ cs)) (Due (stands cs m) c × ¬ (Ends (a .reply)) × KeptUp cs m) (suc (length cs)))
-      (sym (answered c (walk cs m) (r .valid)))
-      (one-more p few (walk cs m) (stands cs m) (strikes cs m) (shown cs m) (blocksOf cs m) (NoRun cs) (KeptUp cs m) (length cs) r c (NoRun (c ∷ cs)) (no-run-more c cs))
+  standing w (c ∷ cs) = by (standing w cs) (admitted (walk cs m))
+    where
+      by : Standing cs → (t : Bool) → StandsAfter p few (answeredBy t c (walk cs m)) (stands cs m) (strikes cs m) (shown cs m) (blocksOf cs m) (NoRun (c ∷ cs)) (Due (stands cs m) c × ¬ (Ends (answeredBy t c (walk cs m) .reply)) × KeptUp cs m) (length cs)
+      by r true = unfold answeredBy in one-more p few (walk cs m) (stands cs m) (strikes cs m) (shown cs m) (blocksOf cs m) (NoRun cs) (KeptUp cs m) (length cs) r c (NoRun (c ∷ cs)) (no-run-more c cs)
+      -- a refusal changes nothing, and ends a list that is kept up
+      by r false =
+          unfold answeredBy standsAfter struckIn shownIn in stays p few (walk cs m) (stands cs m) (strikes cs m) (shown cs m) (blocksOf cs m) (NoRun cs) (KeptUp cs m) (length cs) r
+          (refused 9) 0 0 (NoRun (c ∷ cs)) (Due (stands cs m) c × ¬ (Ends (refused 9)) × KeptUp cs m) refl refl refl (λ h. no-run-more c cs h .0) (λ q. q .1 (inr (inr refl)))

@@ -9,60 +9,66 @@ use Rattle.model.specs.Search.{Search}
 use Rattle.model.specs.Points.{Point}
 use Rattle.model.specs.Step.{Verdict, goOn, noSolution, outOfBudget, solution, Outcome, blockIn, lowers, again, step, withoutBlock, run}
 use Rattle.model.specs.Trace.{Trace, lastStep, advance}
-use Rattle.model.specs.Demand.{stateAfter, journal, stepsTogether, MeetsCuts}
-use Rattle.model.specs.Enumeration.{Call, oneTurn, allTurns, strike, turns, verdict, Answer, traced, taken, NoRun, Turns}
+use Rattle.model.specs.Demand.{MeetsCuts}
+use Rattle.model.specs.Enumeration.{Call, oneTurn, allTurns, strike, turns, verdict, Answer, traced, taken, NoRun, turnsOf, Turns}
 use Rattle.validity.specs.Valid.{Valid}
 use Rattle.validity.proofs.Conflicts.{MeetsInequalities}
 use Rattle.validity.proofs.Repeating.{run-same}
 use Rattle.soundness.proofs.Sizes.{size}
 use Rattle.soundness.proofs.OneStep.{Open, Solved, Over, Says, step-says}
-use Rattle.soundness.proofs.StepLists.{solved-again, over-again, Reached, still, found, over, list-cuts}
-use Rattle.soundness.proofs.Together.{together, one-together}
+use Rattle.soundness.proofs.StepLists.{afterTurns, turnBlocks, solved-again, over-again, Reached, still, found, over, list-cuts}
+use Rattle.soundness.proofs.Together.{turnsTogether, together, one-together}
 
 module _ (p : Problem) (few : variables p ≤ maxVariables) (Left : Point → Type 0) (struck : ℕ) where
-  -- t + 1 turns of a list; a run gives none of their blocks
+  -- t + 1 turns one after the other; a run gives none of their blocks
   pub record Takes (c : Call) (s : Search) (a : Answer) : Type 0 where
     pub t : ℕ
-    pub reply : a .reply ≡ verdict (step (stateAfter t s) .verdict)
-    pub count : a .count ≡ step (stateAfter t s) .count
-    pub state : a .state ≡ stateAfter (suc t) s
-    pub blocks : NoRun (c ∷ []) → a .blocks ≡ journal (suc t) s
+    pub many : turnsOf c s ≡ suc t
+    pub reply : a .reply ≡ verdict (step (afterTurns t s) .verdict)
+    pub count : a .count ≡ step (afterTurns t s) .count
+    pub propagations : a .propagations ≡ step (afterTurns t s) .propagations
+    pub state : a .state ≡ afterTurns (suc t) s
+    pub blocks : NoRun (c ∷ []) → a .blocks ≡ turnBlocks (suc t) s
     pub cuts : (x : Point) → MeetsInequalities x (p .constraints) → MeetsCuts (variables p) x (a .blocks)
 
-  takes-together : (c : Call) (s : Search) (t : ℕ) (r : Trace) → Valid s → Reached p Left struck s → r ≡ stepsTogether t s → Takes c s (traced r)
-  unfolding traced stepsTogether
-  takes-together c s t r v d e =
+  takes-together : (c : Call) (s : Search) (t : ℕ) (r : Trace) → turnsOf c s ≡ suc t → Reached p Left struck s → r ≡ turnsTogether t s → Takes c s (traced r)
+  unfolding traced turnsTogether
+  takes-together c s t r n d e =
       record {
         t = t;
+        many = n;
         reply = ap (λ (x : Trace). verdict (x .verdict)) e;
         count = ap (λ (x : Trace). x .count) e;
+        propagations = ap (λ (x : Trace). x .propagations) e;
         state = ap (λ (x : Trace). x .state) e;
         blocks = λ n. ap (λ (x : Trace). x .blocks) e;
-        cuts = λ x m. subst (λ (y : Trace). MeetsCuts (variables p) x (y .blocks)) (sym e) (list-cuts p Left struck (suc t) s few v d x m);
+        cuts = λ x m. subst (λ (y : Trace). MeetsCuts (variables p) x (y .blocks)) (sym e) (list-cuts p Left struck (suc t) s few d x m);
       }
 
   takes-run : (s : Search) → Valid s → Reached p Left struck s → Takes allTurns s (traced (lastStep (run s)))
-  unfolding traced lastStep stepsTogether
+  unfolding traced lastStep turnsTogether turnsOf
   takes-run s v d =
       let f = s .budget - s .conflicts in
       let e = together p Left struck f s v d in
       let q = run-same s v in
       record {
         t = f;
+        many = refl;
         reply = ap verdict (sym (q .verdict) ∙ ap (λ (x : Trace). x .verdict) e);
         count = sym (q .count) ∙ ap (λ (x : Trace). x .count) e;
+        propagations = sym (q .propagations) ∙ ap (λ (x : Trace). x .propagations) e;
         state = sym (q .state) ∙ ap (λ (x : Trace). x .state) e;
         blocks = λ n. absurd n;
         cuts = λ x m. unfold run withoutBlock blockIn in tt;
       }
 
   pub takes : (c : Call) (s : Search) → Turns c → Valid s → Reached p Left struck s → Takes c s (taken c s)
-  unfolding taken
-  takes oneTurn s h v d = takes-together oneTurn s 0 (lastStep (step s)) v d (one-together p Left struck s v)
+  unfolding taken turnsOf
+  takes oneTurn s h v d = takes-together oneTurn s 0 (lastStep (step s)) refl d (one-together s)
   takes allTurns s h v d = takes-run s v d
   takes strike s h v d = absurd h
   takes (turns zero) s h v d = absurd (omega arith)
-  takes (turns (suc t)) s h v d = takes-together (turns (suc t)) s t (advance (suc t) s) v d (together p Left struck t s v d)
+  takes (turns (suc t)) s h v d = takes-together (turns (suc t)) s t (advance (suc t) s) refl d (together p Left struck t s v d)
 
   -- ---- the last turn, on state s: its verdict tells what state y it leaves
   abbrev pub Leaves : Verdict → Search → Search → Type 0

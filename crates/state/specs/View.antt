@@ -99,4 +99,5 @@ unfoldable pub coreOf : Search → model.Core
 coreOf s = coreOver (inputsOf s) (s .n) (s .m) (s .made) (s .rows) (s .numbers) (levelAt (s .n) (s .levels) (s .depth)) (levelsFrom (s .n) (s .levels) (s .depth))
 
 unfoldable pub view : Search → model.Search
-view s = record { core = coreOf s; budget = s .budget; conflicts = s .conflicts; status = statusOf (s .status) }
+view s =
+    record { core = coreOf s; budget = s .budget; conflicts = s .conflicts; propagations = s .propagations; status = statusOf (s .status) }

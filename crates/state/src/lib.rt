@@ -28,12 +28,14 @@ pub enum Status {
 }
 
 // The search state. A row of `rows` is 33 numbers, the constant first; rows 0 to m - 1 are the input constraints, whose divisors stand in `divisors`, 0
-// for an inequality; the kept cuts follow, oldest first, with their numbers in `numbers`. What stands past n, m, the kept cuts and the depth is not read.
+// for an inequality; the kept cuts follow, oldest first, with their numbers in `numbers`. `propagations` counts the bounds that constraints set (N5). What
+// stands past n, m, the kept cuts and the depth is not read.
 pub struct Search {
     pub n: usize,
     pub m: usize,
     pub budget: usize,
     pub conflicts: usize,
+    pub propagations: usize,
     pub made: usize,
     pub depth: usize,
     pub status: Status,

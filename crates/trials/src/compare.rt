@@ -75,13 +75,22 @@ pub fn mark_of(s: Search) -> usize {
 }
 
 // The sizes, the counters and the mark of a state.
-pub fn sizes_of(s: Search) -> [usize; 7] {
-    [s.n, s.m, s.budget, s.conflicts, s.made, s.depth, mark_of(s)]
+pub fn sizes_of(s: Search) -> [usize; 8] {
+    [
+        s.n,
+        s.m,
+        s.budget,
+        s.conflicts,
+        s.propagations,
+        s.made,
+        s.depth,
+        mark_of(s),
+    ]
 }
 
 // Whether two states hold the same, what is past their sizes with it.
 pub fn states_same(a: Search, b: Search) -> bool {
-    if !counts_same(&sizes_of(a), &sizes_of(b), 7) {
+    if !counts_same(&sizes_of(a), &sizes_of(b), 8) {
         return false;
     }
     if !numbers_same(&a.rows, &b.rows, 4224) {

@@ -7,6 +7,7 @@ use crate::strikes::STRUCK;
 use crate::strikes::code;
 use crate::ways::outcome_of;
 use crate::ways::same;
+use crate::ways::told;
 use search::Listed;
 use search::Ran;
 use state::Search;
@@ -58,10 +59,11 @@ fn is_kept(buffer: &[i64], at: usize) -> bool
 fn ends_as(l: Listed, struck: usize, ran: Ran) -> bool {
     let verdict = ran.verdict;
     let values = ran.values;
-    let want = outcome_of(verdict, ran.count, struck, values);
+    let want = outcome_of(verdict, ran.count, ran.propagations, struck, values);
     let said = l.verdict;
     let listed = l.values;
-    if !same(outcome_of(said, l.count, l.struck, listed), want) {
+    let found = outcome_of(said, l.count, l.propagations, l.struck, listed);
+    if !same(told(found, l.state), want) {
         return false;
     }
     states_same(l.state, ran.state)

@@ -26,3 +26,14 @@ pub fn added(sum: i64, a: i64, b: i64) -> i64 {
 pub fn plus(a: usize, b: usize) -> usize {
     std::num::wrapping_add_usize(a, b)
 }
+
+// Whether a is at most b · c.
+pub fn is_within(a: usize, b: usize, c: usize) -> bool {
+    if c == 0 {
+        return a == 0;
+    }
+    if a % c == 0 {
+        return a / c <= b;
+    }
+    a / c < b
+}

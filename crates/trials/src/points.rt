@@ -57,6 +57,18 @@ pub fn is_solution<'a>(
     true
 }
 
+// The sum of hi − lo over the variables.
+pub fn slack(p: Problem) -> usize {
+    let mut sum: usize = 0;
+    let mut i: usize = 0;
+    while i < 6 {
+        let width = added(p.upper[i], -1, p.lower[i]);
+        sum = plus(sum, magnitude(width) as usize);
+        i += 1;
+    }
+    sum
+}
+
 // Goes on to the next point, if x is not the last.
 pub fn goes_on(x: &mut [i64; 32], lower: &[i64; 32], upper: &[i64; 32]) -> bool {
     let mut i: usize = 6;

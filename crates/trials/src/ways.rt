@@ -1,5 +1,7 @@
 // From a problem to its opened state, and three ways from a state to its verdict: turns one by one, a run, and a trace in two parts.
+use crate::compare::counts_same;
 use crate::compare::numbers_same;
+use crate::compare::sizes_of;
 use crate::number::plus;
 use problem::Answer;
 use problem::Problem;
@@ -27,10 +29,11 @@ pub const INVALID: usize = 4;
 
 const WRONG: usize = 5;
 
-// A verdict, its count and values, and how many blocks came on the way.
+// A verdict, its counts of conflicts and of bounds set, its values, and how many blocks came on the way.
 pub struct Outcome {
     pub verdict: usize,
     pub count: usize,
+    pub propagations: usize,
     pub blocks: usize,
     pub values: [i64; 32],
 }
@@ -67,33 +70,61 @@ fn code(verdict: Verdict) -> usize {
     }
 }
 
-pub fn outcome_of(verdict: Verdict, count: usize, blocks: usize, values: [i64; 32]) -> Outcome {
+pub fn outcome_of(
+    verdict: Verdict,
+    count: usize,
+    propagations: usize,
+    blocks: usize,
+    values: [i64; 32],
+) -> Outcome {
     Outcome {
         verdict: code(verdict),
         count,
+        propagations,
         blocks,
         values,
     }
 }
 
 // An outcome with no values.
-pub fn plain(verdict: usize, count: usize, blocks: usize) -> Outcome {
+pub fn plain(verdict: usize, count: usize, propagations: usize, blocks: usize) -> Outcome {
     Outcome {
         verdict,
         count,
+        propagations,
         blocks,
         values: [0; 32],
     }
+}
+
+fn wrong() -> Outcome {
+    plain(WRONG, 0, 0, 0)
+}
+
+// An outcome, if it tells the counts of the state that came with it; a refusal tells none.
+pub fn told(o: Outcome, s: Search) -> Outcome {
+    if o.verdict == INVALID {
+        return o;
+    }
+    if !counts_same(
+        &[o.count, o.propagations],
+        &[s.conflicts, s.propagations],
+        2,
+    ) {
+        return wrong();
+    }
+    o
 }
 
 pub fn same(a: Outcome, b: Outcome) -> bool {
     if a.verdict != b.verdict {
         return false;
     }
-    if a.count != b.count {
-        return false;
-    }
-    if a.blocks != b.blocks {
+    if !counts_same(
+        &[a.count, a.propagations, a.blocks],
+        &[b.count, b.propagations, b.blocks],
+        3,
+    ) {
         return false;
     }
     numbers_same(&a.values, &b.values, 32)
@@ -122,7 +153,7 @@ pub fn is_blank(block: &[u8; 512]) -> bool {
 }
 
 // Puts a block, if there is one, after those in the journal; the new number of them.
-fn put(journal: &mut [u8; ROOM], blocks: usize, recorded: bool, block: &[u8; 512]) -> usize {
+pub fn put(journal: &mut [u8; ROOM], blocks: usize, recorded: bool, block: &[u8; 512]) -> usize {
     if !recorded {
         return blocks;
     }
@@ -141,18 +172,28 @@ fn put(journal: &mut [u8; ROOM], blocks: usize, recorded: bool, block: &[u8; 512
 // The outcome of turns that gave a verdict, if the answer and the block of the next turn are the verdict again and nothing.
 fn settled(last: Outcome, again: Outcome, block: &[u8; 512]) -> Outcome {
     if !is_blank(block) {
-        return plain(WRONG, 0, 0);
+        return wrong();
     }
     if !same(again, last) {
-        return plain(WRONG, 0, 0);
+        return wrong();
     }
     last
+}
+
+// The outcome of a turn, if a spent one leaves the sizes and counts of the state as they were.
+fn turned(o: Outcome, before: Search, after: Search) -> Outcome {
+    if o.verdict == OUT_OF_BUDGET {
+        if !counts_same(&sizes_of(after), &sizes_of(before), 8) {
+            return wrong();
+        }
+    }
+    told(o, after)
 }
 
 // Turns one by one, with their blocks put in the journal, and one turn after the verdict.
 pub fn walk(s: Search, journal: &mut [u8; ROOM]) -> Outcome {
     let mut state = s;
-    let mut last = plain(GO_ON, 0, 0);
+    let mut last = plain(GO_ON, 0, 0, 0);
     let mut turns: usize = 0;
     while turns < 18 {
         let t = search::step(state);
@@ -160,23 +201,25 @@ pub fn walk(s: Search, journal: &mut [u8; ROOM]) -> Outcome {
         let values = t.values;
         let block = t.block;
         let blocks = put(journal, last.blocks, t.recorded, &block);
-        let answer = outcome_of(verdict, t.count, blocks, values);
+        let next = t.state;
+        let o = outcome_of(verdict, t.count, t.propagations, blocks, values);
+        let answer = turned(o, state, next);
         if last.verdict != GO_ON {
             return settled(last, answer, &block);
         }
         last = answer;
-        let next = t.state;
         state = next;
         turns += 1;
     }
-    plain(WRONG, 0, 0)
+    wrong()
 }
 
 pub fn run(s: Search, blocks: usize) -> Outcome {
     let r = search::run(s);
     let verdict = r.verdict;
     let values = r.values;
-    outcome_of(verdict, r.count, blocks, values)
+    let o = outcome_of(verdict, r.count, r.propagations, blocks, values);
+    told(o, r.state)
 }
 
 // A trace into the first bytes of a buffer, and from where it stopped into the others. The first goes on only if its room is full.
@@ -188,7 +231,7 @@ fn trace_in_parts(s: Search, buffer: &mut [u8], first: usize) -> Outcome
     let part = a.blocks % 16;
     if code(verdict) == GO_ON {
         if part != first / 512 {
-            return plain(WRONG, 0, 0);
+            return wrong();
         }
     }
     let next = a.state;
@@ -196,7 +239,9 @@ fn trace_in_parts(s: Search, buffer: &mut [u8], first: usize) -> Outcome
     let b = search::trace(next, &mut buffer[at..]);
     let verdict = b.verdict;
     let values = b.values;
-    outcome_of(verdict, b.count, plus(part, b.blocks), values)
+    let blocks = plus(part, b.blocks);
+    let o = outcome_of(verdict, b.count, b.propagations, blocks, values);
+    told(o, b.state)
 }
 
 // A trace in two parts, whose blocks must be those of the journal.
@@ -206,7 +251,7 @@ pub fn trace(s: Search, journal: &[u8; ROOM], first: usize) -> Outcome
     let mut own = [MARK; ROOM];
     let o = trace_in_parts(s, &mut own, first);
     if !journals_same(&own, journal) {
-        return plain(WRONG, 0, 0);
+        return wrong();
     }
     o
 }

@@ -3,12 +3,13 @@ use Prim.Native.Nat.{ℕ, _+_, _-_, _≤_, _<_}
 use native.Mathlib.Omega.{arith}
 use mathlib.Core.Bool.{Bool, true, false, not, _&&_, and-false, and-true as and-one}
 use mathlib.Core.Path.{_≡_, sym}
+use lib.Dec.{leb}
 use lib.ListN.{getD}
 use borrow.Author.Tests.{not-true, not-false}
 use Rattle.model.specs.Lists.{tab, all, allOf}
-use Rattle.model.specs.Ranges.{maxCuts}
+use Rattle.model.specs.Ranges.{maxCuts, maxPropagations}
 use Rattle.model.specs.Constraint.{inRange, divisorInRange}
-use Rattle.model.specs.Validity.{levelValid, statusValid, valid}
+use Rattle.model.specs.Validity.{levelValid, statusValid, valid, withinLimit, admitted}
 use Rattle.lists.proofs.Bools.{said-yes}
 use Rattle.layout.specs.Rows.{rowAt, boxOf}
 use Rattle.linear.specs.Ranges.{BoxFits}
@@ -137,3 +138,12 @@ last-status s o v l d at end count k r t =
     let levels = rw z at (at .levels) in
     let nested = rw z at (at .nested) in
     rw (at .left, levels, nested, mark-view s count k o l v here (statusOf (s .status))) t
+
+-- ---- a call takes what passed, N5's count tested last
+pub refuse : (s : Search) → false ≡ valid (view s) → false ≡ admitted (view s)
+unfolding admitted
+refuse s e = rw (← e)
+
+pub limit-left : (s : Search) (r : Bool) → r ≡ valid (view s) → r ≡ true → leb (s .propagations) maxPropagations ≡ admitted (view s)
+unfolding admitted withinLimit view
+limit-left s r t h = rw (← t, h)

@@ -1,7 +1,8 @@
 // Document 01's 'foreign walk' (9): whether a search state is one that a turn or a run takes.
 ghost use mathlib.Core.Path.{_≡_};
-ghost use Rattle.model.specs.Validity.{valid};
+ghost use Rattle.model.specs.Validity.{admitted};
 ghost use Rattle.state.specs.View.{view};
+use layout::MAX_PROPAGATIONS;
 use layout::range::are_divisors_in_range;
 use layout::range::are_in_range;
 use state::Search;
@@ -13,10 +14,10 @@ pub mod levels;
 pub mod scalars;
 pub mod status;
 
-// Whether a search state, made up or not, is valid: none of the conditions of a 'foreign walk' holds. Sizes come first, for indices are computed from
+// Whether a call takes a search state, made up or not: none of the conditions of a 'foreign walk' holds. Sizes come first, for indices are computed from
 // them, and ranges before any activity. The levels are taken one by one here, and arrays lent, since each function that reads a state has a copy of it.
-pub fn is_valid(s: Search) -> bool
-    ensures { λ r. ⌜ r ≡ valid (view s) ⌝ }
+pub fn is_admitted(s: Search) -> bool
+    ensures { λ r. ⌜ r ≡ admitted (view s) ⌝ }
 {
     if !scalars::are_sizes_valid(s.n, s.m, s.budget, s.conflicts, s.made, s.depth) {
         return false;
@@ -52,7 +53,7 @@ pub fn is_valid(s: Search) -> bool
         deepest = l;
         d += 1;
     }
-    status::is_status_valid(
+    let marked = status::is_status_valid(
         s.status,
         &s.rows,
         &s.divisors,
@@ -61,5 +62,6 @@ pub fn is_valid(s: Search) -> bool
         outermost,
         deepest,
         n,
-    )
+    );
+    marked && s.propagations <= MAX_PROPAGATIONS
 }

@@ -1,5 +1,6 @@
 -- Every move and every step keeps validity, on every valid state, made-up ones too; and what a move and a conflict say of boxes and constraints.
 pub mod Boxes
+pub mod Slack
 pub mod Divisors
 pub mod Constraints
 pub mod Moves

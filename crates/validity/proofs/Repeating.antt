@@ -7,55 +7,65 @@ use mathlib.Core.Path.{_≡_, refl, _∙_}
 use lib.ListN.{length-append}
 use Rattle.model.specs.Search.{Core, Status, undecided, infeasible, solved, Search}
 use Rattle.model.specs.Move.{descend}
-use Rattle.model.specs.Step.{Verdict, goOn, noSolution, outOfBudget, solution, Outcome, blockIn, withStatus, solvedBy, budgetSpent, counted, endedAt, ended, again, stepBy, step, continue, runFor, withoutBlock, run}
+use Rattle.model.specs.Step.{Verdict, goOn, noSolution, outOfBudget, solution, Outcome, blockIn, solvedBy, budgetSpent, counted, endedAt, ended, again, stepBy, step, continue, runFor, withoutBlock, run}
 use Rattle.model.specs.Trace.{Trace, withBlocks, lastStep, advanced, advance}
 use Rattle.validity.specs.Valid.{Valid}
 use Rattle.validity.proofs.Steps.{spent-or-counted, step-valid, Counted, step-counted, run-ends}
 
--- ---- the count of a turn's answer is that of its state
-ended-count : (s : Search) (c : Core) (e : Option ℕ) → s .conflicts ≤ s .budget → endedAt s c e .count ≡ endedAt s c e .state .conflicts
-unfolding endedAt
-ended-count s c none h = unfold solvedBy withStatus in refl
-ended-count s c (some j) h = spent-or-counted (λ o. o .count ≡ o .state .conflicts) s c j h (λ e. unfold budgetSpent in refl) (λ l. unfold counted in refl)
+-- ---- the counts of a turn's answer are those of its state
+pub record Told (o : Outcome) : Type 0 where
+  pub count : o .count ≡ o .state .conflicts
+  pub propagations : o .propagations ≡ o .state .propagations
 
-step-count : (m : Status) (s : Search) → s .conflicts ≤ s .budget → stepBy m s .count ≡ stepBy m s .state .conflicts
+ended-told : (s : Search) (c : Core) (e : Option ℕ) → s .conflicts ≤ s .budget → Told (endedAt s c e)
+unfolding endedAt
+ended-told s c none h = unfold solvedBy in record { count = refl; propagations = refl }
+ended-told s c (some j) h =
+    spent-or-counted Told s c j h (λ e. unfold budgetSpent in record { count = refl; propagations = refl }) (λ l. unfold counted in record { count = refl; propagations = refl })
+
+by-told : (m : Status) (s : Search) → s .conflicts ≤ s .budget → Told (stepBy m s)
 unfolding stepBy ended again
-step-count undecided s h = ended-count s (descend (s .core) .core) (descend (s .core) .falsified) h
-step-count infeasible s h = refl
-step-count solved s h = refl
+by-told undecided s h = ended-told s (descend (s .core) .core) (descend (s .core) .falsified) h
+by-told infeasible s h = record { count = refl; propagations = refl }
+by-told solved s h = record { count = refl; propagations = refl }
+
+pub step-told : (s : Search) → s .conflicts ≤ s .budget → Told (step s)
+unfolding step
+step-told s h = by-told (s .status) s h
 
 -- ---- one turn
-one-step : (v : Verdict) (o : Outcome) → o .verdict ≡ v → o .count ≡ o .state .conflicts → advanced v o (advance 0) ≡ lastStep o
+one-step : (v : Verdict) (o : Outcome) → o .verdict ≡ v → Told o → advanced v o (advance 0) ≡ lastStep o
 unfolding advanced advance withBlocks lastStep
-one-step goOn o e c = rw (append-nil, c, e)
+one-step goOn o e c = rw (append-nil, c .count, c .propagations, e)
 one-step noSolution o e c = refl
 one-step outOfBudget o e c = refl
 one-step (solution x) o e c = refl
 
 pub advance-one : (s : Search) → s .conflicts ≤ s .budget → advance 1 s ≡ lastStep (step s)
-unfolding advance step
-advance-one s h = one-step (stepBy (s .status) s .verdict) (stepBy (s .status) s) refl (step-count (s .status) s h)
+unfolding advance
+advance-one s h = one-step (step s .verdict) (step s) refl (step-told s h)
 
 -- ---- a run
 pub record Same (t : Trace) (o : Outcome) : Type 0 where
   pub verdict : t .verdict ≡ o .verdict
   pub count : t .count ≡ o .count
+  pub propagations : t .propagations ≡ o .propagations
   pub state : t .state ≡ o .state
 
 continue-same : (v : Verdict) (o : Outcome) (go : Search → Outcome) (to : Search → Trace) → ¬ (continue v o go .verdict ≡ goOn) → o .verdict ≡ v →
     (v ≡ goOn → ¬ (go (o .state) .verdict ≡ goOn) → Same (to (o .state)) (go (o .state))) → Same (advanced v o to) (continue v o go)
 unfolding continue advanced withBlocks lastStep
-continue-same goOn o go to n e next = let r = next refl n in record { verdict = r .verdict; count = r .count; state = r .state }
-continue-same noSolution o go to n e next = record { verdict = refl; count = refl; state = refl }
-continue-same outOfBudget o go to n e next = record { verdict = refl; count = refl; state = refl }
-continue-same (solution x) o go to n e next = record { verdict = refl; count = refl; state = refl }
+continue-same goOn o go to n e next = let r = next refl n in record { verdict = r .verdict; count = r .count; propagations = r .propagations; state = r .state }
+continue-same noSolution o go to n e next = record { verdict = refl; count = refl; propagations = refl; state = refl }
+continue-same outOfBudget o go to n e next = record { verdict = refl; count = refl; propagations = refl; state = refl }
+continue-same (solution x) o go to n e next = record { verdict = refl; count = refl; propagations = refl; state = refl }
 
 last-same : (v : Verdict) (o : Outcome) (to : Search → Trace) → o .verdict ≡ v → ¬ (o .verdict ≡ goOn) → Same (advanced v o to) o
 unfolding advanced lastStep
 last-same goOn o to e n = absurd (n e)
-last-same noSolution o to e n = record { verdict = refl; count = refl; state = refl }
-last-same outOfBudget o to e n = record { verdict = refl; count = refl; state = refl }
-last-same (solution x) o to e n = record { verdict = refl; count = refl; state = refl }
+last-same noSolution o to e n = record { verdict = refl; count = refl; propagations = refl; state = refl }
+last-same outOfBudget o to e n = record { verdict = refl; count = refl; propagations = refl; state = refl }
+last-same (solution x) o to e n = record { verdict = refl; count = refl; propagations = refl; state = refl }
 
 run-for-same : (fuel : ℕ) (s : Search) → ¬ (runFor fuel s .verdict ≡ goOn) → Same (advance (suc fuel) s) (runFor fuel s)
 unfolding runFor advance
@@ -65,7 +75,7 @@ run-for-same (suc fuel) s n =
 
 pub run-same : (s : Search) → Valid s → Same (advance (suc (s .budget - s .conflicts)) s) (run s)
 unfolding run withoutBlock
-run-same s v = let r = run-for-same (s .budget - s .conflicts) s (unfold run withoutBlock in run-ends s v) in record { verdict = r .verdict; count = r .count; state = r .state }
+run-same s v = let r = run-for-same (s .budget - s .conflicts) s (unfold run withoutBlock in run-ends s v) in record { verdict = r .verdict; count = r .count; propagations = r .propagations; state = r .state }
 
 -- ---- the conflicts that turns repeated count
 advanced-counted : (v : Verdict) (s : Search) (o : Outcome) (go : Search → Trace) → Counted s (blockIn (o .block)) (o .state) → Counted (o .state) (go (o .state) .blocks) (go (o .state) .state) →

@@ -14,10 +14,10 @@ use Rattle.model.specs.Ranges.{within, maxCoefficient}
 use Rattle.model.specs.Constraint.{Constraint, Box, modulus, isOpen, falsified, inRange}
 use Rattle.model.specs.File.{noConstraint}
 use Rattle.model.specs.Search.{Level, Core, Status, undecided, infeasible, solved, Search, depth, levels, withLevels, withDeepest, kept}
-use Rattle.model.specs.Move.{nextMove, follow, descend}
+use Rattle.model.specs.Move.{nextMove, follow, slack, descend, propagationsBy, propagationsIn}
 use Rattle.model.specs.Conflict.{Analysis, Numbered, Conflict, analyze, numbered, backjumpLevel, backFrom, backUp, settled, conflictOf, learning, nothingLearned, noLearning, conflictBy, atConflict}
 use Rattle.model.specs.Validity.{falsifies, anyFalsified, outermost, statusValid}
-use Rattle.model.specs.Step.{Verdict, goOn, noSolution, outOfBudget, solution, Outcome, blockIn, withStatus, solvedBy, budgetSpent, statusAt, counted, onConflict, endedAt, ended, again, stepBy, step, continue, runFor, withoutBlock, run}
+use Rattle.model.specs.Step.{Verdict, goOn, noSolution, outOfBudget, solution, Outcome, blockIn, propagated, solvedBy, budgetSpent, statusAt, counted, onConflict, endedAt, ended, again, stepBy, step, continue, runFor, withoutBlock, run}
 use Rattle.integer.specs.Parts.{nlt-out}
 use Rattle.integer.specs.Tests.{and-in}
 use Rattle.lists.proofs.Bools.{true-of, T-of}
@@ -28,7 +28,7 @@ use Rattle.validity.proofs.Constraints.{Inequality}
 use Rattle.validity.proofs.Moves.{Clear, Falsifies, Finishes}
 use Rattle.validity.proofs.States.{ConstraintFits, CoreFits, Sizes, core-fits, sizes-fit, fits-shaped, fits-valid, deepest-ordered, raise-fits, lower-fits, decide-fits}
 use Rattle.validity.proofs.Conflicts.{analyze-learned, Keeps, keeps-all, numbered-keeps, numbered-fits, numbered-falsifies, Back, backjump-back, back-outermost, back-fits}
-use Rattle.validity.proofs.Descent.{EndsAt, Ended, descend-keeps, descend-next}
+use Rattle.validity.proofs.Descent.{EndsAt, Ended, descend-keeps, descend-next, propagations-next, propagations-few}
 
 -- ---- moves 2 and 3: the state stays valid, with the same sizes
 pub record Along (c d : Core) : Type 0 where
@@ -48,6 +48,13 @@ descend-along c f =
 -- the descent from a valid state is its next move and the descent from there
 pub descent-next : (c : Core) → CoreFits c → descend c ≡ follow (nextMove (kept c) (c .deepest .box)) c descend
 descent-next c f = descend-next CoreFits deepest-ordered raise-fits lower-fits decide-fits c f
+
+-- and so are its moves 2
+pub moves-next : (c : Core) → CoreFits c → propagationsIn c ≡ propagationsBy (nextMove (kept c) (c .deepest .box)) c propagationsIn
+moves-next c f = propagations-next CoreFits deepest-ordered raise-fits lower-fits decide-fits c f
+
+pub moves-few : (c : Core) → CoreFits c → propagationsIn c ≤ slack (c .deepest .box)
+moves-few c f = propagations-few CoreFits deepest-ordered raise-fits lower-fits decide-fits c f
 
 -- ---- a conflict
 -- what a conflict in position j gives
@@ -153,11 +160,11 @@ clear-status (k ∷ ks) box c = neither (falsified k box) (anyOf (falsifies box)
 valid-of : (s : Search) → CoreFits (s .core) → Sizes s → T (statusValid (s .core) (s .status)) → Valid s
 valid-of s f z t = record { shape = fits-shaped (s .core) f; tests = fits-valid s f z t }
 
--- without a dead end, in a state with the same sizes that passes its mark's test
-pub status-valid : (s : Search) (c : Core) (m : Status) → Sizes s → Along (s .core) c → T (statusValid c m) → Valid (withStatus s c m)
-unfolding withStatus
-status-valid s c m z a t =
-    valid-of (withStatus s c m) (a .fits)
+-- without a dead end, in a state with the same sizes that passes its mark's test, whatever N5's count
+pub status-valid : (s : Search) (c : Core) (k : ℕ) (m : Status) → Sizes s → Along (s .core) c → T (statusValid c m) →
+    Valid (record { core = c; budget = s .budget; conflicts = s .conflicts; propagations = k; status = m })
+status-valid s c k m z a t =
+    valid-of _ (a .fits)
     (record {
       some = rw (a .variables) (z .some);
       few = rw (a .variables) (z .few);
@@ -171,7 +178,7 @@ status-valid s c m z a t =
 solved-valid : (s : Search) (c : Core) → Sizes s → Along (s .core) c → Finishes (kept c) (c .deepest .box) → Valid (solvedBy s c .state)
 unfolding solvedBy statusValid anyFalsified
 solved-valid s c z a f =
-    status-valid s c solved z a
+    status-valid s c (propagated s) solved z a
     (and-in (not (anyOf isOpen (c .deepest .box))) (not (anyOf (falsifies (c .deepest .box)) (kept c))) (fixed-status (c .deepest .box) (f .fixed)) (clear-status (kept c) (c .deepest .box) (f .clear)))
 
 counted-valid : (s : Search) (c : Core) (x : Conflict) → Sizes s → Along (s .core) c → Settled c x → s .conflicts < s .budget → Valid (counted s x .state)
@@ -233,7 +240,7 @@ record Counts (s : Search) (o : Outcome) : Type 0 where
   goes : o .verdict ≡ goOn → length (blockIn (o .block)) ≡ 1
 
 ended-counts : (s : Search) (c : Core) (e : Option ℕ) → s .conflicts ≤ s .budget → Counts s (endedAt s c e)
-unfolding endedAt solvedBy withStatus blockIn
+unfolding endedAt solvedBy blockIn
 ended-counts s c none h = record { total = record { conflicts = omega arith; budget = refl }; goes = λ e. impossible (cc) }
 ended-counts s c (some j) h =
     spent-or-counted (Counts s) s c j h

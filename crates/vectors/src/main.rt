@@ -1,5 +1,5 @@
 // Stored problem files against what another implementation answers. An argument names a file; printed are its name, what `verdict` prints for it (by
-// `trace`), a digest of its journal (by `step`, a turn at a time), the verdict and count of `run`, and what `solutions` prints. A file with an error has
+// `trace`), a digest of its journal (by `step`, a turn at a time), the verdict and counts of `run`, and what `solutions` prints. A file with an error has
 // only its number.
 use console::MAX_TURNS;
 use libc::STDOUT_FILENO;
@@ -66,7 +66,7 @@ fn print_file(file: &[u8]) {
     let ran = search::run(state);
     let verdict = ran.verdict;
     let values = ran.values;
-    console::print_ending(verdict, &values, state.n, ran.count);
+    console::print_ending(verdict, &values, state.n, ran.count, ran.propagations);
     if state.n < UNLISTED {
         console::print_solutions(file);
     }

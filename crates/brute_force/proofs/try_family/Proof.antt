@@ -31,6 +31,9 @@ loop-again c = search needs
 family-requires : tie.Need-family-requires Inv-loop μ-loop
 family-requires c κs = search needs
 
+set-requires : tie.Need-set-requires Inv-loop μ-loop
+set-requires c κs = search needs
+
 returns-2 : tie.Need-returns-2 Inv-loop μ-loop
 returns-2 c = search needs
 
@@ -47,4 +50,5 @@ try-family-spec =
     loop-less
     loop-again
     family-requires
+    set-requires
     returns-2)

@@ -3,7 +3,7 @@ use native.Mathlib.Omega.{arith}
 use mathlib.Core.Bool.{true}
 use mathlib.Core.Path.{_≡_}
 use borrow.Author.Needs.{needs}
-use Rattle.model.specs.Validity.{valid}
+use Rattle.model.specs.Validity.{admitted}
 use Rattle.lists.proofs.Bools.{said-no, said-yes}
 use Rattle.state.specs.View.{view}
 use Rattle.search.proofs.Showing.{valid-view}
@@ -11,14 +11,14 @@ use Rattle.search.proofs.Excluding.{exclude-refused, exclude-unsolved, 
 use Rattle.search.proofs.exclude.Statement.{statement}
 use Rattle.search.proofs.exclude.Tie as tie
 
-tested : (c : tie.Else1) → valid (view (c .before .before .args .s)) ≡ true
-tested c = said-yes (c .before .is-valid .ensures) (c .if1 .left)
+tested : (c : tie.Else1) → admitted (view (c .before .before .args .s)) ≡ true
+tested c = said-yes (c .before .is-admitted .ensures) (c .if1 .left)
 
-is-valid-requires : tie.Need-is-valid-requires
-is-valid-requires c κs = search needs
+is-admitted-requires : tie.Need-is-admitted-requires
+is-admitted-requires c κs = search needs
 
 returns : tie.Need-returns
-returns c = exclude-refused _ (said-no (c .before .is-valid .ensures) (c .if1 .taken))
+returns c = exclude-refused _ (said-no (c .before .is-admitted .ensures) (c .if1 .taken))
 
 enum-told : tie.Need-enum-told
 enum-told c = search needs
@@ -38,4 +38,4 @@ returns-4 c = exclude-unsolved _ (tested (c .before)) (c .match .keys2)
 pub exclude-spec : {M : Type 1} → statement M
 exclude-spec =
     tie.close
-    (tie.spec is-valid-requires returns enum-told strike-requires returns-2 returns-3 returns-4)
+    (tie.spec is-admitted-requires returns enum-told strike-requires returns-2 returns-3 returns-4)

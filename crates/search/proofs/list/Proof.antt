@@ -4,20 +4,20 @@ use native.Mathlib.Nat.{mul-div-le}
 use native.Mathlib.Omega.{arith}
 use mathlib.Core.Bool.{true}
 use mathlib.Core.Path.{_≡_, refl}
-use Rattle.model.specs.Validity.{valid}
+use Rattle.model.specs.Validity.{admitted}
 use Rattle.lists.proofs.Bools.{clash, said-no, said-yes}
 use Rattle.state.specs.View.{view}
 use Rattle.propagate.proofs.States.{sizes}
 use Rattle.search.proofs.Proceeding.{after-sizes}
-use Rattle.search.proofs.Showing.{valid-view, list-shown, list-refused}
+use Rattle.search.proofs.Showing.{valid-view, few-view, list-shown, list-refused}
 use Rattle.search.proofs.list.Statement.{statement}
 use Rattle.search.proofs.list.Tie as tie
 
-tested : (c : tie.Else1) → valid (view (c .before .before .args .s)) ≡ true
-tested c = said-yes (c .before .is-valid .ensures) (c .if1 .left)
+tested : (c : tie.Else1) → admitted (view (c .before .before .args .s)) ≡ true
+tested c = said-yes (c .before .is-admitted .ensures) (c .if1 .left)
 
-is-valid-requires : tie.Need-is-valid-requires
-is-valid-requires c κs = search needs
+is-admitted-requires : tie.Need-is-admitted-requires
+is-admitted-requires c κs = search needs
 
 refused-requires : tie.Need-refused-requires
 refused-requires c κs = search needs
@@ -26,7 +26,7 @@ listed-requires : tie.Need-listed-requires
 listed-requires c κs = search needs
 
 returns : tie.Need-returns
-returns c = rw (c .listed .ensures, c .before .refused .ensures) (list-refused _ _ (said-no (c .before .before .before .is-valid .ensures) (c .before .before .if1 .taken)))
+returns c = rw (c .listed .ensures, c .before .refused .ensures) (list-refused _ _ (said-no (c .before .before .before .is-admitted .ensures) (c .before .before .if1 .taken)))
 
 div-room : tie.Need-div-room
 div-room c = let z = sizes _ (valid-view _ (tested (c .before))) in omega (arith, z .some)
@@ -42,7 +42,7 @@ slice-aggregate-proceed c = search needs
 
 proceed-requires : tie.Need-proceed-requires
 proceed-requires c κs =
-    record { valid = valid-view _ (tested (c .before .before .before .before)); kept = λ k. clash k refl; apart = λ k. clash k refl; roomy = mul-div-le _ _ }
+    record { valid = valid-view _ (tested (c .before .before .before .before)); few = few-view _ (tested (c .before .before .before .before)); kept = λ k. clash k refl; apart = λ k. clash k refl; roomy = mul-div-le _ _ }
 
 answer-requires : tie.Need-answer-requires
 answer-requires c κs =
@@ -64,7 +64,7 @@ pub list-spec : {M : Type 1} → statement M
 list-spec =
     tie.close
     (tie.spec
-    is-valid-requires
+    is-admitted-requires
     refused-requires
     listed-requires
     returns

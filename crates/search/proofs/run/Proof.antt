@@ -3,20 +3,20 @@ use borrow.Author.Needs.{needs}
 use native.Mathlib.Omega.{arith}
 use mathlib.Core.Bool.{true}
 use mathlib.Core.Path.{_≡_, refl}
-use Rattle.model.specs.Validity.{valid}
+use Rattle.model.specs.Validity.{admitted}
 use Rattle.lists.proofs.Bools.{clash, said-no, said-yes}
 use Rattle.state.specs.View.{view}
 use Rattle.propagate.proofs.States.{sizes}
 use Rattle.search.proofs.Proceeding.{after-sizes}
-use Rattle.search.proofs.Showing.{valid-view, run-shown, run-refused}
+use Rattle.search.proofs.Showing.{valid-view, few-view, run-shown, run-refused}
 use Rattle.search.proofs.run.Statement.{statement}
 use Rattle.search.proofs.run.Tie as tie
 
-tested : (c : tie.Else1) → valid (view (c .before .before .args .s)) ≡ true
-tested c = said-yes (c .before .is-valid .ensures) (c .if1 .left)
+tested : (c : tie.Else1) → admitted (view (c .before .before .args .s)) ≡ true
+tested c = said-yes (c .before .is-admitted .ensures) (c .if1 .left)
 
-is-valid-requires : tie.Need-is-valid-requires
-is-valid-requires c κs = search needs
+is-admitted-requires : tie.Need-is-admitted-requires
+is-admitted-requires c κs = search needs
 
 refused-requires : tie.Need-refused-requires
 refused-requires c κs = search needs
@@ -25,7 +25,7 @@ without-blocks-requires : tie.Need-without-blocks-requires
 without-blocks-requires c κs = search needs
 
 returns : tie.Need-returns
-returns c = rw (c .without-blocks .ensures, c .before .refused .ensures) (run-refused _ (said-no (c .before .before .before .is-valid .ensures) (c .before .before .if1 .taken)))
+returns c = rw (c .without-blocks .ensures, c .before .refused .ensures) (run-refused _ (said-no (c .before .before .before .is-admitted .ensures) (c .before .before .if1 .taken)))
 
 sub-limit : tie.Need-sub-limit
 sub-limit c = sizes _ (valid-view _ (tested (c .before))) .afford
@@ -41,7 +41,7 @@ slice-aggregate-proceed-2 c = search needs
 
 proceed-requires : tie.Need-proceed-requires
 proceed-requires c κs =
-    record { valid = valid-view _ (tested (c .before .before .before)); kept = λ k. clash k refl; apart = λ k. refl; roomy = omega arith }
+    record { valid = valid-view _ (tested (c .before .before .before)); few = few-view _ (tested (c .before .before .before)); kept = λ k. clash k refl; apart = λ k. refl; roomy = omega arith }
 
 answer-requires : tie.Need-answer-requires
 answer-requires c κs =
@@ -60,7 +60,7 @@ pub run-spec : {M : Type 1} → statement M
 run-spec =
     tie.close
     (tie.spec
-    is-valid-requires
+    is-admitted-requires
     refused-requires
     without-blocks-requires
     returns

@@ -3,32 +3,32 @@ use borrow.Author.Needs.{needs}
 use native.Mathlib.Omega.{arith}
 use mathlib.Core.Bool.{true}
 use mathlib.Core.Path.{_≡_, refl}
-use Rattle.model.specs.Validity.{valid}
+use Rattle.model.specs.Validity.{admitted}
 use Rattle.lists.proofs.Bools.{said-no, said-yes}
 use Rattle.state.specs.View.{view}
 use Rattle.search.proofs.Proceeding.{after-sizes}
-use Rattle.search.proofs.Showing.{valid-view, trace-shown, trace-refused}
+use Rattle.search.proofs.Showing.{valid-view, few-view, trace-shown, trace-refused}
 use Rattle.search.proofs.trace.Statement.{statement}
 use Rattle.search.proofs.trace.Tie as tie
 
-tested : (c : tie.Else1) → valid (view (c .before .before .before .args .s)) ≡ true
-tested c = said-yes (c .before .is-valid .ensures) (c .if1 .left)
+tested : (c : tie.Else1) → admitted (view (c .before .before .before .args .s)) ≡ true
+tested c = said-yes (c .before .is-admitted .ensures) (c .if1 .left)
 
-is-valid-requires : tie.Need-is-valid-requires
-is-valid-requires c κs = search needs
+is-admitted-requires : tie.Need-is-admitted-requires
+is-admitted-requires c κs = search needs
 
 refused-requires : tie.Need-refused-requires
 refused-requires c κs = search needs
 
 returns : tie.Need-returns
-returns c = rw (c .refused .ensures) (trace-refused _ _ (said-no (c .before .before .is-valid .ensures) (c .before .if1 .taken)))
+returns c = rw (c .refused .ensures) (trace-refused _ _ (said-no (c .before .before .is-admitted .ensures) (c .before .if1 .taken)))
 
 slice-aggregate-proceed : tie.Need-slice-aggregate-proceed
 slice-aggregate-proceed c = search needs
 
 proceed-requires : tie.Need-proceed-requires
 proceed-requires c κs =
-    record { valid = valid-view _ (tested (c .before .before)); kept = λ k. omega arith; apart = λ k. refl; roomy = omega arith }
+    record { valid = valid-view _ (tested (c .before .before)); few = few-view _ (tested (c .before .before)); kept = λ k. omega arith; apart = λ k. refl; roomy = omega arith }
 
 answer-requires : tie.Need-answer-requires
 answer-requires c κs =
@@ -47,7 +47,7 @@ pub trace-spec : {M : Type 1} → statement M
 trace-spec =
     tie.close
     (tie.spec
-    is-valid-requires
+    is-admitted-requires
     refused-requires
     returns
     slice-aggregate-proceed

@@ -1,12 +1,12 @@
 -- `propagate::propagate::propagate` meets its contract: `Looping` has the invariant, and `Steps` what a bound that is set keeps. Assumes nothing.
-use Prim.Native.Nat.{ℕ, _+_, _<_, _≤_, _*_}
+use Prim.Native.Nat.{ℕ, _+_, _<_, _≤_}
 use native.Mathlib.Nat.{eq-or-lt-of-le}
 use native.Mathlib.Omega.{arith}
 use mathlib.Core.Logic.{⊎-elim}
 use mathlib.Core.Path.{_≡_, refl, ap, sym, _∙_}
 use borrow.Author.Needs.{needs}
 use denote.Ref.{now}
-use Rattle.model.specs.Move.{Move, newLower, newUpper, conflict, firstImprovement, nextMove, slack}
+use Rattle.model.specs.Move.{Move, newLower, newUpper, firstImprovement, nextMove, slack}
 use Rattle.layout.specs.Rows.{boxOf}
 use Rattle.layout.proofs.Rows.{box-lower, box-upper}
 use Rattle.state.specs.View.{keptCuts, numberFor}
@@ -22,7 +22,6 @@ use mir.Val.{SFits}
 use mathlib.Core.Option.{some}
 use Rattle.propagate.specs.Moves.{foundOf, stopOf}
 use Rattle.propagate.specs.declared.propagate.Found.the-variants.{Conflict, Decide}
-use Rattle.propagate.specs.Propagation.{propagationOf}
 use Rattle.propagate.specs.Divided.{keptOver, Unmentioned, Warned}
 use Rattle.propagate.specs.Tracked.{Tracked}
 use Rattle.state.specs.Change.{held, raised, lowered}
@@ -38,11 +37,11 @@ use Rattle.propagate.proofs.propagate.decide_or_finish.Reads as decide-
 use Rattle.propagate.proofs.scan.first_improvement.Reads as first-improvement-reads
 
 abbrev Inv-loop : tie.InvT-loop
-Inv-loop rows lines divisors columns n m made inputs cuts told lower₀ upper₀ below₀ above₀ activities₀ reaches₀ kept «open» falsified₀ lower upper below above activities reaches falsified =
-    Loop (keptOver n m made rows lines divisors) n m made rows «open» lower₀ upper₀ below₀ above₀ lower upper below above activities reaches falsified
+Inv-loop rows lines divisors columns n m made inputs cuts told earlier lower₀ upper₀ below₀ above₀ activities₀ reaches₀ kept «open» falsified₀ count₀ lower upper below above activities reaches falsified count =
+    Loop (keptOver n m made rows lines divisors) n m made rows «open» lower₀ upper₀ below₀ above₀ earlier lower upper below above activities reaches falsified count
 
 abbrev μ-loop : tie.MeasureT-loop
-μ-loop rows lines divisors columns n m made inputs cuts told lower₀ upper₀ below₀ above₀ activities₀ reaches₀ kept «open» falsified₀ lower upper below above activities reaches falsified =
+μ-loop rows lines divisors columns n m made inputs cuts told earlier lower₀ upper₀ below₀ above₀ activities₀ reaches₀ kept «open» falsified₀ count₀ lower upper below above activities reaches falsified count =
     slack (boxOf n lower upper)
 
 -- where the function started, and that no constraint is falsified in the loop
@@ -63,7 +62,7 @@ open-mask-requires c κs = c .before .before .before .pre .0 .few
 loop-holds : tie.Need-loop-holds Inv-loop μ-loop
 loop-holds c =
     let p = c .before .before .before .before .pre in
-    record { ready = p .0; same = λ d. refl; told = p .1 .0 .0; opens = c .open-mask .ensures }
+    record { ready = p .0; same = λ d. refl; told = p .1 .0 .0; opens = c .open-mask .ensures; few = p .1 .1 .1 }
 
 -- nothing is falsified in the loop
 clear : (c : tie.In-loop Inv-loop μ-loop) →
@@ -79,7 +78,7 @@ first-improvement-requires c κs =
     let v = l .loop .inv in
     let w = clear (c .before .before .before .before) in
     let t = w .tracked refl in
-    rw (l .before .before .before .before .kept-count .ensures) ((scan-fits _ _ _ _ _ (v .ready), (t, λ j h. rw (t .at j h .same) (row-low _ _ _ _ _ _ _ _ _ _ (s .pre .1 .1 .0) w j h))), ((s .pre .1 .0 .1, v .opens), (v .ready .inputs, unfold keptCuts in omega arith)))
+    rw (l .before .before .before .before .kept-count .ensures) ((scan-fits _ _ _ _ _ (v .ready), (t, λ j h. rw (t .at j h .same) (row-low _ _ _ _ _ _ _ _ _ _ (s .pre .1 .1 .0 .0) w j h))), ((s .pre .1 .0 .1, v .opens), (v .ready .inputs, unfold keptCuts in omega arith)))
 
 -- what the scan found, and that the constraints are tracked after it
 found : (c : tie.After-first-improvement Inv-loop μ-loop) →
@@ -88,7 +87,7 @@ found : (c : tie.After-first-improvement Inv-loop μ-loop) →
     foundOf (c .first-improvement .result) ≡ firstImprovement 0 (keptOver (a .n) (a .m) (a .made) (now (a .rows)) (now (a .lines)) (now (a .divisors))) (boxOf (a .n) (l .loop .lower) (l .loop .upper))
 found c =
     let l = c .before .before .before .before .before .before in
-    let p = start l .pre .1 .1 .0 in
+    let p = start l .pre .1 .1 .0 .0 in
     (rw (l .before .before .before .before .kept-count .ensures) at (c .first-improvement .ensures .0)) ∙ sym (improvement-over _ _ _ _ _ p _ _)
 
 tracked : (c : tie.After-first-improvement Inv-loop μ-loop) →
@@ -154,9 +153,12 @@ first-indivisible-requires c κs =
     let l = t .before .before .before .before .before .before .before .before .before in
     let v : SFits w64 (t .before .better .given .0 .1 .1 .0) = search needs in
     let k = raise-level t 0 in
-    let q = start l .pre .1 .1 in
+    let q = start l .pre .1 .1 .0 in
     rw (r .raise-lower .ensures .0 .bound, toZ-ofZ v)
     (testable _ _ _ _ _ _ _ _ (q .0) (k .ready .few) (k .ready .inputs) (scan-box (scan-fits _ _ _ _ _ (k .ready)) (k .ready .whole .lower) (k .ready .whole .upper)) (q .1 .at _ (k .variable) .few))
+
+add-count : tie.Need-add-count Inv-loop μ-loop
+add-count c = omega (arith, c .before .before .before .before .before .before .before .before .before .before .before .before .before .before .before .before .before .before .loop .inv .few)
 
 loop-less : tie.Need-loop-less Inv-loop μ-loop
 loop-less c =
@@ -172,13 +174,13 @@ loop-again c =
     let l = t .before .before .before .before .before .before .before .before .before in
     let a = start l .args in
     let g = t .before .better .given .0 in
-    let q = start l .pre .1 .1 in
+    let q = start l .pre .1 .1 .0 in
     let v : SFits w64 (g .1 .1 .0) = search needs in
     let room : a .n ≤ length (l .loop .lower) = omega (arith, l .loop .inv .ready .few, l .loop .inv .ready .whole .lower) in
     let e = rw (toZ-ofZ v, l .before .before .before .before .kept-count .ensures) at (r .raise-lower .ensures .1) in
     let f = rw (r .raise-lower .ensures .0 .bound, toZ-ofZ v) at (c .first-indivisible .ensures) in
     rw (r .raise-lower .ensures .0 .bound, r .raise-lower .ensures .0 .why, r .before .before .before .before .number-of .ensures, toZ-ofZ v)
-    (loop-set _ _ _ _ _ _ _ _ _ _ _ _ _ _ _ _ _ (l .loop .inv) _ _ _ _ _ _ (g .1 .0) (g .0) _ _ _ _ (raise-level t) (tracked (t .before .before .before))
+    (loop-set _ _ _ _ _ _ _ _ _ _ _ _ _ _ _ _ _ _ _ (l .loop .inv) _ _ _ _ _ _ (g .1 .0) (g .0) _ _ _ _ (raise-level t) (tracked (t .before .before .before))
     (raised-closes (a .n) _ _ _ (g .1 .0) (g .1 .1 .0) (raise-level t 0 .variable) room (raise-better _ _ _ _ _ (length-over _ _ _ _ _ _) (held (l .loop .lower) (l .loop .upper) (l .loop .below) (l .loop .above) 0) (l .loop .inv .ready) _ _ _ (raise-move t))) e
     (λ w. warned _ _ _ _ _ _ _ _ _ _ (q .0) _ _ _ (Unmentioned (now (a .lines)) (g .1 .0)) w f (q .1 .at (g .1 .0) (raise-level t 0 .variable))
     (λ j h z. rw (box-lower (a .n) (l .loop .lower) (l .loop .upper) (g .1 .0) (g .1 .1 .0) (raise-level t 0 .variable) (omega (arith, raise-level t 0 .variable, room))) (raise-spared _ _ _ _ _ _ (all-clear _ _ _ _ _ _ _ _ _ _ (clear (t .before .before .before .before .before .before .before .before))) (g .1 .0) (g .1 .1 .0) (raise-level t 0 .variable) j h z))))
@@ -232,9 +234,12 @@ first-indivisible-requires-2 c κs =
     let l = t .before .before .before .before .before .before .before .before .before in
     let v : SFits w64 (t .before .better2 .given .0 .1 .1 .0) = search needs in
     let k = lower-level t 0 in
-    let q = start l .pre .1 .1 in
+    let q = start l .pre .1 .1 .0 in
     rw (r .lower-upper .ensures .0 .bound, toZ-ofZ v)
     (testable _ _ _ _ _ _ _ _ (q .0) (k .ready .few) (k .ready .inputs) (scan-box (scan-fits _ _ _ _ _ (k .ready)) (k .ready .whole .lower) (k .ready .whole .upper)) (q .1 .at _ (k .variable) .few))
+
+add-count-2 : tie.Need-add-count-2 Inv-loop μ-loop
+add-count-2 c = omega (arith, c .before .before .before .before .before .before .before .before .before .before .before .before .before .before .before .before .before .before .loop .inv .few)
 
 loop-less-2 : tie.Need-loop-less-2 Inv-loop μ-loop
 loop-less-2 c =
@@ -250,13 +255,13 @@ loop-again-2 c =
     let l = t .before .before .before .before .before .before .before .before .before in
     let a = start l .args in
     let g = t .before .better2 .given .0 in
-    let q = start l .pre .1 .1 in
+    let q = start l .pre .1 .1 .0 in
     let v : SFits w64 (g .1 .1 .0) = search needs in
     let room : a .n ≤ length (l .loop .upper) = omega (arith, l .loop .inv .ready .few, l .loop .inv .ready .whole .upper) in
     let e = rw (toZ-ofZ v, l .before .before .before .before .kept-count .ensures) at (r .lower-upper .ensures .1) in
     let f = rw (r .lower-upper .ensures .0 .bound, toZ-ofZ v) at (c .first-indivisible2 .ensures) in
     rw (r .lower-upper .ensures .0 .bound, r .lower-upper .ensures .0 .why, r .before .before .before .before .number-of2 .ensures, toZ-ofZ v)
-    (loop-set _ _ _ _ _ _ _ _ _ _ _ _ _ _ _ _ _ (l .loop .inv) _ _ _ _ _ _ (g .1 .0) (g .0) _ _ _ _ (lower-level t) (tracked (t .before .before .before))
+    (loop-set _ _ _ _ _ _ _ _ _ _ _ _ _ _ _ _ _ _ _ (l .loop .inv) _ _ _ _ _ _ (g .1 .0) (g .0) _ _ _ _ (lower-level t) (tracked (t .before .before .before))
     (lowered-closes (a .n) _ _ _ (g .1 .0) (g .1 .1 .0) (lower-level t 0 .variable) room (lower-better _ _ _ _ _ (length-over _ _ _ _ _ _) (held (l .loop .lower) (l .loop .upper) (l .loop .below) (l .loop .above) 0) (l .loop .inv .ready) _ _ _ (lower-move t))) e
     (λ w. warned _ _ _ _ _ _ _ _ _ _ (q .0) _ _ _ (Unmentioned (now (a .lines)) (g .1 .0)) w f (q .1 .at (g .1 .0) (lower-level t 0 .variable))
     (λ j h z. rw (box-upper (a .n) (l .loop .lower) (l .loop .upper) (g .1 .0) (g .1 .1 .0) (lower-level t 0 .variable) (omega (arith, lower-level t 0 .variable, room))) (lower-spared _ _ _ _ _ _ (all-clear _ _ _ _ _ _ _ _ _ _ (clear (t .before .before .before .before .before .before .before .before))) (g .1 .0) (g .1 .1 .0) (lower-level t 0 .variable) j h z))))
@@ -274,7 +279,7 @@ returns c =
     let l = f .before .before .before .before .before .before in
     let v = l .loop .inv in
     let last = next-open _ _ _ _ (warned-first _ _ _ _ _ _ _ _ _ (length-over _ _ _ _ _ _) (clear (f .before .before .before .before .before))) (omega arith) (sym (ap foundOf (c .before .before .before .enum-told .given .1)) ∙ found f) in (
-      λ d. stop-answer _ _ _ _ _ (length-over _ _ _ _ _ _) (held (l .loop .lower) (l .loop .upper) (l .loop .below) (l .loop .above) d) (ready-at d (v .ready)) _ (c .decide-or-finish .ensures ∙ last) ∙ sym (v .same d),
+      λ d. stop-answer _ _ _ _ _ (length-over _ _ _ _ _ _) (held (l .loop .lower) (l .loop .upper) (l .loop .below) (l .loop .above) d) (ready-at d (v .ready)) _ _ (c .decide-or-finish .ensures ∙ last) ∙ sym (v .same d),
       (v .ready, (tracked-some _ _ _ _ _ _ _ 0 (omega arith) (tracked f), λ i e. tracked f)),
     )
 
@@ -293,7 +298,7 @@ unfolding answer stopOf
 returns-2 c =
     let l = c .before in
     let v = l .loop .inv in (
-      λ d. stop-answer _ _ _ _ _ (length-over _ _ _ _ _ _) (held (l .loop .lower) (l .loop .upper) (l .loop .below) (l .loop .above) d) (ready-at d (v .ready)) _ (next-conflict _ _ _ _ (warned-first _ _ _ _ _ _ _ _ _ (length-over _ _ _ _ _ _) (v .told)) (falsified c)) ∙ sym (v .same d),
+      λ d. stop-answer _ _ _ _ _ (length-over _ _ _ _ _ _) (held (l .loop .lower) (l .loop .upper) (l .loop .below) (l .loop .above) d) (ready-at d (v .ready)) _ _ (next-conflict _ _ _ _ (warned-first _ _ _ _ _ _ _ _ _ (length-over _ _ _ _ _ _) (v .told)) (falsified c)) ∙ sym (v .same d),
       (v .ready, (v .told .lengths, λ i e. absurd (no-decision _ i e))),
     )
 
@@ -313,6 +318,7 @@ propagate-spec =
     mul-due
     element-copy-out-due
     first-indivisible-requires
+    add-count
     loop-less
     loop-again
     enum-known-better-2
@@ -321,6 +327,7 @@ propagate-spec =
     mul-due-2
     element-copy-out-due-2
     first-indivisible-requires-2
+    add-count-2
     loop-less-2
     loop-again-2
     enum-told

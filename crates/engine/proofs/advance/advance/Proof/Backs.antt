@@ -30,7 +30,7 @@ copied c = c .before .before .before .before .before .before .before .before .be
 -- ---- by either way
 goes : (c : tie.At-match-came Inv-loop μ-loop) →
     let m = c .match in
-    GoesFrom (c .before) (m .buffer) (m .solutions) (m .rows) (m .numbers) (m .made) (m .conflicts) (m .left) (m .done) (m .struck) (m .lowers) (m .uppers) (m .cuts) (m .going) (m .back) (m .flipped)
+    GoesFrom (c .before) (m .buffer) (m .solutions) (m .rows) (m .numbers) (m .made) (m .conflicts) (c .before .propagate .result .count) (m .left) (m .done) (m .struck) (m .lowers) (m .uppers) (m .cuts) (m .going) (m .back) (m .flipped)
 goes c =
     ⊎-elim
     (λ w. goes-same (w .8) (w .9) (w .10) (w .11) (w .12) (w .13) (w .14) (w .15) (w .16) (w .17) (w .18) (w .19) (w .20) (w .21) (w .22) (strikes (record { before = record { before = record { before = record { before = record { before = record { before = record { before = record { before = c .before; match = w .0 }; enum-told = w .1 }; is-last = w .2 }; if1 = w .3 }; lower8 = w .4 }; put-values-arg = w .5 }; put-values = w .6 }; solutions = w .7 })))

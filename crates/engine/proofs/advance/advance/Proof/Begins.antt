@@ -73,7 +73,7 @@ begins : (c : tie.After-put-rows Inv-loop μ-loop) →
     let a = begin (opened c) .args in
     let s = a .s in
     let w = opened c .whole .result in
-    Running (view (startOf s)) (now (a .buffer)) (a .limit) (a .keep) (s .rows) (s .divisors) (s .n) (s .m) (s .budget) (now (a .buffer)) (c .put-rows .last .1 .1 .1 .1 .0) (s .numbers) (s .levels) (s .made) (s .conflicts) (s .depth) w w (s .depth) 0
+    Running (view (startOf s)) (now (a .buffer)) (a .limit) (a .keep) (s .rows) (s .divisors) (s .n) (s .m) (s .budget) (now (a .buffer)) (c .put-rows .last .1 .1 .1 .1 .0) (s .numbers) (s .levels) (s .made) (s .conflicts) (s .depth) w w (s .depth) 0 (s .propagations) (s .propagations)
 begins c =
     let w = opened c .whole in
     let l : Whole (w .result) = rw (w .ensures .0) (w .ensures .1) in

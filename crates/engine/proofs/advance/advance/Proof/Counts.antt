@@ -32,7 +32,7 @@ enum-known-found-2 c = search needs
 pub loop-less-3 : tie.Need-loop-less-3 Inv-loop μ-loop
 loop-less-3 c = rw (going (clashed (c .before .before))) (omega arith)
 
-conflict-at : (c : tie.After-found2 Inv-loop μ-loop) → stopOf (clashed c .propagate .result) ≡ conflict (c .found2 .given .0 .0)
+conflict-at : (c : tie.After-found2 Inv-loop μ-loop) → stopOf (clashed c .propagate .result .found) ≡ conflict (c .found2 .given .0 .0)
 unfolding stopOf
 conflict-at c = ap stopOf (c .found2 .given .1)
 
@@ -45,7 +45,7 @@ loop-again-3 c =
     let r = running p in
     go-on (l .loop .inv)
     (ends
-    (rw (l .loop .inv .here .open-ended (going p) .1) (spends r (here p) (f .found2 .given .0 .0) (l .loop .inv .here .more (going p)) (c .if2 .taken) (moved p _ (conflict-at f))))
+    (rw (l .loop .inv .here .open-ended (going p) .1) (spends r (here p) (f .found2 .given .0 .0) _ (l .loop .inv .here .more (going p)) (c .if2 .taken) (moved p _ (conflict-at f))))
     (unsolved OutOfBudget tt) (l .loop .inv .here .apart) (l .loop .inv .here .rowsLong) (l .loop .inv .here .deep) (levels-long p) (l .loop .inv .here .bytes))
 
 afford : (c : tie.Else2 Inv-loop μ-loop) → round (clashed (c .before .before)) .loop .conflicts < start (round (clashed (c .before .before))) .args .s .budget
@@ -70,8 +70,8 @@ pub met : (c : tie.After-conflict Inv-loop μ-loop) →
     let a = start l .args in
     let s = a .s in
     let v = l .loop in
-    Meets (v .inv .base) (now (a .buffer)) (v .left) (a .keep) (s .rows) (s .divisors) (s .n) (s .m) (s .budget) (v .buffer) (v .rows) (v .numbers) (v .levels) (v .made) (v .conflicts) (v .depth) (held (v .lower) (v .upper) (v .below) (v .above) (v .decided)) (v .before) (v .start) (v .done)
-    (here p) (c .conflict .result .back) (c .conflict .result .made) (c .conflict .last .1 .1 .1 .1 .1 .1 .1 .1 .1 .1 .1 .1 .1 .1 .0) (c .conflict .last .1 .1 .1 .1 .1 .1 .1 .1 .1 .1 .1 .1 .1 .1 .1 .0) (c .conflict .last .1 .1 .1 .1 .1 .1 .1 .1 .1 .1 .1 .1 .1 .1 .1 .1 .1 .1 .1 .0)
+    Meets (v .inv .base) (now (a .buffer)) (v .left) (a .keep) (s .rows) (s .divisors) (s .n) (s .m) (s .budget) (v .buffer) (v .rows) (v .numbers) (v .levels) (v .made) (v .conflicts) (v .depth) (held (v .lower) (v .upper) (v .below) (v .above) (v .decided)) (v .before) (v .start) (v .done) (v .earlier) (v .propagations)
+    (here p) (p .propagate .result .count) (c .conflict .result .back) (c .conflict .result .made) (c .conflict .last .1 .1 .1 .1 .1 .1 .1 .1 .1 .1 .1 .1 .1 .1 .0) (c .conflict .last .1 .1 .1 .1 .1 .1 .1 .1 .1 .1 .1 .1 .1 .1 .1 .0) (c .conflict .last .1 .1 .1 .1 .1 .1 .1 .1 .1 .1 .1 .1 .1 .1 .1 .1 .1 .1 .1 .0)
 met c =
     let f = conflicted c in
     let p = clashed f in
@@ -92,4 +92,4 @@ loop-again-4 c =
     let x = c .before .before .before in
     let p = clashed (conflicted x) in
     go-on (round p .loop .inv)
-    (ends (at-level _ _ _ _ _ _ _ _ _ _ _ _ _ _ (counted-none (met x) (c .if3 .taken))) (unsolved NoSolution tt) (met x .kept .apart) (met x .kept .rowsLong) (depth-small (running p)) (levels-long p) (x .conflict .kept .1 .1 .1 .1 .1 .1 .1 .1 .1 .1 .1 .1 .1 .1 .1 .1 .1 .1 .1 .0 ∙ round p .loop .inv .here .bytes))
+    (ends (at-level _ _ _ _ _ _ _ _ _ _ _ _ _ _ _ (counted-none (met x) (c .if3 .taken))) (unsolved NoSolution tt) (met x .kept .apart) (met x .kept .rowsLong) (depth-small (running p)) (levels-long p) (x .conflict .kept .1 .1 .1 .1 .1 .1 .1 .1 .1 .1 .1 .1 .1 .1 .1 .1 .1 .1 .1 .0 ∙ round p .loop .inv .here .bytes))

@@ -21,7 +21,7 @@ use Rattle.engine.proofs.Carrying.{clear-more}
 use Rattle.engine.proofs.Due.{decided-warned}
 use Rattle.engine.proofs.Looping.{ready-with, running-with}
 use Rattle.engine.proofs.Striking.{go-on}
-use Rattle.engine.proofs.Rounds.{depth-small, ready, decided-here, decide-less, clear-here}
+use Rattle.engine.proofs.Rounds.{depth-small, ready, countable, decided-here, decide-less, clear-here}
 use Rattle.engine.proofs.advance.advance.Tie as tie
 use Rattle.engine.proofs.advance.advance.Proof.Loop.{Inv-loop, μ-loop, start, columned, round, here, going, running, carried, answered, moved, whole-here, levels-long}
 
@@ -38,7 +38,7 @@ propagate-requires c κs =
     let l = c .before .before .before .before .before .before .before .before .before .before .before .before .before in
     let g = c .before .before .before .before .before .before .before .before .before .before .before .before .loop-test .taken in
     let v = l .loop .inv .here .carried g in
-    (ready-with 0 (ready (l .loop .inv .here .running g)), ((v .falsified, v .masks), (l .loop .inv .here .apart, columned l .columns .ensures)))
+    (ready-with 0 (ready (l .loop .inv .here .running g)), ((v .falsified, v .masks), ((l .loop .inv .here .apart, columned l .columns .ensures), countable (l .loop .inv .here .running g))))
 
 pub mul-levels : tie.Need-mul-levels Inv-loop μ-loop
 mul-levels c = omega (arith, depth-small (running c))
@@ -53,7 +53,7 @@ keep-bounds-requires c κs = depth-small (running (c .before .before .before .be
 pub enum-known-found : tie.Need-enum-known-found Inv-loop μ-loop
 enum-known-found c = search needs
 
-decide-at : (c : tie.After-found Inv-loop μ-loop) → stopOf (chosen c .propagate .result) ≡ decide (c .found .given .0 .0)
+decide-at : (c : tie.After-found Inv-loop μ-loop) → stopOf (chosen c .propagate .result .found) ≡ decide (c .found .given .0 .0)
 unfolding stopOf
 decide-at c = ap stopOf (c .found .given .1)
 
@@ -95,13 +95,13 @@ decided : (d : tie.After-decide Inv-loop μ-loop) →
     let s = a .s in
     let v = l .loop in
     Running (v .inv .base) (now (a .buffer)) (v .left) (a .keep) (s .rows) (s .divisors) (s .n) (s .m) (s .budget) (v .buffer) (v .rows) (v .numbers) (set (v .levels) (v .depth) (here p)) (v .made) (v .conflicts) (v .depth + 1)
-    (held (here p .lower) (d .decide .last .1 .1 .1 .1 .1 .1 .1 .1 .0) (here p .below) (d .decide .last .1 .1 .1 .1 .1 .1 .1 .1 .1 .0) (f .found .given .0 .0)) (v .before) (v .start) (v .done)
+    (held (here p .lower) (d .decide .last .1 .1 .1 .1 .1 .1 .1 .1 .0) (here p .below) (d .decide .last .1 .1 .1 .1 .1 .1 .1 .1 .1 .0) (f .found .given .0 .0)) (v .before) (v .start) (v .done) (v .earlier) (p .propagate .result .count)
 unfolding numberIn
 decided d =
     let f = left d in
     let p = chosen f in
     let e = d .decide .ensures .0 in
-    running-with (ap₂ (λ (u : List ℤ) (w : List ℕ). held (here p .lower) u (here p .below) w (f .found .given .0 .0)) (sym (e .bound)) (sym (e .why))) refl (running-decides (running p) (f .found .given .0 .0) (here p) (whole-here p) (moved p _ (decide-at f)))
+    running-with (ap₂ (λ (u : List ℤ) (w : List ℕ). held (here p .lower) u (here p .below) w (f .found .given .0 .0)) (sym (e .bound)) (sym (e .why))) refl (running-decides (running p) (f .found .given .0 .0) (here p) _ (whole-here p) (moved p _ (decide-at f)))
 
 pub first-indivisible-requires-2 : tie.Need-first-indivisible-requires-2 Inv-loop μ-loop
 first-indivisible-requires-2 c κs =

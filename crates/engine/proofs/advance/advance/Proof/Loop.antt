@@ -27,13 +27,13 @@ use Rattle.engine.proofs.Rounds.{propagates}
 use Rattle.engine.proofs.advance.advance.Tie as tie
 
 abbrev pub Inv-loop : tie.InvT-loop
-Inv-loop buffer₀ limit keep room solutions₀ n m budget divisors lines rows₀ numbers₀ levels₀ made₀ conflicts₀ depth₀ before₀ start₀ left₀ done₀ struck₀ ending₀ status₀ lower₀ upper₀ below₀ above₀ decided₀ activities₀ reaches₀ olds₀ limits₀ gones₀ counts₀ lowers₀ uppers₀ divided mentions low₀ inputs cuts₀ first told₀ going₀ buffer solutions rows numbers levels made conflicts depth before start left done struck ending status lower upper below above decided activities reaches olds limits gones counts lowers uppers low cuts told going =
-    Struck (view (record { n = n; m = m; budget = budget; conflicts = conflicts₀; made = made₀; depth = depth₀; status = Undecided; rows = lines; divisors = divisors; numbers = numbers₀; levels = levels₀ })) limit room n solutions₀ left struck solutions
+Inv-loop buffer₀ limit keep room solutions₀ n m budget divisors lines rows₀ numbers₀ levels₀ made₀ conflicts₀ propagations₀ depth₀ before₀ start₀ earlier₀ left₀ done₀ struck₀ ending₀ status₀ lower₀ upper₀ below₀ above₀ decided₀ activities₀ reaches₀ olds₀ limits₀ gones₀ counts₀ lowers₀ uppers₀ divided mentions low₀ inputs cuts₀ first told₀ going₀ buffer solutions rows numbers levels made conflicts propagations depth before start earlier left done struck ending status lower upper below above decided activities reaches olds limits gones counts lowers uppers low cuts told going =
+    Struck (view (record { n = n; m = m; budget = budget; conflicts = conflicts₀; propagations = propagations₀; made = made₀; depth = depth₀; status = Undecided; rows = lines; divisors = divisors; numbers = numbers₀; levels = levels₀ })) limit room n solutions₀ left struck solutions
     (λ base.
-    Looping base buffer₀ left keep (room - struck) lines divisors n m budget mentions divided inputs buffer rows numbers levels made conflicts depth before start done ending status lower upper below above decided activities reaches olds limits gones counts lowers uppers low cuts told going)
+    Looping base buffer₀ left keep (room - struck) lines divisors n m budget mentions divided inputs buffer rows numbers levels made conflicts depth before start done earlier propagations ending status lower upper below above decided activities reaches olds limits gones counts lowers uppers low cuts told going)
 
 abbrev pub μ-loop : tie.MeasureT-loop
-μ-loop buffer₀ limit keep room solutions₀ n m budget divisors lines rows₀ numbers₀ levels₀ made₀ conflicts₀ depth₀ before₀ start₀ left₀ done₀ struck₀ ending₀ status₀ lower₀ upper₀ below₀ above₀ decided₀ activities₀ reaches₀ olds₀ limits₀ gones₀ counts₀ lowers₀ uppers₀ divided mentions low₀ inputs cuts₀ first told₀ going₀ buffer solutions rows numbers levels made conflicts depth before start left done struck ending status lower upper below above decided activities reaches olds limits gones counts lowers uppers low cuts told going =
+μ-loop buffer₀ limit keep room solutions₀ n m budget divisors lines rows₀ numbers₀ levels₀ made₀ conflicts₀ propagations₀ depth₀ before₀ start₀ earlier₀ left₀ done₀ struck₀ ending₀ status₀ lower₀ upper₀ below₀ above₀ decided₀ activities₀ reaches₀ olds₀ limits₀ gones₀ counts₀ lowers₀ uppers₀ divided mentions low₀ inputs cuts₀ first told₀ going₀ buffer solutions rows numbers levels made conflicts propagations depth before start earlier left done struck ending status lower upper below above decided activities reaches olds limits gones counts lowers uppers low cuts told going =
     weight going ((room - struck + (left - done)) * stepWeight + slack (boxOf n lower upper))
 
 -- ---- the places
@@ -54,7 +54,7 @@ round p = p .before .before .before .before .before .before .before .before .bef
 
 -- ---- a round, and where propagation stopped in it
 abbrev pub here : tie.After-propagate Inv-loop μ-loop → Level
-here p = held (p .propagate .last .1 .1 .1 .1 .1 .1 .1 .1 .1 .1 .0) (p .propagate .last .1 .1 .1 .1 .1 .1 .1 .1 .1 .1 .1 .0) (p .propagate .last .1 .1 .1 .1 .1 .1 .1 .1 .1 .1 .1 .1 .0) (p .propagate .last .1 .1 .1 .1 .1 .1 .1 .1 .1 .1 .1 .1 .1 .0) (round p .loop .decided)
+here p = held (p .propagate .last .1 .1 .1 .1 .1 .1 .1 .1 .1 .1 .1 .0) (p .propagate .last .1 .1 .1 .1 .1 .1 .1 .1 .1 .1 .1 .1 .0) (p .propagate .last .1 .1 .1 .1 .1 .1 .1 .1 .1 .1 .1 .1 .1 .0) (p .propagate .last .1 .1 .1 .1 .1 .1 .1 .1 .1 .1 .1 .1 .1 .1 .0) (round p .loop .decided)
 
 pub going : (p : tie.After-propagate Inv-loop μ-loop) → round p .loop .going ≡ true
 going p = p .before .before .before .before .before .before .before .before .before .before .before .before .before .loop-test .taken
@@ -64,7 +64,7 @@ pub running : (p : tie.After-propagate Inv-loop μ-loop) →
     let a = start l .args in
     let s = a .s in
     let v = l .loop in
-    Running (v .inv .base) (now (a .buffer)) (v .left) (a .keep) (s .rows) (s .divisors) (s .n) (s .m) (s .budget) (v .buffer) (v .rows) (v .numbers) (v .levels) (v .made) (v .conflicts) (v .depth) (held (v .lower) (v .upper) (v .below) (v .above) (v .decided)) (v .before) (v .start) (v .done)
+    Running (v .inv .base) (now (a .buffer)) (v .left) (a .keep) (s .rows) (s .divisors) (s .n) (s .m) (s .budget) (v .buffer) (v .rows) (v .numbers) (v .levels) (v .made) (v .conflicts) (v .depth) (held (v .lower) (v .upper) (v .below) (v .above) (v .decided)) (v .before) (v .start) (v .done) (v .earlier) (v .propagations)
 running p = round p .loop .inv .here .running (going p)
 
 pub carried : (p : tie.After-propagate Inv-loop μ-loop) →
@@ -81,16 +81,16 @@ pub answered : (p : tie.After-propagate Inv-loop μ-loop) →
     let a = start l .args in
     let s = a .s in
     let v = l .loop in
-    propagationOf (s .n) (here p) (p .propagate .result) ≡ propagation (keptOver (s .n) (s .m) (v .made) (v .rows) (s .rows) (s .divisors)) (numberFor (s .m) (v .made)) (levelOf (s .n) (held (v .lower) (v .upper) (v .below) (v .above) (v .decided)))
+    propagationOf (s .n) (here p) (p .propagate .result) ≡ propagation (keptOver (s .n) (s .m) (v .made) (v .rows) (s .rows) (s .divisors)) (numberFor (s .m) (v .made)) (levelOf (s .n) (held (v .lower) (v .upper) (v .below) (v .above) (v .decided))) (v .propagations)
 answered p = p .propagate .ensures .0 (round p .loop .decided)
 
-pub moved : (p : tie.After-propagate Inv-loop μ-loop) (q : Move) → stopOf (p .propagate .result) ≡ q →
+pub moved : (p : tie.After-propagate Inv-loop μ-loop) (q : Move) → stopOf (p .propagate .result .found) ≡ q →
     let l = round p in
     let a = start l .args in
     let s = a .s in
     let v = l .loop in
     Propagates (coreHere (s .rows) (s .divisors) (s .n) (s .m) (v .rows) (v .numbers) (v .levels) (v .made) (v .depth) (held (v .lower) (v .upper) (v .below) (v .above) (v .decided)))
-    (coreHere (s .rows) (s .divisors) (s .n) (s .m) (v .rows) (v .numbers) (v .levels) (v .made) (v .depth) (here p)) q
+    (coreHere (s .rows) (s .divisors) (s .n) (s .m) (v .rows) (v .numbers) (v .levels) (v .made) (v .depth) (here p)) q (v .propagations) (p .propagate .result .count)
 moved p q f = propagates (running p) (here p) (p .propagate .result) (answered p) q f
 
 pub whole-here : (p : tie.After-propagate Inv-loop μ-loop) → Whole (here p)
@@ -100,7 +100,7 @@ pub levels-long : (p : tie.After-propagate Inv-loop μ-loop) → length (set (ro
 levels-long p = length-set (round p .loop .levels) (round p .loop .depth) (here p) ∙ running p .levelsLong
 
 -- what an arm of the round leaves where the search goes back
-abbrev pub GoesFrom : (p : tie.After-propagate Inv-loop μ-loop) → List ℕ → List ℤ → List ℤ → List ℕ → ℕ → ℕ → ℕ → ℕ → ℕ → List ℤ → List ℤ → List ℕ → Bool → ℕ → ℕ → Type 0
+abbrev pub GoesFrom : (p : tie.After-propagate Inv-loop μ-loop) → List ℕ → List ℤ → List ℤ → List ℕ → ℕ → ℕ → ℕ → ℕ → ℕ → ℕ → List ℤ → List ℤ → List ℕ → Bool → ℕ → ℕ → Type 0
 GoesFrom p =
     let l = round p in
     let a = start l .args in

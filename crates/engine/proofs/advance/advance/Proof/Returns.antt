@@ -34,7 +34,7 @@ pub returns : (d : tie.After-whole2 Inv-loop μ-loop) →
     let p = clashed (conflicted x) in
     let v = round p .loop in
     let q = x .conflict .last in
-    GoesFrom p (q .1 .1 .1 .1 .1 .1 .1 .1 .1 .1 .1 .1 .1 .1 .1 .1 .1 .1 .1 .0) (v .solutions) (q .1 .1 .1 .1 .1 .1 .1 .1 .1 .1 .1 .1 .1 .1 .0) (q .1 .1 .1 .1 .1 .1 .1 .1 .1 .1 .1 .1 .1 .1 .1 .0) (x .conflict .result .made) (v .conflicts + 1) (v .left) (v .done + 1) (v .struck) (q .1 .1 .1 .1 .1 .1 .1 .1 .1 .1 .1 .1 .1 .1 .1 .1 .1 .0) (q .1 .1 .1 .1 .1 .1 .1 .1 .1 .1 .1 .1 .1 .1 .1 .1 .1 .1 .0) (q .1 .1 .1 .1 .1 .1 .1 .1 .1 .1 .1 .1 .1 .1 .1 .1 .0) (ltb (v .done + 1) (v .left)) (x .conflict .result .back) (d .whole2 .result .decided)
+    GoesFrom p (q .1 .1 .1 .1 .1 .1 .1 .1 .1 .1 .1 .1 .1 .1 .1 .1 .1 .1 .1 .0) (v .solutions) (q .1 .1 .1 .1 .1 .1 .1 .1 .1 .1 .1 .1 .1 .1 .0) (q .1 .1 .1 .1 .1 .1 .1 .1 .1 .1 .1 .1 .1 .1 .1 .0) (x .conflict .result .made) (v .conflicts + 1) (p .propagate .result .count) (v .left) (v .done + 1) (v .struck) (q .1 .1 .1 .1 .1 .1 .1 .1 .1 .1 .1 .1 .1 .1 .1 .1 .1 .0) (q .1 .1 .1 .1 .1 .1 .1 .1 .1 .1 .1 .1 .1 .1 .1 .1 .1 .1 .0) (q .1 .1 .1 .1 .1 .1 .1 .1 .1 .1 .1 .1 .1 .1 .1 .1 .0) (ltb (v .done + 1) (v .left)) (x .conflict .result .back) (d .whole2 .result .decided)
 returns d =
     let x = counted d in
     let p = clashed (conflicted x) in

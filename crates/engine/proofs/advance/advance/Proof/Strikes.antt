@@ -5,6 +5,7 @@ use mathlib.Core.List.{[]}
 use mathlib.Core.Path.{_≡_, refl, sym, ap}
 use borrow.Author.Needs.{needs}
 use lib.Seq.{getD-set-same}
+use Rattle.model.specs.Ranges.{maxPropagations}
 use Rattle.model.specs.Move.{finish}
 use Rattle.lists.proofs.Bools.{clash}
 use Rattle.state.specs.View.{noLevel, statusOf}
@@ -36,7 +37,7 @@ is-last-requires c κs = search needs
 pub loop-less-2 : tie.Need-loop-less-2 Inv-loop μ-loop
 loop-less-2 c = rw (going (solved (c .before))) (omega arith)
 
-finish-at : (t : tie.After-is-last Inv-loop μ-loop) → stopOf (solved t .propagate .result) ≡ finish
+finish-at : (t : tie.After-is-last Inv-loop μ-loop) → stopOf (solved t .propagate .result .found) ≡ finish
 unfolding stopOf
 finish-at t = ap stopOf (t .before .enum-told .given .1)
 
@@ -48,24 +49,25 @@ loop-again-2 c =
     let l = round p in
     let g = l .loop .inv .here in
     go-on (l .loop .inv)
-    (ends (at-level _ _ _ _ _ _ _ _ _ _ _ _ _ _ (finishes (running p) (here p) (g .more (going p)) (moved p finish (finish-at t)))) (λ e. last-final _ _ _ _ (t .is-last .ensures) (c .if1 .taken)) (g .apart) (g .rowsLong)
+    (ends (at-level _ _ _ _ _ _ _ _ _ _ _ _ _ _ _ (finishes (running p) (here p) _ (g .more (going p)) (moved p finish (finish-at t)))) (λ e. last-final _ _ _ _ _ (t .is-last .ensures) (c .if1 .taken)) (g .apart) (g .rowsLong)
     (depth-small (running p)) (levels-long p) (g .bytes))
 
 -- ---- one that is struck out: a decision led to it, and there is room for it
 stays : (c : tie.Else1 Inv-loop μ-loop) →
-    let l = round (solved (c .before)) in
-    (1 ≤ l .loop .depth) × (l .loop .struck < start l .args .room)
-stays c = not-last _ _ _ _ (c .before .is-last .ensures) (c .if1 .left) (round (solved (c .before)) .loop .inv .few)
+    let p = solved (c .before) in
+    let l = round p in
+    (1 ≤ l .loop .depth) × ((l .loop .struck < start l .args .room) × (p .propagate .result .count ≤ maxPropagations))
+stays c = not-last _ _ _ _ _ (c .before .is-last .ensures) (c .if1 .left) (round (solved (c .before)) .loop .inv .few)
 
 pub put-values-requires : tie.Need-put-values-requires Inv-loop μ-loop
 put-values-requires c κs =
     let e = c .before .before in
     let p = solved (e .before) in
     let l = round p in
-    (running p .counts .few, rw (l .loop .inv .size) (row-fits _ _ _ _ (stays e .1) (start l .pre .roomy)))
+    (running p .counts .few, rw (l .loop .inv .size) (row-fits _ _ _ _ (stays e .1 .0) (start l .pre .roomy)))
 
 pub add-struck : tie.Need-add-struck Inv-loop μ-loop
-add-struck c = let e = tested (c .before) in omega (arith, stays e .1, start (round (solved (e .before))) .fits .room)
+add-struck c = let e = tested (c .before) in omega (arith, stays e .1 .0, start (round (solved (e .before))) .fits .room)
 
 pub sub-left : tie.Need-sub-left Inv-loop μ-loop
 sub-left c =
@@ -76,7 +78,7 @@ sub-left c =
 pub strikes : (x : tie.After-solutions Inv-loop μ-loop) →
     let p = solved (tested (x .before) .before) in
     let v = round p .loop in
-    GoesFrom p (v .buffer) (x .before .put-values .last .1 .1 .1 .0) (v .rows) (v .numbers) (v .made) (v .conflicts) (v .left - v .done) 0 (v .struck + 1) (v .lowers) (v .uppers) (v .cuts) (v .going) (v .depth) (v .decided)
+    GoesFrom p (v .buffer) (x .before .put-values .last .1 .1 .1 .0) (v .rows) (v .numbers) (v .made) (v .conflicts) (p .propagate .result .count) (v .left - v .done) 0 (v .struck + 1) (v .lowers) (v .uppers) (v .cuts) (v .going) (v .depth) (v .decided)
 strikes x =
     let e = tested (x .before) in
     let p = solved (e .before) in
@@ -87,10 +89,10 @@ strikes x =
     let m = moved p finish (finish-at (e .before)) in
     let h = stays e in
     let more = g .more (going p) in
-    let off = none-kept _ _ _ (start l .pre .apart) (h .1) in
+    let off = none-kept _ _ _ (start l .pre .apart) (h .1 .0) in
     record {
-      base = struckTo (l .loop .inv) r;
-      way = λ k. struck-out (l .loop .inv) r k (h .1) more m _ (x .before .put-values .ensures) (x .before .put-values .kept .1 .1 .1 .0) refl;
+      base = struckTo (l .loop .inv) r _;
+      way = λ k. struck-out (l .loop .inv) r _ k (h .1 .0) (h .1 .1) more m _ (x .before .put-values .ensures) (x .before .put-values .kept .1 .1 .1 .0) refl;
       fits = m .fits;
       some = h .0;
       reach = omega arith;
@@ -103,6 +105,6 @@ strikes x =
       more = λ q. omega (arith, more);
       stops = λ q. clash (going p) q;
       bytes = g .bytes;
-      on = λ k. struck-on (l .loop .inv) r k off;
-      less = λ k. struck-less (l .loop .inv) r k off (h .1);
+      on = λ k. struck-on (l .loop .inv) r _ k off (h .1 .1);
+      less = λ k. struck-less (l .loop .inv) r _ k off (h .1 .1) (h .1 .0);
     }

@@ -1,4 +1,4 @@
--- `validate::is_valid` meets its contract: each part of the test in its turn. Assumes nothing.
+-- `validate::is_admitted` meets its contract: each part of the test in its turn. Assumes nothing.
 use Prim.Native.Nat.{_+_, _-_}
 use Rattle.lists.proofs.Bools.{said-yes}
 use Rattle.model.specs.Constraint.{divisorInRange}
@@ -9,13 +9,13 @@ use Rattle.state.specs.declared.Search.{Search}
 use Rattle.validate.proofs.LevelLoops.{level-fits}
 use Rattle.validate.proofs.Numbers.{numbersTo}
 use Rattle.validate.proofs.Sizes.{Sized}
-use Rattle.validate.proofs.Valid.{Reached, levelTests, first-reached, last-status, next-reached, refuse-constraints, refuse-divisors, refuse-first, refuse-level, refuse-nested, refuse-numbers, refuse-sizes, rows-passed, sizes-passed}
+use Rattle.validate.proofs.Valid.{Reached, levelTests, first-reached, last-status, limit-left, next-reached, refuse, refuse-constraints, refuse-divisors, refuse-first, refuse-level, refuse-nested, refuse-numbers, refuse-sizes, rows-passed, sizes-passed}
 use borrow.Author.Needs.{needs}
 use lib.ListN.{length}
-use mathlib.Core.Path.{_≡_, ap}
+use mathlib.Core.Path.{_≡_, sym, ap, _∙_}
 use native.Mathlib.Omega.{arith}
-use Rattle.validate.proofs.is_valid.Statement.{statement}
-use Rattle.validate.proofs.is_valid.Tie as tie
+use Rattle.validate.proofs.is_admitted.Statement.{statement}
+use Rattle.validate.proofs.is_admitted.Tie as tie
 
 abbrev Inv-loop : tie.InvT-loop
 Inv-loop s n kept count first last outermost deepest₀ d₀ deepest d = Reached s deepest d
@@ -59,7 +59,7 @@ are-sizes-valid-requires : tie.Need-are-sizes-valid-requires Inv-loop μ-loop
 are-sizes-valid-requires c κs = search needs
 
 returns : tie.Need-returns Inv-loop μ-loop
-returns c = search (needs, refuse-sizes)
+returns c = refuse _ (search (needs, refuse-sizes))
 
 kept-cuts-requires : tie.Need-kept-cuts-requires Inv-loop μ-loop
 kept-cuts-requires c κs = search needs
@@ -75,7 +75,7 @@ are-in-range-requires c κs =
     omega arith
 
 returns-2 : tie.Need-returns-2 Inv-loop μ-loop
-returns-2 c = search (needs, refuse-constraints)
+returns-2 c = refuse _ (search (needs, refuse-constraints))
 
 are-divisors-in-range-requires : tie.Need-are-divisors-in-range-requires Inv-loop μ-loop
 are-divisors-in-range-requires c κs = sizes (sized-at (c .before .before)) .constraints
@@ -84,8 +84,9 @@ returns-3 : tie.Need-returns-3 Inv-loop μ-loop
 returns-3 c =
     let e₂ = c .before .before .before .before in
     let e₁ = sized-at e₂ in
-    refuse-divisors (state e₁) _ (e₁ .before .are-sizes-valid .ensures) (e₁ .if1 .left) _ (e₂ .before .before .before .before .before .kept-cuts .ensures .0) _ (e₂ .before .are-in-range .ensures) (e₂ .if2 .left)
-    _ (divisors-told (c .before)) (c .if3 .taken)
+    refuse (state e₁)
+    (refuse-divisors (state e₁) _ (e₁ .before .are-sizes-valid .ensures) (e₁ .if1 .left) _ (e₂ .before .before .before .before .before .kept-cuts .ensures .0) _ (e₂ .before .are-in-range .ensures) (e₂ .if2 .left)
+    _ (divisors-told (c .before)) (c .if3 .taken))
 
 dropped-requires : tie.Need-dropped-requires Inv-loop μ-loop
 dropped-requires c κs = search needs
@@ -109,8 +110,9 @@ returns-4 c =
     let e₃ = c .before .before .before .before .before .before in
     let e₂ = ranged-at e₃ in
     let e₁ = sized-at e₂ in
-    refuse-numbers (state e₁) _ (e₁ .before .are-sizes-valid .ensures) (e₁ .if1 .left) _ (e₂ .before .before .before .before .before .kept-cuts .ensures .0) _ (e₂ .before .are-in-range .ensures) (e₂ .if2 .left)
-    _ (divisors-told (e₃ .before)) (e₃ .if3 .left) _ (c .before .before .before .before .before .dropped .ensures) _ (c .before .are-numbers-valid .ensures) (c .if4 .taken)
+    refuse (state e₁)
+    (refuse-numbers (state e₁) _ (e₁ .before .are-sizes-valid .ensures) (e₁ .if1 .left) _ (e₂ .before .before .before .before .before .kept-cuts .ensures .0) _ (e₂ .before .are-in-range .ensures) (e₂ .if2 .left)
+    _ (divisors-told (e₃ .before)) (e₃ .if3 .left) _ (c .before .before .before .before .before .dropped .ensures) _ (c .before .are-numbers-valid .ensures) (c .if4 .taken))
 
 add-last : tie.Need-add-last Inv-loop μ-loop
 add-last c = let z = sizes (sized-at (ranged-at (divided-at c))) in search needs
@@ -125,7 +127,7 @@ is-level-valid-requires : tie.Need-is-level-valid-requires Inv-loop μ-loop
 is-level-valid-requires c κs = sizes (sized-at (ranged-at (divided-at (c .before .before)))) .variables
 
 returns-5 : tie.Need-returns-5 Inv-loop μ-loop
-returns-5 c = refuse-first _ _ (c .before .before .whole .ensures .0) _ (c .before .is-level-valid .ensures) (rows-left (c .before .before .before .before)) (c .if5 .taken)
+returns-5 c = refuse _ (refuse-first _ _ (c .before .before .whole .ensures .0) _ (c .before .is-level-valid .ensures) (rows-left (c .before .before .before .before)) (c .if5 .taken))
 
 loop-holds : tie.Need-loop-holds Inv-loop μ-loop
 loop-holds c =
@@ -149,13 +151,13 @@ is-level-valid-requires-2 : tie.Need-is-level-valid-requires-2 Inv-loop μ-loop
 is-level-valid-requires-2 c κs = c .before .before .before .loop .inv .sizes .variables
 
 returns-6 : tie.Need-returns-6 Inv-loop μ-loop
-returns-6 c = search (needs, refuse-level)
+returns-6 c = refuse _ (search (needs, refuse-level))
 
 is-nested-requires : tie.Need-is-nested-requires Inv-loop μ-loop
 is-nested-requires c κs = c .before .before .before .before .before .loop .inv .sizes .variables
 
 returns-7 : tie.Need-returns-7 Inv-loop μ-loop
-returns-7 c = search (needs, refuse-nested)
+returns-7 c = refuse _ (search (needs, refuse-nested))
 
 add-d : tie.Need-add-d Inv-loop μ-loop
 add-d c = search needs
@@ -184,16 +186,22 @@ is-status-valid-requires c κs =
     let outermost = level-fits _ _ _ _ (w .0) (w .1) (z .variables) _ (e₅ .before .is-level-valid .ensures) (e₅ .if5 .left) in
     ((z .variables, omega arith), (said-yes (e₂ .before .are-in-range .ensures) (e₂ .if2 .left), ((outermost, at .fits), (z .constraints, said-yes (divisors-told (e₃ .before)) (e₃ .if3 .left)))))
 
-returns-8 : tie.Need-returns-8 Inv-loop μ-loop
-returns-8 c =
+marked : (c : tie.After-is-status-valid Inv-loop μ-loop) → c .is-status-valid .result ≡ valid (view (state (sized-at (ranged-at (divided-at (numbered-at (c .before .before .before .before .before .before .before)))))))
+marked c =
     let end = c .before .before .before .before .before in
     let l = end .before in
     let e₂ = ranged-at (divided-at (numbered-at (l .before))) in
     let k = e₂ .before .before .before .before .before .kept-cuts .ensures .0 in
     last-status _ _ (l .before .before .before .whole .ensures .0) _ _ (l .loop .inv) (end .loop-test .left) _ (ap (_+_ _) k) _ (c .is-status-valid .ensures)
 
-pub is-valid-spec : {M : Type 1} → statement M
-is-valid-spec =
+returns-8 : tie.Need-returns-8 Inv-loop μ-loop
+returns-8 c = limit-left _ _ (marked (c .before)) (c .if8 .taken)
+
+returns-9 : tie.Need-returns-9 Inv-loop μ-loop
+returns-9 c = c .if8 .left ∙ refuse _ (sym (c .if8 .left) ∙ marked (c .before))
+
+pub is-admitted-spec : {M : Type 1} → statement M
+is-admitted-spec =
     tie.close
     (tie.spec
     Inv-loop
@@ -229,4 +237,5 @@ is-valid-spec =
     loop-less
     loop-again
     is-status-valid-requires
-    returns-8)
+    returns-8
+    returns-9)
