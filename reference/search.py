@@ -5,6 +5,7 @@ from math import gcd
 from files import MAX_BOUND, MAX_COEFFICIENT, Constraint, Record, divisor_fits, in_range, sizes_fit, write_record
 
 KEPT_CUTS = 64
+MAX_PROPAGATIONS = 2**62
 
 # Reasons of a bound, beside the number of a constraint.
 DOMAIN, DECISION, FLIPPED = "domain", "decision", "flipped"
@@ -31,7 +32,8 @@ class Level:
 
 @dataclass
 class Search:
-    """A search state. `cuts` are the kept ones, pairs of number and constraint, the oldest first; the deepest level is the last."""
+    """A search state. `cuts` are the kept ones, pairs of number and constraint, the oldest first; the deepest level is the last. `propagations` counts the
+    bounds that constraints set."""
 
     inputs: list
     budget: int
@@ -39,6 +41,7 @@ class Search:
     cuts: list = field(default_factory=list)
     made: int = 0
     conflicts: int = 0
+    propagations: int = 0
     status: str = UNDECIDED
 
     def copy(self):
@@ -60,6 +63,7 @@ class Answer:
     verdict: str
     values: list
     count: int
+    propagations: int
     record: bytes
     state: Search
 
@@ -164,6 +168,7 @@ def descend(search):
         if number is not None:
             return number
         if any(improve(number, constraint, level) for number, constraint in kept):
+            search.propagations += 1
             continue
         variable = first_open(level)
         if variable is None:
@@ -244,33 +249,36 @@ def conflict(search, number):
 
 # ---- a step and a run
 
+def answer(verdict, state, record=None):
+    values = state.levels[-1].lower if verdict == SOLUTION else []
+    return Answer(verdict, values, state.conflicts, state.propagations, record, state)
+
+
 def step(search):
-    """One step of a valid state; the state that is given stays as it is."""
-    if search.status == INFEASIBLE:
-        return Answer(NONE, [], search.conflicts, None, search)
-    if search.status == SOLVED:
-        return Answer(SOLUTION, search.levels[-1].lower, search.conflicts, None, search)
+    """One step of a valid state; the state that is given stays as it is, and comes back where the budget is spent."""
+    if search.status != UNDECIDED:
+        return answer(NONE if search.status == INFEASIBLE else SOLUTION, search)
     after = search.copy()
     number = descend(after)
     if number is None:
         after.status = SOLVED
-        return Answer(SOLUTION, after.levels[-1].lower, after.conflicts, None, after)
+        return answer(SOLUTION, after)
     if search.conflicts == search.budget:
-        return Answer(SPENT, [], search.conflicts, None, search)
+        return answer(SPENT, search)
     d, record = conflict(after, number)
-    return Answer(NONE if d == 0 else GO_ON, [], after.conflicts, record, after)
+    return answer(NONE if d == 0 else GO_ON, after, record)
 
 
 def run(search):
     """Steps to a verdict: the last answer, and the records of all of them."""
     records = []
     while True:
-        answer = step(search)
-        if answer.record:
-            records.append(answer.record)
-        if answer.verdict != GO_ON:
-            return answer, records
-        search = answer.state
+        stepped = step(search)
+        if stepped.record:
+            records.append(stepped.record)
+        if stepped.verdict != GO_ON:
+            return stepped, records
+        search = stepped.state
 
 
 # ---- striking out a solution
@@ -315,7 +323,7 @@ def status_valid(search):
 
 
 def valid(search):
-    """None of the conditions of error 9 holds. Here n is the length of a level's lists."""
+    """None of the conditions of error 9 holds. Here n is the length of a level's lists. A step keeps every condition but that of the bounds set."""
     n, m = len(search.levels[0].lower), len(search.inputs)
     last = m + search.made
     if not (sizes_fit(n, m, search.budget) and search.depth <= n and search.made <= search.conflicts <= search.budget):
@@ -328,4 +336,6 @@ def valid(search):
         return False
     if not all(level_valid(level, last) for level in search.levels):
         return False
-    return all(nested(level, outer) for outer, level in zip(search.levels, search.levels[1:])) and status_valid(search)
+    if not all(nested(level, outer) for outer, level in zip(search.levels, search.levels[1:])):
+        return False
+    return status_valid(search) and search.propagations <= MAX_PROPAGATIONS

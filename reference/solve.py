@@ -37,6 +37,7 @@ def report(problem, answer, records):
         yield "end %d line %d cut %d depth %d back %d" % (record.count, record.falsified, record.cut_number, record.depth, record.back)
     yield verdict_line(answer)
     yield "ends %d" % answer.count
+    yield "set %d" % answer.propagations
 
 
 def solve(data):
@@ -67,6 +68,7 @@ def listing(data):
         yield ENDED
     yield "ends %d" % answer.count
     yield "struck %d" % struck
+    yield "set %d" % answer.propagations
 
 
 def main(arguments):

@@ -46,7 +46,7 @@ def right_listing(options, file):
 def listing_end(lines):
     if not lines:
         return "not listed"
-    return lines[-3] if lines[-1].startswith("struck") else "longer"
+    return lines[-4] if lines[-1].startswith("set") else "longer"
 
 
 class Maker:
@@ -94,7 +94,7 @@ class Comparison:
             if found != right:
                 self.disagree(kind, name, file, command, found, right)
         refusal = text.startswith("refused")
-        self.verdicts[text.strip() if refusal else text.splitlines()[-2].split()[0]] += 1
+        self.verdicts[text.strip() if refusal else text.splitlines()[-3].split()[0]] += 1
         lines = listing.decode().splitlines()
         if not refusal:
             self.ends[listing_end(lines)] += 1

@@ -70,7 +70,7 @@ def column(solver, problem, ours, values, limit):
 def verdict_of(program, plan):
     """solution, none or spent; and the values of a solution."""
     printed = subprocess.run(shlex.split(program), input=plan, stdout=subprocess.PIPE, check=True).stdout.decode().splitlines()
-    words = printed[-2].split()
+    words = next(line.split() for line in printed if line.startswith(("solution", "none", "spent")))
     return words[0], [int(word) for word in words[1:]]
 
 

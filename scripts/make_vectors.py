@@ -6,7 +6,7 @@
 What is expected comes from this repository's reference/ (which takes some minutes), or from another PROGRAM (scripts/implementation.py says how it is
 called); never from this repository's programs.
 
-Written are the plan files below (crates/vectors/data), the names of these and of the larger files that stand there already (crates/vectors/args),
+Written are the plan files below (crates/vectors/data), the names of these and of the other files that stand there already (crates/vectors/args),
 what `vectors` must print for them (crates/vectors/stdout), plan A with its outputs (examples, crates/verdict, crates/journal), and the listing of
 examples/blueprint.plan (crates/solutions).
 """
@@ -312,17 +312,49 @@ def listing_files():
         yield "plan-c-budget-%d" % budget, problem_file(budget, [(0, 2)] * 2, PLAN_C_LINES)
 
 
+def sparse(n, constant, terms):
+    """A row of n coefficients, 0 where no term is given; variables count from 0."""
+    return [constant] + [terms.get(i, 0) for i in range(n)]
+
+
+def ring(n, gap):
+    """v1 <= v2 <= .. <= vn <= v1 - gap."""
+    return [sparse(n, gap if i == n - 1 else 0, {i: 1, (i + 1) % n: -1}) for i in range(n)]
+
+
+def switches(pairs):
+    """Switches of 0 and 1, and a pair of variables for each, which creeps to a dead end while the switch is 0, and is equal while it is 1."""
+    places = [(k, pairs + 2 * k, pairs + 2 * k + 1) for k in range(pairs)]
+    return [sparse(3 * pairs, *row) for k, v, w in places for row in [(1, {k: -1, v: 1, w: -1}), (0, {v: -1, w: 1})]]
+
+
+def creep_files():
+    """Bounds that creep up one by one, and their count: to 'none', to turns that are spent in the middle, and between strikes."""
+    yield "creep-ring", problem_file(0, [(0, 9)] * 6, ring(6, 0))
+    yield "creep-ring-none", problem_file(1, [(0, 99)] * 6, ring(6, 1))
+    yield "creep-ring-spent", problem_file(0, [(0, 99)] * 6, ring(6, 1))
+    for name, budget in [("by-threes", 14), ("by-threes-spent", 9)]:
+        yield "creep-ring-%s" % name, problem_file(budget, [(0, 20)] * 4, ring(4, 0) + [divided(3, 0, 0, 0, 0, 1)])
+    for budget, highest in [(0, 100), (2, 100), (3, 2)]:
+        yield "creep-switches-budget-%d" % budget, problem_file(budget, [(0, 1)] * 3 + [(0, highest)] * 6, switches(3))
+    yield "creep-switches-none", problem_file(9, [(0, 1)] * 4 + [(-50, 50)] * 8, switches(4) + [sparse(12, -3, {i: 1 for i in range(4)})])
+    # (0, 0, 0) is the only solution; once it is struck out v2 and v3 creep.
+    once = [[0, -300, 1, 0], [0, -300, 0, 1], [0, 1, 1, -1], [0, 0, -1, 1]]
+    for name, budget in [("none", 1), ("spent", 0)]:
+        yield "struck-then-creep-%s" % name, problem_file(budget, [(0, 3)] + [(0, 300)] * 2, once)
+
+
 GROUPS = [torn_files, bad_files, edge_files, bound_files, walk_files, range_files, cut_files, block_files, bad_divisor_files, divisor_files, jump_files,
-          listing_files]
+          listing_files, creep_files]
 
 
 def printed(program, name, file):
-    """What `vectors` prints: the name, the verdict's text, a digest of the journal, the verdict and count of a run, and below 32 variables the listing."""
+    """What `vectors` prints: the name, the verdict's text, a digest of the journal, the verdict and counts of a run, and below 32 variables the listing."""
     text, journal = expected(program, file)
     if text.startswith("refused"):
         return "%s\n%s" % (name, text)
     digest = int.from_bytes(journal, "big") % DIGEST_PRIME
-    ending = "".join(text.splitlines(keepends=True)[-2:])
+    ending = "".join(text.splitlines(keepends=True)[-3:])
     listed = len(solve.read_input(file).limits) < MAX_VARIABLES
     return "%s\n%sjournal %d\n%s%s" % (name, text, digest, ending, expected_listing(program, file).decode() if listed else "")
 
