@@ -13,7 +13,7 @@ use Rattle.model.specs.Journal.{cutIn}
 use Rattle.model.specs.Move.{slack}
 use Rattle.model.specs.Validity.{admitted}
 use Rattle.model.specs.Step.{Verdict, goOn, noSolution, outOfBudget, solution, Outcome, blockIn, step, run, stepCall}
-use Rattle.model.specs.Trace.{Trace, advance}
+use Rattle.model.specs.Trace.{Trace, endingWith, advance}
 use Rattle.model.specs.Propagations.{boundsSet}
 use Rattle.model.specs.Points.{Point, Inside, allPoints, points, Meets, Solution, First}
 
@@ -43,14 +43,7 @@ journal (suc k) s = blocksIn (stepCall s) ++ journal k (after s (stepCall s))
 
 -- k + 1 turns of the list taken by one call: their blocks, and the answer and walk of the last
 unfoldable pub stepsTogether : ℕ → Search → Trace
-stepsTogether k s =
-    record {
-      verdict = step (stateAfter k s) .verdict;
-      count = step (stateAfter k s) .count;
-      propagations = step (stateAfter k s) .propagations;
-      blocks = journal (suc k) s;
-      state = stateAfter (suc k) s;
-    }
+stepsTogether k s = endingWith (step (stateAfter k s)) (journal (suc k) s) (stateAfter (suc k) s)
 
 -- the point meets the cut, of n coefficients, in each block
 abbrev pub MeetsCuts : ℕ → Point → List (List ℕ) → Type 0

@@ -20,8 +20,12 @@ pub record Trace : Type 0 where
 unfoldable pub withBlocks : List (List ℕ) → Trace → Trace
 withBlocks bs t = record { verdict = t .verdict; count = t .count; propagations = t .propagations; blocks = bs ++ t .blocks; state = t .state }
 
+-- turns that end with this one: its verdict and counts, with the blocks and the walk of all of them
+abbrev pub endingWith : Outcome → List (List ℕ) → Search → Trace
+endingWith o blocks s = record { verdict = o .verdict; count = o .count; propagations = o .propagations; blocks = blocks; state = s }
+
 unfoldable pub lastStep : Outcome → Trace
-lastStep o = record { verdict = o .verdict; count = o .count; propagations = o .propagations; blocks = blockIn (o .block); state = o .state }
+lastStep o = endingWith o (blockIn (o .block)) (o .state)
 
 unfoldable pub advanced : Verdict → Outcome → (Search → Trace) → Trace
 advanced goOn o go = withBlocks (blockIn (o .block)) (go (o .state))

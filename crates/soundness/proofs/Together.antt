@@ -14,7 +14,7 @@ use Rattle.model.specs.Conflict.{atConflict}
 use Rattle.model.specs.Points.{Point}
 use Rattle.model.specs.Step.{Verdict, goOn, noSolution, outOfBudget, solution, Outcome, blockIn, solvedBy, budgetSpent, counted, onConflict, endedAt, ended, again, stepBy, step}
 use Rattle.format.proofs.RecordCut.{length-record}
-use Rattle.model.specs.Trace.{Trace, withBlocks, lastStep, advanced, advance}
+use Rattle.model.specs.Trace.{Trace, endingWith, withBlocks, lastStep, advanced, advance}
 use Rattle.validity.proofs.Every.{Every}
 use Rattle.validity.proofs.Elements.{every-append}
 use Rattle.validity.proofs.States.{sizes-fit}
@@ -63,14 +63,7 @@ advance-long (suc n) s = advanced-long (step s .verdict) (step s) (advance n) (s
 
 -- ---- k + 1 turns in one answer: their blocks, and what the last of them gives
 unfoldable pub turnsTogether : ℕ → Search → Trace
-turnsTogether k s =
-    record {
-      verdict = step (afterTurns k s) .verdict;
-      count = step (afterTurns k s) .count;
-      propagations = step (afterTurns k s) .propagations;
-      blocks = turnBlocks (suc k) s;
-      state = afterTurns (suc k) s;
-    }
+turnsTogether k s = endingWith (step (afterTurns k s)) (turnBlocks (suc k) s) (afterTurns (suc k) s)
 
 -- after the verdict
 blocks-none : (k : ℕ) (s : Search) → step s .state ≡ s → step s .block ≡ none → turnBlocks k s ≡ []
