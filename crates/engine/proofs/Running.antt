@@ -14,7 +14,8 @@ use Rattle.model.specs.Move.{Move, decide, moved, follow, slack, descend, propa
 use Rattle.model.specs.Step.{counted}
 use Rattle.model.specs.Bytes.{blockLength}
 use Rattle.model.specs.Trace.{withBlocks, advance, joined}
-use Rattle.validity.proofs.Boxes.{first-open, lowHalf, low-slack}
+use Rattle.validity.proofs.Boxes.{first-open}
+use Rattle.validity.proofs.Descent.{decided-slack}
 use Rattle.validity.proofs.Moves.{Decides, Chosen}
 use Rattle.validity.proofs.States.{CoreFits, depth-fits, deepest-ordered, decide-fits}
 use Rattle.state.specs.View.{decisionReason, levelOf, levelsFrom, coreOver}
@@ -100,14 +101,10 @@ module _ {start c d : model.Core} {conflicts earlier tally tally₁ : ℕ} {m : 
   counts-tally = omega (arith, t .few, t .fits, p .less)
 
 -- a decision sets none, and lowers the slack
-pub decided-slack : (c : model.Core) (i : ℕ) → CoreFits c → Decides (model.kept c) (c .deepest .box) i → slack (moved (decide i) c .deepest .box) < slack (c .deepest .box)
-unfolding model.withLevels model.decideAt
-decided-slack c i f d = unfold lowHalf in low-slack i (c .deepest .box) (deepest-ordered c f) (first-open i (c .deepest .box) (d .first))
-
 decides-tally : {start c d : model.Core} {conflicts earlier tally tally₁ : ℕ} {i : ℕ} → Tally start c conflicts earlier tally → Propagates c d (decide i) tally tally₁ → Tally start (moved (decide i) d) conflicts earlier tally₁
 unfolding propagationsBy
 decides-tally {d = d} {i = i} t p =
-    record { same = t .same ∙ p .count; few = t .few; fits = omega (arith, t .fits, p .less, decided-slack d i (p .fits) (p .chosen)) }
+    record { same = t .same ∙ p .count; few = t .few; fits = omega (arith, t .fits, p .less, decided-slack d i (deepest-ordered d (p .fits)) (p .chosen)) }
 
 -- ---- a decision
 core-decided : (lines divisors : List ℤ) (n m made : ℕ) (rows : List ℤ) (numbers : List ℕ) (levels : List Level) (d i : ℕ) (l : Level) → Whole l → n ≤ 32 → i < n → d < length levels →

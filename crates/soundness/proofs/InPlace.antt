@@ -24,6 +24,7 @@ use Rattle.lists.proofs.Bools.{true-of, and-both}
 use Rattle.validity.proofs.Every.{Every}
 use Rattle.validity.proofs.Elements.{Holds, holds-elem}
 use Rattle.validity.proofs.Steps.{run-ends, impossible}
+use Rattle.validity.proofs.Excluding.{limit-kept, limit-passed}
 use Rattle.soundness.proofs.Solutions.{solutions-every}
 use Rattle.soundness.proofs.Excluding.{exclude-set}
 use Rattle.soundness.proofs.StepLists.{Reached, still, found, over}
@@ -145,15 +146,6 @@ beyond-limit s h = rw h (none (valid s))
     none : (t : Bool) → (t && false) ≡ false
     none true = refl
     none false = refl
-
--- a strike inside a listing is that of a call, or there is none
-within : (s : Search) → withinLimit s ≡ true → excludeWithin s ≡ exclude s
-unfolding excludeWithin
-within s h = rw h
-
-beyond : (s : Search) → withinLimit s ≡ false → excludeWithin s ≡ unchanged unsolved s
-unfolding excludeWithin
-beyond s h = rw h
 
 unstruck-ends : (v : Verdict) (o : Outcome) (l : Listing Outcome) → goesOn v unsolved o l ≡ endsWith o
 unfolding goesOn
@@ -308,9 +300,9 @@ module _ (p : Problem) (m : Search) (z : Enumerates p m) where
         by outOfBudget e f g h = ends-here cs (suc room) a (λ u n k. impossible (cc))
 
         limited : (t : Bool) → withinLimit x ≡ t → InPlace p m cs (suc room) (goesOn (run (walk cs m) .verdict) (excludeWithin x .answer) (run (walk cs m)) (listFrom room (excludeWithin x .state)))
-        limited true h = rw (within x h) (by (run (walk cs m) .verdict) (exclude x .answer) refl refl h)
+        limited true h = rw (limit-kept x h) (by (run (walk cs m) .verdict) (exclude x .answer) refl refl h)
         limited false h =
-            rw (beyond x h, unstruck-ends (run (walk cs m) .verdict) (run (walk cs m)) (listFrom room x))
+            rw (limit-passed x h, unstruck-ends (run (walk cs m) .verdict) (run (walk cs m)) (listFrom room x))
             (ends-here cs (suc room) a (λ u n k. inr (inr (rw (state-ran cs a) (beyond-limit x h)))))
 
     from-unmarked : (room : ℕ) (cs : List Call) → admitted (walk cs m) ≡ true → stands cs m ≡ false → InPlace p m cs room (listFrom room (walk cs m))

@@ -43,6 +43,11 @@ propagations-same (newUpper j i v) c go to e = ap suc (e tt)
 propagations-same (decide i) c go to e = e tt
 propagations-same finish c go to e = refl
 
+-- a decision lowers the slack
+pub decided-slack : (c : Core) (i : ℕ) → Ordered (c .deepest .box) → Decides (kept c) (c .deepest .box) i → slack (moved (decide i) c .deepest .box) < slack (c .deepest .box)
+unfolding withLevels decideAt
+decided-slack c i o d = unfold lowHalf in low-slack i (c .deepest .box) o (first-open i (c .deepest .box) (d .first))
+
 module _
     (p : Core → Type 0)
     (ordered : (c : Core) → p c → Ordered (c .deepest .box))
@@ -56,8 +61,7 @@ module _
     onward (conflict j) c h m g = absurd g
     onward (newLower j i v) c h m g = (raise c j i v h m, set-lower-slack i v (c .deepest .box) (m .variable) (ordered c h) (m .better) (m .fits))
     onward (newUpper j i v) c h m g = (lower c j i v h m, set-upper-slack i v (c .deepest .box) (m .variable) (ordered c h) (m .fits) (m .better))
-    onward (decide i) c h m g =
-        (deeper c i h m, unfold lowHalf in low-slack i (c .deepest .box) (ordered c h) (first-open i (c .deepest .box) (m .first)))
+    onward (decide i) c h m g = (deeper c i h m, decided-slack c i (ordered c h) m)
     onward finish c h m g = absurd g
 
     -- one move, and what comes after it

@@ -35,13 +35,19 @@ unfolding exclude
 exclude-valid s v = exclude-by (s .status) s v
 
 -- ---- a strike inside a listing, by N5's limit
+pub limit-kept : (s : Search) → withinLimit s ≡ true → excludeWithin s ≡ exclude s
+unfolding excludeWithin
+limit-kept s h = rw h
+
+pub limit-passed : (s : Search) → withinLimit s ≡ false → excludeWithin s ≡ unchanged unsolved s
+unfolding excludeWithin
+limit-passed s h = rw h
+
 pub within-exclude : (s : Search) → s .propagations ≤ maxPropagations → excludeWithin s ≡ exclude s
-unfolding excludeWithin withinLimit
-within-exclude s h = rw (le-leb (s .propagations) maxPropagations h)
+within-exclude s h = limit-kept s (unfold withinLimit in le-leb (s .propagations) maxPropagations h)
 
 pub past-exclude : (s : Search) → maxPropagations < s .propagations → excludeWithin s ≡ unchanged unsolved s
-unfolding excludeWithin withinLimit
-past-exclude s h = rw (lt-leb (s .propagations) maxPropagations h)
+past-exclude s h = limit-passed s (unfold withinLimit in lt-leb (s .propagations) maxPropagations h)
 
 pub within-by : (P : Excluded → Type 0) (s : Search) → P (exclude s) → P (unchanged unsolved s) → P (excludeWithin s)
 unfolding excludeWithin
