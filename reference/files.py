@@ -15,10 +15,13 @@ MAX_COEFFICIENT = 2**30
 MIN_DIVISOR = 2
 MAX_DIVISOR = 2**20
 DIVISOR_OFFSET = 132
+MIN_THRESHOLD = 2
+THRESHOLD_OFFSET = 268
 
 # The numbers of errors.
 TRUNCATED, BAD_CHECKSUM, BAD_MAGIC, SIZE_RANGE, DOMAIN_RANGE, COEFFICIENT_RANGE, NONZERO_PADDING = range(1, 8)
 DIVISOR_RANGE = 10
+THRESHOLD_RANGE = 13
 
 
 class FileError(Exception):
@@ -45,11 +48,15 @@ class Constraint:
 
 @dataclass
 class Problem:
-    """Limits are pairs (lower, upper), one for each variable."""
+    """Limits are pairs (lower, upper), one for each variable. Where a variable's threshold is not 0, it is 0 or at least that; thresholds not given are 0."""
 
     limits: list
     constraints: list
     budget: int
+    thresholds: list = ()
+
+    def __post_init__(self):
+        self.thresholds = list(self.thresholds) + [0] * (len(self.limits) - len(self.thresholds))
 
 
 @dataclass
@@ -92,10 +99,16 @@ def divisor_fits(divisor):
     return divisor == 0 or MIN_DIVISOR <= divisor <= MAX_DIVISOR
 
 
+def threshold_fits(threshold, lower, upper):
+    return threshold == 0 or lower == 0 and MIN_THRESHOLD <= threshold <= upper
+
+
 def problem_error(problem):
-    """The first error of a problem's values that a file of any length shows, or 0: domains, coefficients, divisors."""
+    """The first error of a problem's values that a file of any length shows, or 0: domains, thresholds, coefficients, divisors."""
     if any(lower > upper or not in_range(lower, MAX_BOUND) or not in_range(upper, MAX_BOUND) for lower, upper in problem.limits):
         return DOMAIN_RANGE
+    if not all(threshold_fits(threshold, *pair) for threshold, pair in zip(problem.thresholds, problem.limits)):
+        return THRESHOLD_RANGE
     numbers = [number for c in problem.constraints for number in [c.constant] + c.coefficients]
     if any(not in_range(number, MAX_COEFFICIENT) for number in numbers):
         return COEFFICIENT_RANGE
@@ -113,7 +126,8 @@ def head_fields(n, m, budget, limits, magic=MAGIC):
 
 
 def head_content(problem):
-    return head_fields(len(problem.limits), len(problem.constraints), problem.budget, problem.limits)
+    fields = head_fields(len(problem.limits), len(problem.constraints), problem.budget, problem.limits)
+    return fields.ljust(THRESHOLD_OFFSET, b"\0") + struct.pack("<%di" % len(problem.thresholds), *problem.thresholds)
 
 
 def constraint_content(constraint):
@@ -138,9 +152,9 @@ def constraint_of(row):
     return row if isinstance(row, Constraint) else Constraint(row[0], row[1:])
 
 
-def problem_file(budget, limits, rows):
-    """The file of these values, in range or not. Coefficients that a row lacks are 0."""
-    return write_problem(Problem(limits, [constraint_of(row) for row in rows], budget))
+def problem_file(budget, limits, rows, thresholds=()):
+    """The file of these values, in range or not. Coefficients that a row lacks are 0, and so are thresholds that are not given."""
+    return write_problem(Problem(limits, [constraint_of(row) for row in rows], budget, thresholds))
 
 
 def resealed(data):
@@ -162,7 +176,8 @@ def read_problem(data):
     if not sizes_fit(n, m, budget) or len(blocks) != 1 + m:
         raise FileError(SIZE_RANGE)
     limits = [struct.unpack_from("<ii", head, 12 + 8 * i) for i in range(n)]
-    problem = Problem(limits, [constraint_in(block, n) for block in blocks[1:]], budget)
+    thresholds = struct.unpack_from("<%di" % n, head, THRESHOLD_OFFSET)
+    problem = Problem(limits, [constraint_in(block, n) for block in blocks[1:]], budget, thresholds)
     error = problem_error(problem)
     if error:
         raise FileError(error)

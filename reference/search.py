@@ -2,7 +2,7 @@
 from dataclasses import dataclass, field, replace
 from math import gcd
 
-from files import MAX_BOUND, MAX_COEFFICIENT, Constraint, Record, divisor_fits, in_range, sizes_fit, write_record
+from files import MAX_BOUND, MAX_COEFFICIENT, MIN_THRESHOLD, Constraint, Record, divisor_fits, in_range, sizes_fit, write_record
 
 KEPT_CUTS = 64
 MAX_PROPAGATIONS = 2**62
@@ -36,6 +36,7 @@ class Search:
     bounds that constraints set."""
 
     inputs: list
+    thresholds: list
     budget: int
     levels: list
     cuts: list = field(default_factory=list)
@@ -66,6 +67,23 @@ class Answer:
     propagations: int
     record: bytes
     state: Search
+
+
+# ---- thresholds
+
+def in_gap(threshold, value):
+    """Between 0 and the threshold, where the variable has no value."""
+    return 1 <= value < threshold
+
+
+def lifted(threshold, value):
+    """What a lower bound that would become this value becomes."""
+    return threshold if in_gap(threshold, value) else value
+
+
+def sunk(threshold, value):
+    """The same of an upper bound."""
+    return 0 if in_gap(threshold, value) else value
 
 
 # ---- constraints and bounds
@@ -119,7 +137,8 @@ def constraint_in_range(constraint):
 def open_problem(problem):
     n = len(problem.limits)
     lower, upper = [pair[0] for pair in problem.limits], [pair[1] for pair in problem.limits]
-    return Search([rounded(c) for c in problem.constraints], problem.budget, [Level(lower, upper, [DOMAIN] * n, [DOMAIN] * n)])
+    level = Level(lower, upper, [DOMAIN] * n, [DOMAIN] * n)
+    return Search([rounded(c) for c in problem.constraints], problem.thresholds, problem.budget, [level])
 
 
 # ---- moves
@@ -129,8 +148,8 @@ def first_falsified(kept, level):
     return next((number for number, constraint in kept if falsified(constraint, level)), None)
 
 
-def improve(number, constraint, level):
-    """Sets the first bound that the constraint improves; whether there is one. A divisor constraint implies no bound."""
+def improve(number, constraint, level, thresholds):
+    """Sets the first bound that the constraint improves, past the gap; whether there is one. A divisor constraint implies no bound."""
     if constraint.divisor:
         return False
     whole = activity(constraint, level)
@@ -138,12 +157,12 @@ def improve(number, constraint, level):
         if a > 0:
             bound = -(whole - a * level.lower[i]) // a
             if bound < level.upper[i]:
-                level.upper[i], level.upper_reason[i] = bound, number
+                level.upper[i], level.upper_reason[i] = sunk(thresholds[i], bound), number
                 return True
         else:
             bound = ceil_div(whole - a * level.upper[i], -a)
             if bound > level.lower[i]:
-                level.lower[i], level.lower_reason[i] = bound, number
+                level.lower[i], level.lower_reason[i] = lifted(thresholds[i], bound), number
                 return True
     return False
 
@@ -167,7 +186,7 @@ def descend(search):
         number = first_falsified(kept, level)
         if number is not None:
             return number
-        if any(improve(number, constraint, level) for number, constraint in kept):
+        if any(improve(number, constraint, level, search.thresholds) for number, constraint in kept):
             search.propagations += 1
             continue
         variable = first_open(level)
@@ -211,11 +230,11 @@ def keep(search, cut):
 
 
 def back_up(search, d):
-    """Drops the levels d and deeper, and flips the decision of level d."""
+    """Drops the levels d and deeper, and flips the decision of level d: the lower bound rises to the next value."""
     variable = search.levels[d].decided
     del search.levels[d:]
     level = search.levels[-1]
-    level.lower[variable] += 1
+    level.lower[variable] = lifted(search.thresholds[variable], level.lower[variable] + 1)
     level.lower_reason[variable] = FLIPPED
 
 
@@ -306,6 +325,13 @@ def level_valid(level, last):
     return bounds and all(reason_valid(reason, last) for reason in level.lower_reason + level.upper_reason)
 
 
+def thresholds_valid(search):
+    """Each is 0 or from 2 to the highest limit, and no bound lies in its gap."""
+    fit = all(threshold == 0 or MIN_THRESHOLD <= threshold <= MAX_BOUND for threshold in search.thresholds)
+    bounds = [side for level in search.levels for side in (level.lower, level.upper)]
+    return fit and not any(in_gap(threshold, value) for side in bounds for threshold, value in zip(search.thresholds, side))
+
+
 def nested(level, outer):
     """The level inside the one above it, its decision variable open there and at its lower bound here."""
     n, i = len(outer.lower), level.decided
@@ -338,4 +364,4 @@ def valid(search):
         return False
     if not all(nested(level, outer) for outer, level in zip(search.levels, search.levels[1:])):
         return False
-    return status_valid(search) and search.propagations <= MAX_PROPAGATIONS
+    return status_valid(search) and thresholds_valid(search) and search.propagations <= MAX_PROPAGATIONS

@@ -1,15 +1,16 @@
 #!/usr/bin/env python3
 """Compares the programs `verdict`, `journal` and `solutions` with another implementation of docs/SPECIFICATION.md, on thousands of files.
 
-    scripts/compare.py [--rounds N] [--seed S] [--budget B] [--lines L] [--keep FOLDER] [FILE ..] [--reference PROGRAM]
+    scripts/compare.py [--rounds N] [--seed S] [--budget B] [--lines L] [--only KIND,KIND,..] [--keep FOLDER] [FILE ..] [--reference PROGRAM]
                        [--generator PROGRAM [--kinds KIND,KIND,..]] [--verdict COMMAND] [--journal COMMAND] [--solutions COMMAND] [--python]
 
 The other implementation is reference/ of this repository, or a PROGRAM (scripts/implementation.py says how it is called). Compared with it are COMMANDs,
 each with its arguments in one word: target/bin/verdict, target/bin/journal and target/bin/solutions unless others are named; with --python reference/ itself
 in their place.
-In each round one file of each kind is made (reference/generate.py; with --generator the first 16 kinds come from `PROGRAM gen SEED KIND BUDGET`, and further
-KINDs that it has from `PROGRAM gen SEED KIND`) and compared: the text of `verdict`, every byte of the journal, and the first L lines of the listing (300 where
-none is given), unless a PROGRAM takes too long over it. FILEs are compared first. B is the largest budget, 500 where none is given.
+In each round one file of each kind, or with --only of each of these, is made (reference/generate.py; with --generator those of FAMILIES there come from
+`PROGRAM gen SEED KIND BUDGET`, and further KINDs that it has from `PROGRAM gen SEED KIND`) and compared: the text of `verdict`, every byte of the journal,
+and the first L lines of the listing (300 where none is given), unless a PROGRAM takes too long over it. FILEs are compared first. B is the largest budget,
+500 where none is given.
 Printed are each disagreement; for each kind how many files were compared, how many of them were refused, their journal blocks, and the solutions listed; how
 often each verdict was met, and each end of a listing. A file with a disagreement is put into FOLDER. The status is 1 where there is one.
 """
@@ -62,7 +63,7 @@ class Maker:
         return self.random.randrange(1, 10**6)
 
     def family(self, kind):
-        """A file of one of the first 16 kinds."""
+        """A file of a kind that another generator has too."""
         seed, budget = self.seed(), self.random.choice(self.budgets)
         return run(self.program + ["gen", str(seed), kind, str(budget)]) if self.program else generate(seed, kind, budget)
 
@@ -140,6 +141,7 @@ def options_given():
     parser.add_argument("--seed", type=int, default=1)
     parser.add_argument("--budget", type=int, default=500)
     parser.add_argument("--lines", type=int, default=300)
+    parser.add_argument("--only")
     parser.add_argument("--keep")
     parser.add_argument("--reference")
     parser.add_argument("--generator")
@@ -161,8 +163,9 @@ def main():
     for path in options.files:
         comparison.compare("given", Path(path).stem, Path(path).read_bytes())
     maker = Maker(options)
+    kinds = options.only.split(",") if options.only else [*PROBLEMS, *DAMAGE, *maker.kinds]
     for number in range(options.rounds):
-        for kind in [*PROBLEMS, *DAMAGE, *maker.kinds]:
+        for kind in kinds:
             comparison.compare(kind, str(number), maker.make(kind))
     comparison.summary()
     sys.exit(1 if comparison.disagreements else 0)

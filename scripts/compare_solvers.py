@@ -1,11 +1,13 @@
 #!/usr/bin/env python3
 """Compares the verdicts of the program `verdict` with other solvers, as a Markdown table.
 
-    scripts/compare_solvers.py VERDICT [--limit SECONDS] [--solvers glpsol,cbc,z3,cvc5] [--random N] [--seed S] [PLAN ..]
+    scripts/compare_solvers.py VERDICT [--limit SECONDS] [--solvers glpsol,cbc,z3,cvc5] [--random N] [--seed S] [--thresholds] [PLAN ..]
 
-VERDICT is the program, with arguments or without, in one word. N small random problems, a third of their constraints with a divisor, come after the plans. All go to glpsol and cbc as LP, to z3 and cvc5 as SMT-LIB 2. Each answers 'solution' or 'none', or is
-stopped after the limit (20 s). Where `verdict` gives a solution, the SMT solvers are also asked for one that comes earlier in dictionary order: 'first'
-says that there is none. The exit status is 1 where some answer disagrees.
+VERDICT is the program, with arguments or without, in one word. N small random problems, a third of their constraints with a divisor, and half of
+their variables with a threshold where --thresholds is given, come after the plans. All go to z3 and cvc5 as SMT-LIB 2, and those without thresholds to
+glpsol and cbc as LP: glpsol reads no section Semi-Continuous, and cbc was not tried on it. Each answers 'solution' or 'none', or is stopped after the
+limit (20 s). Where `verdict` gives a solution, the SMT solvers are also asked for one that comes earlier in dictionary order: 'first' says that there is
+none. The exit status is 1 where some answer disagrees.
 """
 import argparse
 import random
@@ -57,6 +59,8 @@ def earlier(values, names):
 
 def column(solver, problem, ours, values, limit):
     """What a solver says of a problem, and whether it disagrees with us."""
+    if SOLVERS[solver][1] == "lp" and any(problem.thresholds):
+        return "not asked", False
     text = write_lp(problem) if SOLVERS[solver][1] == "lp" else write_smt2(problem)
     answer, seconds = answer_of(solver, text, limit)
     said, wrong = "%s, %.1f s" % (answer, seconds), answer in ("solution", "none") and answer != ours
@@ -88,6 +92,15 @@ def small_problem(source):
     return Problem(limits, constraints, 1000000)
 
 
+def with_thresholds(problem, source):
+    """The same problem, half of its variables now 0 or at least a threshold."""
+    for i in range(len(problem.limits)):
+        if source.random() < 0.5:
+            upper = source.randint(2, 6)
+            problem.limits[i], problem.thresholds[i] = (0, upper), source.randint(2, upper)
+    return problem
+
+
 def main():
     parser = argparse.ArgumentParser(description=__doc__, formatter_class=argparse.RawDescriptionHelpFormatter)
     parser.add_argument("verdict")
@@ -95,6 +108,7 @@ def main():
     parser.add_argument("--solvers", default="glpsol,z3")
     parser.add_argument("--random", type=int, default=0)
     parser.add_argument("--seed", type=int, default=1)
+    parser.add_argument("--thresholds", action="store_true")
     parser.add_argument("plans", nargs="*", type=Path)
     options = parser.parse_intermixed_args()
     solvers, source = options.solvers.split(","), random.Random(options.seed)
@@ -102,7 +116,9 @@ def main():
         if solver not in SOLVERS or not shutil.which(solver):
             sys.exit("%s is not known or not installed" % solver)
     plans = [(path.stem, path.read_bytes()) for path in options.plans]
-    plans += [("random %d" % (k + 1), write_problem(small_problem(source))) for k in range(options.random)]
+    for k in range(options.random):
+        problem = small_problem(source)
+        plans.append(("random %d" % (k + 1), write_problem(with_thresholds(problem, source) if options.thresholds else problem)))
     print("| plan | verdict | %s |\n|%s" % (" | ".join(solvers), "---|" * (2 + len(solvers))))
     disagreements = 0
     for name, plan in plans:

@@ -6,53 +6,18 @@ LP lets lines break anywhere. Here a right side ends with its line once it is co
 
 LP has no divisor constraints. `5 | x + y + 2` is an equation with a whole variable of its own, `x + y + 2 = 5 k`, where `k` is `free` in Bounds and stands in
 no other row: every reader of LP sees the same solutions in x and y. Such a variable is none of the problem's; its coefficient, of either sign, is the divisor.
-"""
-import re
-import sys
-from dataclasses import dataclass, field
-from fractions import Fraction
-from pathlib import Path
 
-sys.path.insert(0, str(Path(__file__).resolve().parent.parent / "reference"))
-from files import (MAX_BOUND, MAX_BUDGET, MAX_COEFFICIENT, MAX_CONSTRAINTS, MAX_DIVISOR, MAX_VARIABLES, MIN_DIVISOR, Constraint, Problem,
+A variable of the section Semi-Continuous, which must be in General too, may be 0 beside the values in its limits: the lower one is its threshold. A lower limit
+of 0 or 1 there says no more than 0 to the upper one.
+"""
+from dataclasses import dataclass, field
+
+from lp_tokens import Cursor, LpError, Token, tokens_of, whole  # It makes reference/files.py known.
+from files import (MAX_BOUND, MAX_COEFFICIENT, MAX_CONSTRAINTS, MAX_DIVISOR, MAX_VARIABLES, MIN_DIVISOR, MIN_THRESHOLD, Constraint, Problem,
                    in_range)
 
 DEFAULT_BUDGET = 1000000
-
-SECTIONS = [
-    ("refused", r"general\s+constraints|lazy\s+constraints|user\s+cuts|semi-?continuous|semis?|sos[12]?|pwlobj"),
-    ("objective", r"minimi[sz]e|minimum|min|maximi[sz]e|maximum|max"),
-    ("rows", r"subject\s+to|such\s+that|s\.t\.|st\.?"),
-    ("bounds", r"bounds?"),
-    ("general", r"generals?|gen|integers?|int"),
-    ("binary", r"binary|binaries|bin"),
-    ("end", r"end"),
-]
-# A word of a section opens its line; before a colon it is a row's name.
-HEADERS = [(kind, re.compile(r"\s*(%s)(?=\s|$)(?!\s*:)" % words, re.IGNORECASE)) for kind, words in SECTIONS]
-SYMBOLS = r"!\"#$%&()/,;?@_`'{}|~"
-TOKEN = re.compile(
-    r"\s*(?:(?P<number>(?:\d+\.?\d*|\.\d+)(?:[eE][+-]?\d+)?)|(?P<name>[A-Za-z%s][A-Za-z0-9.%s]*)"
-    r"|(?P<sense><=|=<|>=|=>|<|>|=)|(?P<sign>[+-])|(?P<colon>:))" % (SYMBOLS, SYMBOLS), re.ASCII)
-BUDGET = re.compile(r"\s*budget\b(.*)", re.IGNORECASE)
 INFINITE = ("inf", "infinity")
-
-
-class LpError(Exception):
-    """What a problem file cannot hold, with the line where it stands."""
-
-    def __init__(self, line, message):
-        super().__init__("line %d: %s" % (line, message))
-
-
-@dataclass
-class Token:
-    """`opens` tells the first token of its line."""
-
-    kind: str
-    text: str
-    line: int
-    opens: bool
 
 
 @dataclass
@@ -70,11 +35,12 @@ class Row:
 
 @dataclass
 class Model:
-    """What the text says so far. `general` and `binary` have the lines of their variables, `seen` where each name was first used, `free` where it is
-    said to be free, `lower` and `upper` pairs of value and line."""
+    """What the text says so far. `general`, `binary` and `semi` have the lines of their variables, `seen` where each name was first used, `free` where it
+    is said to be free, `lower` and `upper` pairs of value and line."""
 
     general: dict = field(default_factory=dict)
     binary: dict = field(default_factory=dict)
+    semi: dict = field(default_factory=dict)
     seen: dict = field(default_factory=dict)
     free: dict = field(default_factory=dict)
     lower: dict = field(default_factory=dict)
@@ -89,89 +55,6 @@ class Model:
     def variables(self):
         """Without those that stand for multiples of a divisor. Their order decides what comes first in dictionary order."""
         return {name: line for name, line in self.whole().items() if name not in self.free}
-
-
-def whole(text, line):
-    """The number that the text of a token says; 3.0 and 1e3 are whole."""
-    exponent = re.search(r"[eE][+-]?(\d+)", text)
-    # A long exponent would be written out digit by digit.
-    if len(text) > 40 or exponent and len(exponent[1]) > 2:
-        raise LpError(line, "the number %.40s is out of range" % text)
-    value = Fraction(text)
-    if value.denominator != 1:
-        raise LpError(line, "%s is not a whole number" % text)
-    return int(value)
-
-
-def read_budget(comment, line, model):
-    """A comment that begins with 'budget' is the budget; a misspelt one must not fall back to the default in silence."""
-    if not (match := BUDGET.match(comment)):
-        return
-    text = match[1].strip()
-    if not re.fullmatch("[0-9]+", text):
-        raise LpError(line, "a comment that begins with 'budget' gives the budget, as '\\ budget 1000'")
-    if model.budget is not None:
-        raise LpError(line, "the budget is given a second time")
-    model.budget = whole(text, line)
-    if model.budget > MAX_BUDGET:
-        raise LpError(line, "the budget %s is above 1000000000" % text)
-
-
-def header(code):
-    """The kind of section that a line opens and where its words end, or none."""
-    for kind, pattern in HEADERS:
-        if match := pattern.match(code):
-            return kind, match[1], match.end()
-    return None, "", 0
-
-
-def line_tokens(code, line):
-    """The tokens of a line without its comment."""
-    kind, text, at = header(code)
-    if kind:
-        yield Token(kind, text, line, True)
-    opens = not kind
-    while code[at:].strip():
-        match = TOKEN.match(code, at)
-        if not match:
-            raise LpError(line, "'%s' is no part of a problem" % code[at:].strip()[0])
-        yield Token(match.lastgroup, match[match.lastgroup], line, opens)
-        opens, at = False, match.end()
-
-
-def tokens_of(text, model):
-    """All tokens, and one of kind 'nothing' at the end; the budget goes to the model."""
-    tokens = []
-    # Not splitlines: a separator such as U+2028 inside a comment would end the comment.
-    lines = text.removesuffix("\n").split("\n")
-    for number, line in enumerate(lines, 1):
-        code, _, comment = line.partition("\\")
-        read_budget(comment, number, model)
-        tokens += line_tokens(code, number)
-    return tokens + [Token("nothing", "the end of the text", len(lines), True)]
-
-
-class Cursor:
-    """A place in the tokens."""
-
-    def __init__(self, tokens):
-        self.tokens = tokens
-        self.at = 0
-
-    def peek(self, ahead=0):
-        return self.tokens[min(self.at + ahead, len(self.tokens) - 1)]
-
-    def take(self):
-        token = self.peek()
-        self.at += 1
-        return token
-
-    def label(self):
-        """Whether a row's name and its colon stand here."""
-        return self.peek().kind == "name" and self.peek(1).kind == "colon"
-
-    def section_over(self):
-        return self.peek().kind in [kind for kind, _ in SECTIONS] + ["nothing"]
 
 
 def read_signs(cursor):
@@ -320,7 +203,7 @@ def read_bounds(cursor, model):
 
 
 def read_names(cursor, section):
-    """The variables of a section, General or Binary."""
+    """The variables of a section General, Binary or Semi-Continuous."""
     while not cursor.section_over():
         token = cursor.take()
         if token.kind != "name":
@@ -344,6 +227,8 @@ def read_sections(cursor, model):
             read_bounds(cursor, model)
         elif token.kind in ("general", "binary"):
             read_names(cursor, model.general if token.kind == "general" else model.binary)
+        elif token.kind == "semi":
+            read_names(cursor, model.semi)
         elif token.kind == "refused":
             raise LpError(token.line, "a problem has no section '%s'" % token.text)
         elif token.kind == "nothing":
@@ -358,7 +243,7 @@ def read_sections(cursor, model):
 
 def check_variables(model):
     """Every name is whole, and there is not one too many."""
-    for name, line in model.seen.items():
+    for name, line in {**model.semi, **model.seen}.items():
         if name not in model.whole():
             raise LpError(line, "%s is not known as whole: it is in no section General or Binary" % name)
     for name, line in list(model.variables().items())[MAX_VARIABLES:]:
@@ -370,6 +255,8 @@ def check_free(model):
     for name, line in model.free.items():
         if name in model.binary:
             raise LpError(line, "%s is binary, so its limits are 0 and 1 and no others" % name)
+        if name in model.semi:
+            raise LpError(line, "%s is free, so it cannot be semi-continuous" % name)
         if name in model.lower or name in model.upper:
             raise LpError(line, "%s is free and has limits too" % name)
         lines = [row.line for row in model.rows if row.mentions(name)]
@@ -389,6 +276,23 @@ def limits_of(name, model):
     if lower > upper:
         raise LpError(line, "the lower limit of %s, %d, is above its upper limit, %d" % (name, lower, upper))
     return lower, upper
+
+
+def check_semi(name, lower, model):
+    """Readers differ on what a section Semi-Continuous says of other variables."""
+    if name in model.binary:
+        raise LpError(model.semi[name], "%s is binary, so it cannot be semi-continuous" % name)
+    if lower < 0:
+        raise LpError(model.semi[name], "%s is semi-continuous, so its lower limit cannot be %d: it must be 0 or more" % (name, lower))
+
+
+def domain_of(name, model):
+    """The limits and the threshold of a variable: a semi-continuous one is 0 or within its limits."""
+    lower, upper = limits_of(name, model)
+    if name not in model.semi:
+        return (lower, upper), 0
+    check_semi(name, lower, model)
+    return (0, upper), lower if lower >= MIN_THRESHOLD else 0
 
 
 def inequalities_of(row):
@@ -447,7 +351,8 @@ def read_lp(text):
     check_variables(model)
     check_free(model)
     names = list(model.variables())
-    limits = [limits_of(name, model) for name in names]
+    limits, thresholds = map(list, zip(*(domain_of(name, model) for name in names)))
     constraints = labelled_constraints(names, model)
-    problem = Problem(limits, [constraint for _, constraint in constraints], DEFAULT_BUDGET if model.budget is None else model.budget)
+    budget = DEFAULT_BUDGET if model.budget is None else model.budget
+    problem = Problem(limits, [constraint for _, constraint in constraints], budget, thresholds)
     return problem, names, [label for label, _ in constraints]

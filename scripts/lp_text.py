@@ -37,12 +37,16 @@ def wrapped(text):
 
 
 def write_lp(problem):
-    """The problem as LP, variables v1 to vn; a divisor constraint is an equation with a free variable of its own. The objective names every variable of
-    the problem, so that each reader has them first and in this order."""
+    """The problem as LP, variables v1 to vn; a divisor constraint is an equation with a free variable of its own, and a threshold the lower limit of a
+    semi-continuous variable. The objective names every variable of the problem, so that each reader has them first and in this order."""
     names = variables_of(problem)
     multipliers = [multiplier(k) for k, c in enumerate(problem.constraints, 1) if c.divisor]
     lines = ["\\ budget %d" % problem.budget, "Minimize", wrapped("obj: " + " + ".join("0 " + name for name in names)), "Subject To"]
     lines += [wrapped("c%d: %s" % (k, row_text(k, c, names))) for k, c in enumerate(problem.constraints, 1)]
-    lines += ["Bounds"] + [" %d <= %s <= %d" % (lower, name, upper) for name, (lower, upper) in zip(names, problem.limits)]
+    domains = list(zip(names, problem.thresholds, problem.limits))
+    lines += ["Bounds"] + [" %d <= %s <= %d" % (threshold or lower, name, upper) for name, threshold, (lower, upper) in domains]
     lines += [" %s free" % name for name in multipliers]
-    return "\n".join(lines + ["General", wrapped(" ".join(names + multipliers)), "End"]) + "\n"
+    lines += ["General", wrapped(" ".join(names + multipliers))]
+    semi = [name for name, threshold, _ in domains if threshold]
+    lines += ["Semi-Continuous", wrapped(" ".join(semi))] if semi else []
+    return "\n".join(lines + ["End"]) + "\n"

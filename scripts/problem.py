@@ -7,8 +7,8 @@
 
 Variables are in the order of LP's section General, then Binary; the first solution in dictionary order is with respect to it. The budget
 is a comment, '\\ budget 1000'; without one it is 1000000. That 5 divides x + y + 2 is an equation, x + y - 5 k = -2, whose variable k is 'free' in
-Bounds and stands in no other row; it is none of the problem's variables. What a file cannot hold is told in one sentence with its line, and nothing is
-written.
+Bounds and stands in no other row; it is none of the problem's variables. That x is 0 or at least 3 is a bound '3 <= x <= 9' with x in the sections General and
+Semi-Continuous. What a file cannot hold is told in one sentence with its line, and nothing is written.
 """
 import sys
 
@@ -25,6 +25,7 @@ ERRORS = {
     6: "a coefficient or constant is out of range",
     7: "a byte that should be zero is not",
     10: "a divisor is negative, 1 or above 2^20",
+    13: "a threshold is negative, 1 or above its variable's upper limit, or the lower limit beside it is not 0",
 }
 
 
@@ -53,6 +54,7 @@ def write_smt2(problem):
     lines += ["(declare-fun %s () Int)" % name for name in names]
     for name, (lower, upper) in zip(names, problem.limits):
         lines.append("(assert (and (<= %s %s) (<= %s %s)))" % (smt_number(lower), name, name, smt_number(upper)))
+    lines += ["(assert (or (<= %s 0) (<= %d %s)))" % (name, threshold, name) for name, threshold in zip(names, problem.thresholds) if threshold]
     lines += ["(assert %s)" % smt_constraint(c, names) for c in problem.constraints]
     return "\n".join(lines + ["(check-sat)", "(get-model)"]) + "\n"
 

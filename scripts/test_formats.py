@@ -12,7 +12,7 @@ from pathlib import Path
 from lp import DEFAULT_BUDGET, LpError, read_lp
 from lp_text import write_lp
 from files import (MAX_BOUND, MAX_BUDGET, MAX_COEFFICIENT, MAX_CONSTRAINTS, MAX_DIVISOR, MAX_VARIABLES, Constraint, FileError, Problem, Record,
-                   read_problem, write_problem, write_record)
+                   problem_file, read_problem, write_problem, write_record)
 from problem import write_smt2
 import journal
 
@@ -75,6 +75,17 @@ LIMITS = [
     ("General\n x\nBounds\n -1048576 <= x <= 1048576", (-MAX_BOUND, MAX_BOUND)),
 ]
 
+# The same, and x's threshold too.
+SEMI = [
+    ("Bounds\n 3 <= x <= 5\nGeneral\n x\nSemi-continuous\n x", (0, 5), 3),
+    ("Bounds\n 5 <= x <= 5\nSemi-Continuous\n x\nGeneral\n x", (0, 5), 5),
+    ("Semi\n x\nBounds\n x <= 2\n x >= 2\nInteger\n x", (0, 2), 2),
+    ("Bounds\n x <= 5\nGeneral\n x\nSemis\n x x", (0, 5), 0),
+    ("Bounds\n 1 <= x <= 5\nGeneral\n x\nSEMICONTINUOUS\n x", (0, 5), 0),
+    ("Bounds\n x = 1048576\nGeneral\n x\nsemi\n x", (0, MAX_BOUND), MAX_BOUND),
+    ("Bounds\n 3 <= x <= 5\nGeneral\n x\nSemi-continuous", (3, 5), 0),
+]
+
 # What a problem cannot hold, and the sentence that says so.
 REFUSED = [
     ("Minimize\n obj: x\nSubject To\n" + TAIL, "line 2: a problem has no objective: leave it empty or write 0"),
@@ -124,7 +135,13 @@ REFUSED = [
     ("\\ budget 1000000001\nSubject To\n" + TAIL, "line 1: the budget 1000000001 is above 1000000000"),
     ("\\ budget: 10\nSubject To\n" + TAIL, "line 1: a comment that begins with 'budget' gives the budget, as '\\ budget 1000'"),
     ("\\ budget 1\n\\ budget 1\n" + TAIL, "line 2: the budget is given a second time"),
-    ("Subject To\nSemi-continuous\n x\nEnd\n", "line 2: a problem has no section 'Semi-continuous'"),
+    ("Subject To\nSOS1\n x\nEnd\n", "line 2: a problem has no section 'SOS1'"),
+    ("Subject To\nSemi-continuous\n z\n" + TAIL, "line 3: z is not known as whole: it is in no section General or Binary"),
+    ("Subject To\nSemi\n x\nBounds\n x >= 2\nGeneral\n x\nEnd", "line 5: x has no upper limit: give it one in the section Bounds"),
+    ("Subject To\nSemi\n x\nBounds\n 6 <= x\n" + TAIL, "line 7: the lower limit of x, 6, is above its upper limit, 5"),
+    ("Subject To\nBounds\n -1 <= x\nSemi\n x\n" + TAIL, "line 5: x is semi-continuous, so its lower limit cannot be -1: it must be 0 or more"),
+    ("Subject To\nBinary\n x\nSemi\n x\nEnd\n", "line 5: x is binary, so it cannot be semi-continuous"),
+    ("Subject To\n x = 5 k\nSemi\n k\n" + TAIL_FREE, "line 8: k is free, so it cannot be semi-continuous"),
     ("x <= 2\n" + TAIL, "line 1: 'x' stands before the first section"),
     ("Subject To\n x <= 2\n" + TAIL[:-5], "line 7: the text ends without 'End'"),
     ("Subject To\n" + TAIL + "x", "line 8: 'x' stands after 'End'"),
@@ -169,6 +186,9 @@ def test_divided():
 def test_limits():
     for text, wanted in LIMITS:
         assert read_lp("Minimize\n obj:\nSubject To\n%s\nEnd" % text)[0].limits == [wanted], text
+    for text, limits, threshold in SEMI:
+        problem = read_lp("Minimize\n obj:\nSubject To\n%s\nEnd" % text)[0]
+        assert (problem.limits, problem.thresholds) == ([limits], [threshold]), text
     order = read_lp("st\nBinary\n b\nBounds\n x <= 5\n y <= 5\nGeneral\n y\n x\nEnd")[1]
     assert order == ["y", "x", "b"], order
     for objective in ("", "Minimize\n", "Maximize\n obj:\n", "Min\n obj: 0\n", "max 0 x + y - y\n"):
@@ -188,7 +208,7 @@ def test_refused():
 
 def test_random_texts():
     """Whatever the text, a problem or one sentence with a line of the text."""
-    words = "x y k 3 2.5 1e3 <= >= = + - : * free inf obj: Bounds General Binary End Minimize".split() + ["Subject To", "\\ budget 5", "\\ c"]
+    words = "x y k 3 2.5 1e3 <= >= = + - : * free inf obj: Bounds General Binary Semi End Minimize".split() + ["Subject To", "\\ budget 5", "\\ c"]
     random_source = random.Random(5)
     for _ in range(RANDOM_TEXTS):
         text = "".join(random_source.choice(words) + random_source.choice(" \n") for _ in range(random_source.randint(0, 25)))
@@ -214,7 +234,10 @@ def some_problem(random_source):
         rows[k] = random_source.choice([rows[k], rows[k], rows[k - 1], rows[k][:1] + [0] * n])
     divisors = [random_source.choice([0, 0, 2, 5, MAX_DIVISOR]) for _ in rows]
     constraints = [Constraint(row[0], row[1:], divisor) for row, divisor in zip(rows, divisors)]
-    return Problem(limits, constraints, random_source.choice([0, 1, DEFAULT_BUDGET, MAX_BUDGET]))
+    for i in random_source.sample(range(n), random_source.choice([0, n // 2, n])):
+        limits[i] = (0, random_source.choice([0, 1, 2, 7, MAX_BOUND]))
+    thresholds = [random_source.choice([0, 2, upper]) if lower == 0 and upper >= 2 else 0 for lower, upper in limits]
+    return Problem(limits, constraints, random_source.choice([0, 1, DEFAULT_BUDGET, MAX_BUDGET]), thresholds)
 
 
 def test_round_trips():
@@ -235,6 +258,8 @@ def test_round_trips():
     assert " obj: 0 v1\nSubject To\n c1: 0 v1 <= -5\n" in write_lp(Problem([(0, 1)], [Constraint(5, [0])], 0))
     divided = write_lp(Problem([(0, 9)] * 2, [Constraint(-7, [1, -1]), Constraint(2, [1, 3], 5)], 0))
     assert " c1: v1 - v2 <= 7\n c2: v1 + 3 v2 - 5 k2 = -2\n" in divided and " k2 free\nGeneral\n v1 v2 k2\nEnd\n" in divided
+    semi = write_lp(Problem([(0, 9), (-1, 4), (0, 3)], [], 0, [5, 0, 3]))
+    assert " 5 <= v1 <= 9\n -1 <= v2 <= 4\n 3 <= v3 <= 3\nGeneral\n v1 v2 v3\nSemi-Continuous\n v1 v3\nEnd\n" in semi
     for path in sorted((ROOT / "examples").glob("*.lp")):
         assert write_problem(read_lp(path.read_text())[0]) == path.with_suffix(".plan").read_bytes(), path
     return tried
@@ -255,6 +280,8 @@ def test_commands():
         1, b"", "this is no problem file: its length is under 512 bytes or no multiple of 512 (error 1)\n")
     assert run("journal.py", data=plan) == (1, b"", "this is no journal: block 1 has wrong letters, a wrong count or a wrong check\n")
     assert run("journal.py", data=b"") == (0, b"", "")
+    assert run("problem.py", "smt2", data=problem_file(0, [(0, 1)], [], [2])) == (
+        1, b"", "this is no problem file: a threshold is negative, 1 or above its variable's upper limit, or the lower limit beside it is not 0 (error 13)\n")
     # A text from a Windows editor.
     windows = b"\xef\xbb\xbf" + text.replace(b"\n", b"\r\n")
     assert run("problem.py", "file", data=windows) == (0, plan, "")
@@ -266,6 +293,8 @@ def test_smt2():
     assert "(assert (<= 0 (- 5)))" in write_smt2(Problem([(0, 1)], [Constraint(5, [0])], 0))
     divided = write_smt2(Problem([(0, 9)] * 2, [Constraint(-2, [1, -3], 5), Constraint(1, [0, 0], 2)], 0))
     assert "(assert (= 0 (mod (+ (+ (* 1 v1) (* (- 3) v2)) (- 2)) 5)))" in divided and "(assert (= 0 (mod (+ 0 1) 2)))" in divided
+    semi = write_smt2(Problem([(0, 9), (-1, 4)], [], 0, [5]))
+    assert "(assert (and (<= 0 v1) (<= v1 9)))" in semi and "(assert (or (<= v1 0) (<= 5 v1)))" in semi and "(<= v2 0)" not in semi
 
 
 def test_journal_text():
@@ -334,8 +363,8 @@ def main():
     test_journal_text()
     test_examples()
     test_pictures()
-    print("%d rows, %d with a divisor, %d limits, %d refused texts, %d round trips, the commands and the pictures: all as expected" % (
-        len(ROWS), len(DIVIDED), len(LIMITS), len(REFUSED), tried))
+    print("%d rows, %d with a divisor, %d limits, %d semi-continuous, %d refused texts, %d round trips, the commands and the pictures: all as expected" % (
+        len(ROWS), len(DIVIDED), len(LIMITS), len(SEMI), len(REFUSED), tried))
 
 
 if __name__ == "__main__":

@@ -1,31 +1,26 @@
 -- The boxes of a decision and of one that is flipped.
-use Prim.Native.Nat.{ℕ, zero, suc, _<_}
+use Prim.Native.Nat.{ℕ, _<_}
 use native.Mathlib.Omega.{arith}
-use mathlib.Core.List.{List, [], _∷_}
+use mathlib.Core.List.{List}
 use mathlib.Core.Path.{_≡_, _∙_}
 use lib.Dec.{lit≤}
-use lib.IntN.{ℤ, pos, _+ℤ_, _-ℤ_}
+use lib.IntN.{ℤ, _-ℤ_}
 use lib.ListN.{length, set}
 use Rattle.model.specs.Ranges.{maxVariables}
-use Rattle.model.specs.Constraint.{Box, lowerAt, upperAt}
-use Rattle.integer.specs.Parts.{_⊑_, add-parts, sub-parts, eq-out}
+use Rattle.integer.specs.Parts.{_⊑_}
 use Rattle.integer.specs.Size.{Within, weaken}
 use Rattle.lists.proofs.Bools.{true-of}
 use Rattle.linear.specs.Ranges.{widestBound}
 use Rattle.linear.proofs.Ranges.{upper-within}
 use Rattle.layout.specs.Rows.{numberIn, boxOf}
 use Rattle.layout.proofs.Rows.{lower-at, upper-at, box-upper}
-use Rattle.validity.proofs.Boxes.{Ordered, lowHalf, low-ordered, low-nested}
+use Rattle.validity.proofs.Boxes.{ordered-at, lowHalf, low-ordered, low-nested}
+use Rattle.validity.proofs.Thresholds.{follows}
 use Rattle.validity.proofs.Tests.{range-ordered, range-nested}
 use Rattle.propagate.specs.Tracked.{ScanFits}
 use Rattle.propagate.specs.Bounds.{Settable}
-use Rattle.propagate.proofs.Tracking.{number-same, fall-size}
-
-ordered-at : (i : ℕ) (box : Box) → Ordered box → lowerAt box i ⊑ upperAt box i
-unfolding lowerAt upperAt
-ordered-at i [] o = omega arith
-ordered-at zero (b ∷ box) o = o .0
-ordered-at (suc i) (b ∷ box) o = ordered-at i box (o .1)
+use Rattle.propagate.proofs.Tracking.{number-same, rise-size, fall-size}
+use Rattle.backtrack.specs.Jumps.{nextIn}
 
 module _ (n kept : ℕ) (rows lower upper : List ℤ) (reasons : List ℕ) (i : ℕ) (f : ScanFits n kept rows lower upper) (h : i < n) where
   -- a decision
@@ -49,10 +44,9 @@ module _ (n kept : ℕ) (rows lower upper : List ℤ) (reasons : List ℕ) (i : 
       }
 
 -- a decision that is flipped
-pub flipped-above : (x : ℤ) → x ⊑ (x +ℤ pos 1)
-flipped-above x = omega (arith, add-parts x (pos 1))
+pub flipped-above : (thresholds lower : List ℤ) (i : ℕ) → numberIn lower i ⊑ nextIn thresholds lower i
+flipped-above thresholds lower i = omega (arith, follows (numberIn thresholds i) (numberIn lower i) .above)
 
-pub flipped-rise : (x : ℤ) → Within widestBound (x +ℤ pos 1 -ℤ x)
-flipped-rise x =
-    let e : x +ℤ pos 1 -ℤ x ≡ pos 1 = eq-out _ _ (omega (arith, add-parts x (pos 1), sub-parts (x +ℤ pos 1) x)) in
-    rw e (record { within = omega arith })
+pub flipped-rise : (n kept : ℕ) (thresholds rows lower upper : List ℤ) (i : ℕ) → ScanFits n kept rows lower upper → ScanFits n kept rows (set lower i (nextIn thresholds lower i)) upper → i < n →
+    length lower ≡ maxVariables → Within widestBound (nextIn thresholds lower i -ℤ numberIn lower i)
+flipped-rise n kept thresholds rows lower upper i f g h l = rw (number-same lower i (nextIn thresholds lower i) (omega (arith, f .few))) at (rise-size f g i h)

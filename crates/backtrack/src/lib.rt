@@ -6,7 +6,6 @@ pub mod struck;
 
 use layout::MAX_ROWS;
 use propagate::bounds::lower_upper;
-use propagate::bounds::next_value;
 use propagate::bounds::set;
 use propagate::bounds::shift;
 use propagate::scan::measure;
@@ -14,9 +13,10 @@ use state::DECISION;
 use state::FLIPPED;
 use state::kept::dropped;
 use state::kept::kept_count;
+use threshold::next_value;
 ghost use mathlib.Core.Path.{_≡_};
 ghost use Prim.Native.Nat.{_+_, _-_, _*_, _≤_, _<_};
-ghost use lib.IntN.{pos, _+ℤ_, _-ℤ_};
+ghost use lib.IntN.{_-ℤ_};
 ghost use lib.ListN.{length};
 ghost use Rattle.model.specs.Ranges.{maxVariables, maxConstraints, maxBudget};
 ghost use Rattle.integer.specs.Size.{Within};
@@ -26,7 +26,7 @@ ghost use Rattle.state.specs.View.{keptCuts, flippedReason};
 ghost use Rattle.propagate.specs.Bounds.{BoundSet};
 ghost use Rattle.propagate.specs.Tracked.{Tracked};
 ghost use Rattle.backtrack.specs.Saved.{placeOf, savedRoom, SavedAt, Copied};
-ghost use Rattle.backtrack.specs.Jumps.{Decidable, Decided, LevelSaved, Flippable, Flipped};
+ghost use Rattle.backtrack.specs.Jumps.{Decidable, Decided, LevelSaved, Flippable, Flipped, nextIn};
 
 // The numbers saved for one level.
 const ROOM: usize = MAX_ROWS;
@@ -126,11 +126,16 @@ pub fn decide<'a>(
 }
 
 // The decision at variable i flipped: its lower bound goes on to the next value. Returns by how much it rose.
-pub fn flip(i: usize, lower: &mut [i64; 32], below: &mut [usize; 32]) -> i64
-    requires { ⌜ (i < maxVariables) × Within widestBound (numberIn (now lower) i) ⌝ }
-    ensures { λ r. ⌜ (r ≡ numberIn (now (lower .entry)) i +ℤ pos 1 -ℤ numberIn (now (lower .entry)) i) × BoundSet i (numberIn (now (lower .entry)) i +ℤ pos 1) flippedReason (now (lower .entry)) (now (below .entry)) (now (lower .exit)) (now (below .exit)) ⌝ }
+pub fn flip<'a>(
+    i: usize,
+    thresholds: &'a [i64; 32],
+    lower: &mut [i64; 32],
+    below: &mut [usize; 32],
+) -> i64
+    requires { ⌜ (i < maxVariables) × ((Within widestBound (numberIn (now lower) i)) × (Within widestBound (nextIn (now thresholds) (now lower) i -ℤ numberIn (now lower) i))) ⌝ }
+    ensures { λ r. ⌜ (r ≡ nextIn (now (thresholds .entry)) (now (lower .entry)) i -ℤ numberIn (now (lower .entry)) i) × BoundSet i (nextIn (now (thresholds .entry)) (now (lower .entry)) i) flippedReason (now (lower .entry)) (now (below .entry)) (now (lower .exit)) (now (below .exit)) ⌝ }
 {
-    let v = next_value(lower[i]);
+    let v = next_value(thresholds[i], lower[i]);
     set(lower, below, i, v, FLIPPED)
 }
 
@@ -144,6 +149,7 @@ pub fn backjump<'a>(
     made: usize,
     i: usize,
     depth: usize,
+    thresholds: &'a [i64; 32],
     upper: &'a [i64; 32],
     olds: &'a [i64; 4224],
     limits: &'a [i64; 4224],
@@ -154,8 +160,8 @@ pub fn backjump<'a>(
     activities: &mut [i64; 128],
     reaches: &mut [i64; 128],
 ) -> usize
-    requires { ⌜ (Flippable n m made (now rows) (now lower) (now upper) i depth (now olds) (now limits) (now gones) (now counts)) × (Tracked n (now rows) (now lower) (now upper) (now activities) (now reaches) 0) ⌝ }
-    ensures { λ r. ⌜ Flipped n m made (now (rows .entry)) (now (lower .entry)) (now (upper .entry)) (now (below .entry)) i (now (lower .exit)) (now (below .exit)) (now (activities .exit)) (now (reaches .exit)) r ⌝ }
+    requires { ⌜ (Flippable n m made (now thresholds) (now rows) (now lower) (now upper) i depth (now olds) (now limits) (now gones) (now counts)) × (Tracked n (now rows) (now lower) (now upper) (now activities) (now reaches) 0) ⌝ }
+    ensures { λ r. ⌜ Flipped n m made (now (thresholds .entry)) (now (rows .entry)) (now (lower .entry)) (now (upper .entry)) (now (below .entry)) i (now (lower .exit)) (now (below .exit)) (now (activities .exit)) (now (reaches .exit)) r ⌝ }
 {
     let earlier = gones[depth];
     let count = counts[depth];
@@ -176,6 +182,6 @@ pub fn backjump<'a>(
     );
     let kept = kept_count(m, made);
     measure(rows, lower, upper, n, from, kept, activities, reaches);
-    let rise = flip(i, lower, below);
+    let rise = flip(i, thresholds, lower, below);
     shift(rows, i, rise, 0, kept, activities)
 }

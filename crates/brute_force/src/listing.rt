@@ -53,10 +53,11 @@ pub struct Listing {
 fn following(p: Problem, x: [i64; 32]) -> [i64; 32] {
     let lower = p.lower;
     let upper = p.upper;
+    let thresholds = p.thresholds;
     let mut y = x;
     let mut i: usize = 0;
     while i < 128 {
-        if !goes_on(&mut y, &lower, &upper) {
+        if !goes_on(&mut y, &lower, &upper, &thresholds) {
             return y;
         }
         if is_solution(&p.constraints, &p.divisors, p.m, &y) {

@@ -113,5 +113,8 @@ pub fn is_right(s: Search, p: Problem, budget: usize) -> bool {
     if !numbers_same(&s.divisors, &p.divisors, p.m % 65) {
         return false;
     }
+    if !numbers_same(&s.thresholds, &p.thresholds, p.n % 33) {
+        return false;
+    }
     level_same(s.levels[0], domain_of(p), p.n % 33)
 }

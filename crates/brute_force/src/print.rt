@@ -12,6 +12,7 @@ pub fn family(f: Family, sum: Report) {
         f.m,
         f.equations,
         f.divided,
+        f.gaps,
         f.boxes,
         f.coefficient,
         f.constant,
@@ -23,7 +24,7 @@ pub fn family(f: Family, sum: Report) {
     ];
     number(f.n);
     let mut i: usize = 1;
-    while i < 12 {
+    while i < 13 {
         text(b" ");
         number(row[i]);
         i += 1;

@@ -17,7 +17,7 @@ use Rattle.model.specs.Points.{Point, points, Solution, First}
 use Rattle.model.specs.Step.{Verdict as ModelVerdict, Outcome, outOfBudget, solution, step, run}
 use Rattle.model.specs.Demand.{stateAfter, journal, withBudget, verdictWith, Decides, Agree, SameSolutions, Steps, Accepted}
 use Rattle.problem.specs.declared.Answer.{Answer}
-use Rattle.problem.specs.declared.Answer.the-variants.{Done, Truncated, BadChecksum, BadMagic, SizeRange, DomainRange, CoefficientRange, NonzeroPadding, ShortBuffer, InvalidSearch, DivisorRange}
+use Rattle.problem.specs.declared.Answer.the-variants.{Done, Truncated, BadChecksum, BadMagic, SizeRange, DomainRange, CoefficientRange, NonzeroPadding, ShortBuffer, InvalidSearch, DivisorRange, ThresholdRange}
 use Rattle.problem.specs.Answer.{number}
 use Rattle.fields.specs.Fields.{zeros}
 use Rattle.lists.proofs.Bools.{lt-or-le}
@@ -61,6 +61,7 @@ opened-by NonzeroPadding s m e = impossible (cc)
 opened-by ShortBuffer s m e = impossible (cc)
 opened-by InvalidSearch s m e = impossible (cc)
 opened-by DivisorRange s m e = impossible (cc)
+opened-by ThresholdRange s m e = impossible (cc)
 
 pub fresh : (f : List ℕ) → Accepted f → (o : Opened) → Opens f o → Fresh o (openProblem (problemIn f))
 unfolding seenOpened
@@ -182,11 +183,11 @@ module _ (f : List ℕ) (a : Accepted f) (o : Opened) (h : Opens f o) (q : Ran) 
             subst (λ (i : ℕ). (length (journal i m) ≡ length (journal (suc (t .last)) m)) × (boundsSet i m ≡ boundsSet (suc (t .last)) m)) z (journal-end p m t (k + n - 1) (omega arith), set-end p m t (k + n - 1) (omega arith))
 
   -- the budget of the file, and one of as many as the points
-  or-spent : ((verdictWith p (p .budget) ≡ verdictWith p (points (p .domain))) ⊎ (verdictWith p (p .budget) ≡ outOfBudget)) → Decided p q ⊎ (q .verdict ≡ verdict.OutOfBudget)
-  or-spent (inl e) = inl (decided p q (run m .verdict) (run-is .verdict) (run-is .values) (subst (Decides p) (sym (t .own ∙ e)) (t .decides-with (points (p .domain)) (omega arith))))
+  or-spent : ((verdictWith p (p .budget) ≡ verdictWith p (points p)) ⊎ (verdictWith p (p .budget) ≡ outOfBudget)) → Decided p q ⊎ (q .verdict ≡ verdict.OutOfBudget)
+  or-spent (inl e) = inl (decided p q (run m .verdict) (run-is .verdict) (run-is .values) (subst (Decides p) (sym (t .own ∙ e)) (t .decides-with (points p) (omega arith))))
   or-spent (inr e) = inr (run-is .verdict ∙ ap caseOf (t .own ∙ e) ∙ (unfold caseOf in refl))
 
-  enough : points (p .domain) ≤ p .budget → Decided p q
+  enough : points p ≤ p .budget → Decided p q
   enough e = decided p q (run m .verdict) (run-is .verdict) (run-is .values) (t .decides e)
 
   pub opening-holds : Opening f o q
@@ -199,7 +200,7 @@ module _ (f : List ℕ) (a : Accepted f) (o : Opened) (h : Opens f o) (q : Ran) 
         call = call;
         ended = ((λ e. t .reached (sym first ∙ case-plain (run m .verdict) verdict.GoOn tt (sym (run-is .verdict) ∙ e))), (λ e. case-valid (run m .verdict) (sym (run-is .verdict) ∙ e)));
         decides = enough;
-        or-spent = ⊎-elim (λ (e : points (p .domain) < p .budget). inl (enough (omega arith))) (λ (e : p .budget ≤ points (p .domain)). or-spent (t .smaller (p .budget) (points (p .domain)) e)) (lt-or-le (points (p .domain)) (p .budget));
+        or-spent = ⊎-elim (λ (e : points p < p .budget). inl (enough (omega arith))) (λ (e : p .budget ≤ points p). or-spent (t .smaller (p .budget) (points p) e)) (lt-or-le (points p) (p .budget));
       }
 
 -- ---- two files
@@ -249,14 +250,14 @@ calls-hold =
     }
 
 -- ---- with budgets of at least the points neither answer is 'spent'
-not-spent : (f : List ℕ) (q : Ran) → RunOf f q → points (problemIn f .domain) ≤ problemIn f .budget → ¬ (q .verdict ≡ verdict.OutOfBudget)
+not-spent : (f : List ℕ) (q : Ran) → RunOf f q → points (problemIn f) ≤ problemIn f .budget → ¬ (q .verdict ≡ verdict.OutOfBudget)
 not-spent f q r n e =
     let d = calls-hold .opening f (r .fine) (r .opened) (r .opens) q (r .runs) .decides n in
     let s = d .else-first (λ h. impossible (cc)) .0 in
     impossible (cc)
 
 -- the answer under another budget, smaller or larger, is that under one of at least the points, or 'spent'
-pub smaller-enough : (f g : List ℕ) (q u : Ran) → RunOf f q → RunOf g u → problemIn g ≡ withBudget (problemIn f) (problemIn g .budget) → points (problemIn f .domain) ≤ problemIn f .budget →
+pub smaller-enough : (f g : List ℕ) (q u : Ran) → RunOf f q → RunOf g u → problemIn g ≡ withBudget (problemIn f) (problemIn g .budget) → points (problemIn f) ≤ problemIn f .budget →
     SameAnswer u q ⊎ (u .verdict ≡ verdict.OutOfBudget)
 smaller-enough f g q u r s b n =
     ⊎-elim (λ (l : problemIn f .budget < problemIn g .budget). larger (demand-3 .steps f (r .fine) .smaller (problemIn f .budget) (problemIn g .budget) (omega arith)))
@@ -267,8 +268,8 @@ smaller-enough f g q u r s b n =
     larger (inl e) = inl (same-answer g f u q s r (under-budget f g s b ∙ sym e))
     larger (inr e) = absurd (not-spent f q r n (spent f q r e))
 
-pub same-enough : (f g : List ℕ) (q u : Ran) → RunOf f q → RunOf g u → SameSolutions (problemIn f) (problemIn g) → points (problemIn f .domain) ≤ problemIn f .budget →
-    points (problemIn g .domain) ≤ problemIn g .budget → SameAnswer q u
+pub same-enough : (f g : List ℕ) (q u : Ran) → RunOf f q → RunOf g u → SameSolutions (problemIn f) (problemIn g) → points (problemIn f) ≤ problemIn f .budget →
+    points (problemIn g) ≤ problemIn g .budget → SameAnswer q u
 same-enough f g q u r s e n k = by (calls-hold .same f g q u r s e)
   where
     by : SameAnswer q u ⊎ ((q .verdict ≡ verdict.OutOfBudget) ⊎ (u .verdict ≡ verdict.OutOfBudget)) → SameAnswer q u

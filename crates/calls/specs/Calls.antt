@@ -111,7 +111,7 @@ pub record CallAfter (p : Problem) (q : Ran) (last : ℕ) (blocks : List (List �
   -- it is not refused
   pub taken : ¬ (told c .verdict ≡ verdict.Invalid)
   -- its count is at most the number of points; without a run it is the number of blocks given so far, and these are the journal's first
-  pub bounded : told c .count ≤ points (p .domain)
+  pub bounded : told c .count ≤ points p
   pub counted : NoRun (cs ++ (c ∷ [])) → told c .count ≡ length (journalOf (cs ++ (c ∷ [])))
   pub blocksSoFar : NoRun (cs ++ (c ∷ [])) → journalOf (cs ++ (c ∷ [])) ≡ take (told c .count) blocks
   -- N5's count, in the answer and in the state, is the number of bounds that lines set in the turns so far, those of spent turns aside, and at most
@@ -143,7 +143,7 @@ pub record Opening (f : List ℕ) (o : Opened) (q : Ran) : Type 0 where
   -- the run ends with a verdict
   pub ended : ¬ (q .verdict ≡ verdict.GoOn) × ¬ (q .verdict ≡ verdict.Invalid)
   -- with a budget of at least the points it decides; under every budget it decides or says 'spent'
-  pub decides : points (problemIn f .domain) ≤ problemIn f .budget → Decided (problemIn f) q
+  pub decides : points (problemIn f) ≤ problemIn f .budget → Decided (problemIn f) q
   pub or-spent : Decided (problemIn f) q ⊎ (q .verdict ≡ verdict.OutOfBudget)
 
 -- a run after an opening

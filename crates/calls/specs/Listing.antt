@@ -187,7 +187,7 @@ Beyond x = maxPropagations < x .propagations
 
 -- enough budget, or few enough strikes, for every count to stay within the limit
 abbrev pub Modest : Problem → List Action → Type 0
-Modest p acts = (points (p .domain) ≤ p .budget) ⊎ (strikes acts < 2 ^ 32)
+Modest p acts = (points p ≤ p .budget) ⊎ (strikes acts < 2 ^ 32)
 
 -- ---- a list kept up: a strike where a solution stands, else a step, a run, a listing, or a trace with room for a block
 abbrev pub Turns : Call → Type 0
@@ -225,7 +225,7 @@ pub record Lists (p : Problem) (s : Search) (acts : List Action) : Type 0 where
   -- the count is the number of blocks given so far where no run and no listing is among the calls
   pub carried : NoRun acts → stateAfter s acts .conflicts ≡ length (blocksOf acts)
   -- dead ends plus solutions shown, those struck out among them, are at most the number of points
-  pub bounded : stateAfter s acts .conflicts + length (shown acts) ≤ points (p .domain)
+  pub bounded : stateAfter s acts .conflicts + length (shown acts) ≤ points p
   -- N5's count is the number of bounds that lines set in the turns that were not taken back, and at most (dead ends + struck out + 1) times the sum of all
   -- hi − lo, the domain's slack; with a budget of at least the points, or fewer than 2^32 strikes, it is within its limit, and so no call is refused
   pub tallied : stateAfter s acts .propagations ≡ setIn s acts
@@ -234,7 +234,7 @@ pub record Lists (p : Problem) (s : Search) (acts : List Action) : Type 0 where
   -- every solution, one struck out too, meets every cut in the blocks
   pub cuts : (x : Point) → Solution p x → MeetsCuts (variables p) x (blocksOf acts)
   -- a list that is kept up ends
-  pub ends : KeptUp acts → length acts < 2 * points (p .domain)
+  pub ends : KeptUp acts → length acts < 2 * points p
 
 -- the action says q's verdict, values and counts again, and strikes nothing out
 abbrev pub SaysAgain : Ran → Action → Type 0
@@ -253,7 +253,7 @@ pub record TurnAfter (p : Problem) (x : Search) (acts : List Action) (a : Action
   pub again : ¬ (q .verdict ≡ verdict.GoOn) → Within (q .state) → (d : Action) → Due false d → Does (q .state) d → SaysAgain q d
   -- with 'none' every solution has been shown; with a budget of at least the points it never says 'spent'
   pub complete : q .verdict ≡ verdict.NoSolution → shown (a ∷ acts) ≡ map padded (allSolutions p)
-  pub enough : points (p .domain) ≤ p .budget → ¬ (q .verdict ≡ verdict.OutOfBudget)
+  pub enough : points p ≤ p .budget → ¬ (q .verdict ≡ verdict.OutOfBudget)
 
 -- of a listing
 pub record ListAfter (p : Problem) (x : Search) (acts : List Action) (old new : List ℤ) (r : Listed) : Type 0 where

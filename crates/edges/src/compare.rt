@@ -120,6 +120,9 @@ pub(crate) fn problems_agree(written: Problem, back: Problem) -> bool {
     if !numbers_agree(&written.upper, &back.upper, 32, n, 1) {
         return false;
     }
+    if !numbers_agree(&written.thresholds, &back.thresholds, 32, n, 1) {
+        return false;
+    }
     if 32 < n {
         return false;
     }

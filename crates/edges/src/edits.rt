@@ -2,8 +2,8 @@
 //
 //     make N M PAST      the sample file and problem of n variables and m constraints; past their end the problem has this number
 //     budget B           the problem's budget
-//     number K I Z       number i of block k in the problem: block 0 has the lower and the upper bound of each variable in turn, a constraint its divisor
-//                        as number 33
+//     number K I Z       number i of block k in the problem: block 0 has the lower and the upper bound of each variable in turn, and the thresholds from
+//                        number 64 on, a constraint its divisor as number 33
 //     put K AT Z         a number of four bytes in block k of the file, and the block's check
 //     alter K AT BYTE    a byte, and the block's check
 //     spoil K AT         one more than the byte there, and the check left
@@ -25,12 +25,25 @@ fn with_budget(problem: Problem, budget: usize) -> Problem {
     changed
 }
 
+// Another threshold: that of variable 0 at place 64, and so on.
+fn with_threshold(problem: Problem, place: usize, z: i64) -> Problem {
+    let mut changed = problem;
+    if place < 64 {
+        return changed;
+    }
+    let i = place - 64;
+    if i < 32 {
+        changed.thresholds[i] = z;
+    }
+    changed
+}
+
 // Another bound: a variable's lower at an even place, its upper at the odd place after it.
 fn with_bound(problem: Problem, place: usize, z: i64) -> Problem {
     let mut changed = problem;
     let i = place / 2;
     if 32 <= i {
-        return changed;
+        return with_threshold(problem, place, z);
     }
     if place % 2 == 0 {
         changed.lower[i] = z;

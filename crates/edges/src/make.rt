@@ -181,12 +181,24 @@ fn divisors(m: usize, past: i64) -> [i64; 64] {
     numbers
 }
 
+// The thresholds: none, and `past` after the last of n variables.
+fn thresholds(n: usize, past: i64) -> [i64; 32] {
+    let mut numbers = [0i64; 32];
+    let mut i = n;
+    while i < 32 {
+        numbers[i] = past;
+        i += 1;
+    }
+    numbers
+}
+
 // The problem of the file that `file` makes, with one number everywhere past its end. A problem that was read has 0 there.
 pub(crate) fn sample_with(past: i64, n: usize, m: usize, budget: usize) -> Problem {
     let lower = bounds(1, n, past);
     let upper = bounds(0, n, past);
     let constraints = rows(n, m, past);
     let divisors = divisors(m, past);
+    let thresholds = thresholds(n, past);
     Problem {
         n,
         m,
@@ -195,5 +207,6 @@ pub(crate) fn sample_with(past: i64, n: usize, m: usize, budget: usize) -> Probl
         upper,
         constraints,
         divisors,
+        thresholds,
     }
 }

@@ -20,9 +20,9 @@ use Rattle.engine.proofs.OneStep.{advance-finishes, advance-spent}
 use Rattle.engine.proofs.Running.{Running, Propagates, stepStart, coreHere, ends-tally}
 
 -- a state's parts at the end of the loop: the level in hand lies beside the others
-abbrev pub stateAt : List ℤ → List ℤ → ℕ → ℕ → ℕ → ℕ → ℕ → ℕ → model.Status → List ℤ → List ℕ → List Level → Level → ℕ → model.Search
-stateAt lines divisors n m budget conflicts made depth status rows numbers levels l tally =
-    record { core = coreHere lines divisors n m rows numbers levels made depth l; budget = budget; conflicts = conflicts; propagations = tally; status = status }
+abbrev pub stateAt : List ℤ → List ℤ → List ℤ → ℕ → ℕ → ℕ → ℕ → ℕ → ℕ → model.Status → List ℤ → List ℕ → List Level → Level → ℕ → model.Search
+stateAt thresholds lines divisors n m budget conflicts made depth status rows numbers levels l tally =
+    record { core = coreHere thresholds lines divisors n m rows numbers levels made depth l; budget = budget; conflicts = conflicts; propagations = tally; status = status }
 
 -- at most `limit` turns from s end so, with `done` blocks and the state t
 pub record Reaches (s : model.Search) (limit : ℕ) (keep : Bool) (ending : Ending) (done : ℕ) (t : model.Search) (old now : List ℕ) : Type 0 where
@@ -32,28 +32,28 @@ pub record Reaches (s : model.Search) (limit : ℕ) (keep : Bool) (ending : Endi
   pub buffer : Buffered keep blocks old now
 
 -- the level in hand is stored beside itself
-pub at-level : {s : model.Search} {limit : ℕ} {keep : Bool} {ending : Ending} {done : ℕ} {old now : List ℕ} (lines divisors : List ℤ) (n m budget conflicts made depth : ℕ) (status : model.Status) (rows : List ℤ) (numbers : List ℕ) (levels : List Level) (k l : Level) (tally : ℕ) →
-    Reaches s limit keep ending done (stateAt lines divisors n m budget conflicts made depth status rows numbers levels l tally) old now →
-    Reaches s limit keep ending done (stateAt lines divisors n m budget conflicts made depth status rows numbers (set levels depth k) l tally) old now
-at-level lines divisors n m budget conflicts made depth status rows numbers levels k l tally r = rw (levels-above n levels depth depth k (omega arith)) r
+pub at-level : {s : model.Search} {limit : ℕ} {keep : Bool} {ending : Ending} {done : ℕ} {old now : List ℕ} (thresholds lines divisors : List ℤ) (n m budget conflicts made depth : ℕ) (status : model.Status) (rows : List ℤ) (numbers : List ℕ) (levels : List Level) (k l : Level) (tally : ℕ) →
+    Reaches s limit keep ending done (stateAt thresholds lines divisors n m budget conflicts made depth status rows numbers levels l tally) old now →
+    Reaches s limit keep ending done (stateAt thresholds lines divisors n m budget conflicts made depth status rows numbers (set levels depth k) l tally) old now
+at-level thresholds lines divisors n m budget conflicts made depth status rows numbers levels k l tally r = rw (levels-above n levels depth depth k (omega arith)) r
 
-module _ {s : model.Search} {old : List ℕ} {limit : ℕ} {keep : Bool} {lines divisors : List ℤ} {n m budget : ℕ} {now : List ℕ} {rows : List ℤ} {numbers : List ℕ} {levels : List Level} {made conflicts depth : ℕ}
-    {level before : Level} {start done earlier tally : ℕ} (r : Running s old limit keep lines divisors n m budget now rows numbers levels made conflicts depth level before start done earlier tally) where
+module _ {s : model.Search} {old : List ℕ} {limit : ℕ} {keep : Bool} {thresholds lines divisors : List ℤ} {n m budget : ℕ} {now : List ℕ} {rows : List ℤ} {numbers : List ℕ} {levels : List Level} {made conflicts depth : ℕ}
+    {level before : Level} {start done earlier tally : ℕ} (r : Running s old limit keep thresholds lines divisors n m budget now rows numbers levels made conflicts depth level before start done earlier tally) where
   -- one turn more is allowed
   more : done < limit → limit - done ≡ suc (limit - done - 1)
   more h = omega arith
 
-  last-trace : (o : Outcome) → done < limit → advance (suc (limit - done - 1)) (stepStart lines divisors n m budget conflicts rows numbers levels made before start earlier) ≡ lastStep o →
+  last-trace : (o : Outcome) → done < limit → advance (suc (limit - done - 1)) (stepStart thresholds lines divisors n m budget conflicts rows numbers levels made before start earlier) ≡ lastStep o →
       advance limit s ≡ withBlocks (r .blocks) (lastStep o)
   last-trace o h e = r .ahead ∙ ap (withBlocks (r .blocks)) (rw (more h) e)
 
   pub finishes : (here : Level) (tally₁ : ℕ) → done < limit →
-      Propagates (coreHere lines divisors n m rows numbers levels made depth level) (coreHere lines divisors n m rows numbers levels made depth here) finish tally tally₁ →
-      Reaches s limit keep Solution done (stateAt lines divisors n m budget conflicts made depth model.solved rows numbers levels here tally₁) old now
+      Propagates (coreHere thresholds lines divisors n m rows numbers levels made depth level) (coreHere thresholds lines divisors n m rows numbers levels made depth here) finish tally tally₁ →
+      Reaches s limit keep Solution done (stateAt thresholds lines divisors n m budget conflicts made depth model.solved rows numbers levels here tally₁) old now
   unfolding verdictOf withBlocks lastStep solvedBy propagated blockIn follow propagationsBy
   finishes here tally₁ h p =
-      let t = stepStart lines divisors n m budget conflicts rows numbers levels made before start earlier in
-      let c = coreHere lines divisors n m rows numbers levels made depth here in
+      let t = stepStart thresholds lines divisors n m budget conflicts rows numbers levels made before start earlier in
+      let c = coreHere thresholds lines divisors n m rows numbers levels made depth here in
       let d : descend (t .core) ≡ record { core = c; falsified = none } = r .turn ∙ p .next in
       record {
         blocks = r .blocks;
@@ -64,12 +64,12 @@ module _ {s : model.Search} {old : List ℕ} {limit : ℕ} {keep : Bool} {lines 
 
   -- out of budget: the turn that was begun is put back
   pub spends : (here : Level) (j tally₁ : ℕ) → done < limit → conflicts ≡ budget →
-      Propagates (coreHere lines divisors n m rows numbers levels made depth level) (coreHere lines divisors n m rows numbers levels made depth here) (conflict j) tally tally₁ →
-      Reaches s limit keep OutOfBudget done (stateAt lines divisors n m budget conflicts made start model.undecided rows numbers (set levels depth here) before earlier) old now
+      Propagates (coreHere thresholds lines divisors n m rows numbers levels made depth level) (coreHere thresholds lines divisors n m rows numbers levels made depth here) (conflict j) tally tally₁ →
+      Reaches s limit keep OutOfBudget done (stateAt thresholds lines divisors n m budget conflicts made start model.undecided rows numbers (set levels depth here) before earlier) old now
   unfolding verdictOf withBlocks lastStep budgetSpent blockIn follow
   spends here j tally₁ h e p =
-      let t = stepStart lines divisors n m budget conflicts rows numbers levels made before start earlier in
-      let c = coreHere lines divisors n m rows numbers levels made depth here in
+      let t = stepStart thresholds lines divisors n m budget conflicts rows numbers levels made before start earlier in
+      let c = coreHere thresholds lines divisors n m rows numbers levels made depth here in
       let d : descend (t .core) ≡ record { core = c; falsified = some j } = r .turn ∙ p .next in
       record {
         blocks = r .blocks;
@@ -80,7 +80,7 @@ module _ {s : model.Search} {old : List ℕ} {limit : ℕ} {keep : Bool} {lines 
 
   -- as many turns as were asked for: the turn that was begun is put back
   pub exits : limit ≤ done →
-      Reaches s limit keep GoOn done (stateAt lines divisors n m budget conflicts made start model.undecided rows numbers levels before earlier) old now
+      Reaches s limit keep GoOn done (stateAt thresholds lines divisors n m budget conflicts made start model.undecided rows numbers levels before earlier) old now
   unfolding verdictOf withBlocks advance
   exits h =
       let z : limit - done ≡ 0 = omega arith in

@@ -36,8 +36,8 @@ module _ (n : ℕ) (levels : List Level) (cut : Constraint) where
       go (suc k) (suc d) q = rw (go k d (omega arith))
 
 -- ---- the core after the level at the deepest depth was stored
-module _ (lines divisors : List ℤ) (n m made : ℕ) (rows : List ℤ) (numbers : List ℕ) (levels : List Level) where
+module _ (thresholds lines divisors : List ℤ) (n m made : ℕ) (rows : List ℤ) (numbers : List ℕ) (levels : List Level) where
   pub backjump-found : (d e : ℕ) (cut : Constraint) → e ≤ d → NoneBefore n levels cut e → falsified cut (levelAt n levels e .box) ≡ true →
-      backjumpLevel cut (coreApart n m made rows lines divisors numbers (levelAt n levels d) (levelsFrom n levels d)) ≡ e
+      backjumpLevel cut (coreApart thresholds n m made rows lines divisors numbers (levelAt n levels d) (levelsFrom n levels d)) ≡ e
   unfolding backjumpLevel coreOver model.levels withDefault
   backjump-found d e cut h p f = rw (least-at n levels cut d e h p f)

@@ -56,12 +56,12 @@ zero-row n j =
     ap₂ (λ (z : ℤ) (cs : List ℤ). record { constant = z; coefficients = cs; divisor = pos 0 }) (getD-const (pos 0) rowsLength (rowLength * j))
     (tab-ext-0 (cell (replicate rowsLength (pos 0)) (rowLength * j)) (λ (k : ℕ). pos 0) n (λ k h. unfold cell numberIn in getD-const (pos 0) rowsLength (rowLength * j + 1 + k)) ∙ tab-const (pos 0) 0 n)
 
-module _ (n m : ℕ) (lines divisors rows : List ℤ) (p : RowsPut n m divisors (replicate rowsLength (pos 0)) lines rows) (few : m ≤ maxConstraints) (ll : length lines ≡ rowsLength) (dl : length divisors ≡ maxConstraints)
-    (made : ℕ) (numbers : List ℕ) (l : model.Level) (ls : List model.Level) (f : CoreFits (coreApart n m made lines lines divisors numbers l ls)) where
+module _ (thresholds : List ℤ) (n m : ℕ) (lines divisors rows : List ℤ) (p : RowsPut n m divisors (replicate rowsLength (pos 0)) lines rows) (few : m ≤ maxConstraints) (ll : length lines ≡ rowsLength) (dl : length divisors ≡ maxConstraints)
+    (made : ℕ) (numbers : List ℕ) (l : model.Level) (ls : List model.Level) (f : CoreFits (coreApart thresholds n m made lines lines divisors numbers l ls)) where
   line-range : (j : ℕ) → j < m → inRange (rowAt n lines j) ≡ true
   unfolding coreOver model.kept
   line-range j h =
-      let c = coreApart n m made lines lines divisors numbers l ls in
+      let c = coreApart thresholds n m made lines lines divisors numbers l ls in
       let t : allOf inRange (keptOver n m made lines lines divisors) ≡ true = true-of _ (every-out (ConstraintFits n) inRange (λ k q. q .range) (model.kept c) (f .constraints)) in
       let r = rw (over-input n m made lines lines divisors j h) at (allOf-getD inRange (keptOver n m made lines lines divisors) j noConstraint t (omega (arith, length-over n m made lines lines divisors))) in
       unfold inRange inputAt dividedAt rowAt constraintAt in r

@@ -16,7 +16,7 @@ use Rattle.model.specs.Move.{conflict}
 use Rattle.model.specs.Conflict.{analyze, numbered, backjumpLevel, nothingLearned, atConflict}
 use Rattle.lists.proofs.Bools.{true-of}
 use Rattle.lists.proofs.Tab.{tab-ext-0, tab-const}
-use Rattle.layout.specs.Rows.{numberIn, cell, constraintAt, rowAt, inputAt, boxOf}
+use Rattle.layout.specs.Rows.{numberIn, cell, constraintAt, rowAt, inputAt, boxOf, thresholdsOf}
 use Rattle.layout.proofs.Rows.{row-plain, constraint-eq}
 use Rattle.validity.proofs.Blank.{Blanked, analyze-blanked, numbered-blanked}
 use Rattle.validity.proofs.Tests.{nested-out}
@@ -31,10 +31,10 @@ use Rattle.backtrack.proofs.Mirroring.{mirrored-kept}
 use Rattle.propagate.specs.Divided.{keptOver, coreApart, Apart}
 use Rattle.propagate.proofs.Warning.{plain-row, divided-input, inputs-blanked, length-over, over-input, kept-plain}
 use Rattle.backtrack.proofs.Saving.{place-less, rows-stay}
-use Rattle.engine.specs.Counting.{Countable}
-use Rattle.engine.specs.Learning.{Learnable, LearnedFrom}
-use Rattle.engine.specs.declared.learn.Learned.{Learned}
-use Rattle.engine.proofs.Learning.{learnable-at, kept-row, cut-false}
+use Rattle.conflict.specs.Counting.{Countable}
+use Rattle.conflict.specs.Learning.{Learnable, LearnedFrom}
+use Rattle.conflict.specs.declared.learn.Learned.{Learned}
+use Rattle.conflict.proofs.Learning.{learnable-at, kept-row, cut-false}
 use Rattle.engine.proofs.Backjumping.{backjump-found}
 use Rattle.engine.proofs.Running.{Running, Propagates, coreHere}
 use Rattle.engine.proofs.Conflicting.{conflictWith, learned-is, dismissed-is}
@@ -96,16 +96,16 @@ unfolding nothingLearned
 zero-used n used z = tab-ext-0 (λ (i : ℕ). getD used i 0) (λ (k : ℕ). 0) n (λ k h. z k) ∙ tab-const {A = ℕ} 0 0 n
 
 -- what is shown of a conflict, whether something was learned or not
-pub record Facts (lines divisors : List ℤ) (n m : ℕ) (rows : List ℤ) (numbers : List ℕ) (levels : List Level) (made depth : ℕ) (here : Level) (j : ℕ) (cut : List ℤ) (used : List ℕ) (number back made₁ : ℕ) (rows₁ : List ℤ) (numbers₁ : List ℕ) : Type 0 where
-  pub is : atConflict (coreHere lines divisors n m rows numbers levels made depth here) j ≡
-      conflictWith (coreHere lines divisors n m rows numbers levels made depth here) j (constraintAt n cut 0) (tab (λ i. getD used i 0) 0 n) number back (coreHere lines divisors n m rows₁ numbers₁ levels made₁ depth here)
+pub record Facts (thresholds lines divisors : List ℤ) (n m : ℕ) (rows : List ℤ) (numbers : List ℕ) (levels : List Level) (made depth : ℕ) (here : Level) (j : ℕ) (cut : List ℤ) (used : List ℕ) (number back made₁ : ℕ) (rows₁ : List ℤ) (numbers₁ : List ℕ) : Type 0 where
+  pub is : atConflict (coreHere thresholds lines divisors n m rows numbers levels made depth here) j ≡
+      conflictWith (coreHere thresholds lines divisors n m rows numbers levels made depth here) j (constraintAt n cut 0) (tab (λ i. getD used i 0) 0 n) number back (coreHere thresholds lines divisors n m rows₁ numbers₁ levels made₁ depth here)
   pub reach : back ≤ depth
   pub kept : Keeps n m made rows lines divisors cut used made₁ rows₁ numbers₁
 
 -- ---- the level where a conflict is met
-module _ {s : model.Search} {old : List ℕ} {limit : ℕ} {keep : Bool} {lines divisors : List ℤ} {n m budget : ℕ} {now : List ℕ} {rows : List ℤ} {numbers : List ℕ} {levels : List Level} {made conflicts depth : ℕ}
-    {level before : Level} {start done earlier tally : ℕ} (r : Running s old limit keep lines divisors n m budget now rows numbers levels made conflicts depth level before start done earlier tally)
-    {tally₁ : ℕ} (here : Level) (j : ℕ) (moved : Propagates (coreHere lines divisors n m rows numbers levels made depth level) (coreHere lines divisors n m rows numbers levels made depth here) (conflict j) tally tally₁) where
+module _ {s : model.Search} {old : List ℕ} {limit : ℕ} {keep : Bool} {thresholds lines divisors : List ℤ} {n m budget : ℕ} {now : List ℕ} {rows : List ℤ} {numbers : List ℕ} {levels : List Level} {made conflicts depth : ℕ}
+    {level before : Level} {start done earlier tally : ℕ} (r : Running s old limit keep thresholds lines divisors n m budget now rows numbers levels made conflicts depth level before start done earlier tally)
+    {tally₁ : ℕ} (here : Level) (j : ℕ) (moved : Propagates (coreHere thresholds lines divisors n m rows numbers levels made depth level) (coreHere thresholds lines divisors n m rows numbers levels made depth here) (conflict j) tally tally₁) where
   -- the levels with the deepest stored
   abbrev all : List Level
   all = set levels depth here
@@ -130,16 +130,16 @@ module _ {s : model.Search} {old : List ℕ} {limit : ℕ} {keep : Bool} {lines 
         record {
           lowersLong = b .lowersLong;
           uppersLong = b .uppersLong;
-          range = λ t h. rw (same-box t h) (stored-range lines divisors n m rows numbers levels made depth here deep (moved .fits) t h);
-          inside = λ t h. rw (same-box (suc t) h, same-box t (omega arith)) (nested-out _ _ (stored-under lines divisors n m rows numbers levels made depth here deep (moved .fits) t h .inside));
+          range = λ t h. rw (same-box t h) (stored-range thresholds lines divisors n m rows numbers levels made depth here deep (moved .fits) t h);
+          inside = λ t h. rw (same-box (suc t) h, same-box t (omega arith)) (nested-out _ _ (stored-under thresholds lines divisors n m rows numbers levels made depth here deep (moved .fits) t h .inside));
         }
 
     -- the level that the search found
-    pub level-is : (k : Constraint) (back : ℕ) → LeastFalsifying k n depth lowers uppers back → backjumpLevel k (coreHere lines divisors n m rows numbers levels made depth here) ≡ back
+    pub level-is : (k : Constraint) (back : ℕ) → LeastFalsifying k n depth lowers uppers back → backjumpLevel k (coreHere thresholds lines divisors n m rows numbers levels made depth here) ≡ back
     level-is k back q =
-        ap₂ (λ (l : model.Level) (ls : List model.Level). backjumpLevel k (coreApart n m made rows lines divisors numbers l ls))
+        ap₂ (λ (l : model.Level) (ls : List model.Level). backjumpLevel k (coreApart thresholds n m made rows lines divisors numbers l ls))
         (sym (level-here n levels depth here deep)) (sym (levels-above n levels depth depth here (omega arith))) ∙
-        backjump-found lines divisors n m made rows numbers all depth back k (q .reach) (λ t h. rw (← same-box t (omega (arith, q .reach))) (q .least t h)) (rw (← same-box back (q .reach)) (q .falsifies))
+        backjump-found thresholds lines divisors n m made rows numbers all depth back k (q .reach) (λ t h. rw (← same-box t (omega (arith, q .reach))) (q .least t h)) (rw (← same-box back (q .reach)) (q .falsifies))
 
   -- what counting it asks
   pub countable : (d : ℕ) (lowers uppers : List ℤ) → Mirrored n levels lowers uppers depth → (masks : List ℕ) → length masks ≡ maxCuts → done < limit → Learnable n m made rows numbers here j →
@@ -170,7 +170,7 @@ module _ {s : model.Search} {old : List ℕ} {limit : ℕ} {keep : Bool} {lines 
     own : getD (keptOver n m made rows lines divisors) j noConstraint ≡ rowAt n rows j
     own = kept-plain n m made rows lines divisors (r .apart) j position plain
 
-    inequality : modulus (getD (model.kept (coreHere lines divisors n m rows numbers levels made depth here)) j noConstraint) ≡ 0
+    inequality : modulus (getD (model.kept (coreHere thresholds lines divisors n m rows numbers levels made depth here)) j noConstraint) ≡ 0
     inequality = unfold coreOver model.kept in ap modulus own ∙ plain-row n rows j
 
     abbrev bare : model.Core
@@ -179,35 +179,35 @@ module _ {s : model.Search} {old : List ℕ} {limit : ℕ} {keep : Bool} {lines 
     blanked : Blanked (tab (inputAt n lines divisors) 0 m) (bare .inputs)
     blanked = unfold coreOver in inputs-blanked n m rows lines divisors (r .apart)
 
-    analyzed : analyze (coreHere lines divisors n m rows numbers levels made depth here) (getD (model.kept (coreHere lines divisors n m rows numbers levels made depth here)) j noConstraint) ≡
+    analyzed : analyze (coreHere thresholds lines divisors n m rows numbers levels made depth here) (getD (model.kept (coreHere thresholds lines divisors n m rows numbers levels made depth here)) j noConstraint) ≡
         record { cut = cut; used = tab (λ i. getD (x .used) i 0) 0 n }
     analyzed =
-        let c = coreHere lines divisors n m rows numbers levels made depth here in
+        let c = coreHere thresholds lines divisors n m rows numbers levels made depth here in
         let here-is : getD (model.kept c) j noConstraint ≡ rowAt n rows j = unfold coreOver model.kept in own in
-        let same : analyze c (rowAt n rows j) ≡ analyze bare (rowAt n rows j) = unfold coreOver in analyze-blanked bare (tab (inputAt n lines divisors) 0 m) blanked (rowAt n rows j) in
+        let same : analyze c (rowAt n rows j) ≡ analyze bare (rowAt n rows j) = unfold coreOver in analyze-blanked bare (thresholdsOf n thresholds) (tab (inputAt n lines divisors) 0 m) blanked (rowAt n rows j) in
         ap (analyze c) here-is ∙ same ∙ ap (analyze bare) (sym (kept-row n m made rows numbers here (levelsFrom n levels depth) j position)) ∙ l .learns (levelsFrom n levels depth) .analysis
 
     cut-falsified : T (falsified cut (levelOf n here .box))
     cut-falsified = unfold levelOf in cut-false (r .counts .few) l position (subst (λ (k : Constraint). T (falsified k (boxOf n (here .lower) (here .upper)))) own false-here)
 
-    numbers-it : numbered (coreHere lines divisors n m rows numbers levels made depth here) cut ≡ record { number = x .number; core = coreHere lines divisors n m rows₁ numbers₁ levels (x .made) depth here }
+    numbers-it : numbered (coreHere thresholds lines divisors n m rows numbers levels made depth here) cut ≡ record { number = x .number; core = coreHere thresholds lines divisors n m rows₁ numbers₁ levels (x .made) depth here }
     unfolding coreOver
-    numbers-it = numbered-blanked bare (tab (inputAt n lines divisors) 0 m) blanked cut (levelOf n here .box) (row-plain n (x .cut) 0) cut-falsified (x .number) _ (l .learns (levelsFrom n levels depth) .numbering)
+    numbers-it = numbered-blanked bare (thresholdsOf n thresholds) (tab (inputAt n lines divisors) 0 m) blanked cut (levelOf n here .box) (row-plain n (x .cut) 0) cut-falsified (x .number) _ (l .learns (levelsFrom n levels depth) .numbering)
 
     pub is-learned : (lowers uppers : List ℤ) → Mirrored n all lowers uppers (depth + 1) → (back : ℕ) → LeastFalsifying cut n depth lowers uppers back →
-        atConflict (coreHere lines divisors n m rows numbers levels made depth here) j ≡
-        conflictWith (coreHere lines divisors n m rows numbers levels made depth here) j cut (tab (λ i. getD (x .used) i 0) 0 n) (x .number) back (coreHere lines divisors n m rows₁ numbers₁ levels (x .made) depth here)
+        atConflict (coreHere thresholds lines divisors n m rows numbers levels made depth here) j ≡
+        conflictWith (coreHere thresholds lines divisors n m rows numbers levels made depth here) j cut (tab (λ i. getD (x .used) i 0) 0 n) (x .number) back (coreHere thresholds lines divisors n m rows₁ numbers₁ levels (x .made) depth here)
     is-learned lowers uppers b back q =
-        learned-is (coreHere lines divisors n m rows numbers levels made depth here) j cut _ (x .number) back _ inequality analyzed numbers-it (level-is lowers uppers b cut back q)
+        learned-is (coreHere thresholds lines divisors n m rows numbers levels made depth here) j cut _ (x .number) back _ inequality analyzed numbers-it (level-is lowers uppers b cut back q)
 
   -- at an input with a divisor
   pub is-dismissed : (lowers uppers : List ℤ) → Mirrored n all lowers uppers (depth + 1) → (cut : List ℤ) (used : List ℕ) (back : ℕ) → j < m → (numberIn divisors j ≡ pos 0 → ⊥) → ((i : ℕ) → numberIn cut i ≡ pos 0) → ((i : ℕ) → getD used i 0 ≡ 0) →
       LeastFalsifying (inputAt n lines divisors j) n depth lowers uppers back →
-      atConflict (coreHere lines divisors n m rows numbers levels made depth here) j ≡
-      conflictWith (coreHere lines divisors n m rows numbers levels made depth here) j (constraintAt n cut 0) (tab (λ i. getD used i 0) 0 n) 0 back (coreHere lines divisors n m rows numbers levels made depth here)
+      atConflict (coreHere thresholds lines divisors n m rows numbers levels made depth here) j ≡
+      conflictWith (coreHere thresholds lines divisors n m rows numbers levels made depth here) j (constraintAt n cut 0) (tab (λ i. getD used i 0) 0 n) 0 back (coreHere thresholds lines divisors n m rows numbers levels made depth here)
   unfolding coreOver
   is-dismissed lowers uppers b cut used back h d zc zu q =
-      let c = coreHere lines divisors n m rows numbers levels made depth here in
+      let c = coreHere thresholds lines divisors n m rows numbers levels made depth here in
       let k = inputAt n lines divisors j in
       let own : getD (model.kept c) j noConstraint ≡ k = unfold coreOver model.kept in over-input n m made rows lines divisors j h in
       let x = dismissed-is c j k back own (divided-input n lines divisors j d) (level-is lowers uppers b k back q) in

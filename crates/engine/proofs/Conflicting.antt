@@ -20,7 +20,7 @@ use Rattle.state.specs.View.{flippedReason, levelOf, levelAt, levelsFrom, coreW
 use Rattle.state.specs.Change.{Whole, raised}
 use Rattle.state.specs.declared.Level.{Level}
 use Rattle.state.proofs.Cores.{level-here, levels-above}
-use Rattle.engine.specs.Learning.{Learns}
+use Rattle.conflict.specs.Learning.{Learns}
 
 abbrev pub conflictWith : model.Core → ℕ → Constraint → List ℕ → ℕ → ℕ → model.Core → Conflict
 conflictWith c j cut used number back kept =

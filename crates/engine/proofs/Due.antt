@@ -17,12 +17,12 @@ use Rattle.propagate.specs.Tracked.{Told}
 use Rattle.propagate.specs.Divided.{keptOver, Apart, Due, Everyone, Unmentioned, FirstIndivisible, Warned}
 use Rattle.linear.specs.Ranges.{BoxFits}
 use Rattle.propagate.proofs.Tracking.{scan-box}
-use Rattle.backtrack.specs.Jumps.{Flippable}
+use Rattle.backtrack.specs.Jumps.{Flippable, nextIn}
 use Rattle.propagate.proofs.Warning.{warned, raise-spared, lower-spared}
 
 -- the box of a level whose decision is flipped
-pub flipped-box : {n m made : ℕ} {rows lower upper : List ℤ} {i depth : ℕ} {olds limits : List ℤ} {gones counts : List ℕ} → Flippable n m made rows lower upper i depth olds limits gones counts →
-    {lower₁ : List ℤ} → lower₁ ≡ set lower i (numberIn lower i +ℤ pos 1) → BoxFits n lower₁ upper
+pub flipped-box : {n m made : ℕ} {thresholds rows lower upper : List ℤ} {i depth : ℕ} {olds limits : List ℤ} {gones counts : List ℕ} → Flippable n m made thresholds rows lower upper i depth olds limits gones counts →
+    {lower₁ : List ℤ} → lower₁ ≡ set lower i (nextIn thresholds lower i) → BoxFits n lower₁ upper
 flipped-box {lower = lower} {i = i} f e = rw e (scan-box (f .next) (length-set lower i _ ∙ f .lowers) (f .uppers))
 
 module _ (n m made : ℕ) (rows lines divisors lower upper activities reaches : List ℤ) (a : Apart n m rows lines divisors) (i : ℕ) (v : ℤ) (h : i < n) where

@@ -1,6 +1,4 @@
 -- The argument for the search's loop.
-pub mod Keeping
-pub mod Learning
 pub mod OneStep
 pub mod Backjumping
 pub mod Conflicting
@@ -23,4 +21,3 @@ pub mod Leaving
 pub mod Masking
 pub mod Looping
 pub mod Setting
-pub mod Dismissing

@@ -37,10 +37,10 @@ pub record Counts (n m budget conflicts made : ℕ) : Type 0 where
   pub cuts : made ≤ conflicts
 
 -- the state at the start of the turn
-abbrev pub stepStart : List ℤ → List ℤ → ℕ → ℕ → ℕ → ℕ → List ℤ → List ℕ → List Level → ℕ → Level → ℕ → ℕ → model.Search
-stepStart lines divisors n m budget conflicts rows numbers levels made before start earlier =
+abbrev pub stepStart : List ℤ → List ℤ → List ℤ → ℕ → ℕ → ℕ → ℕ → List ℤ → List ℕ → List Level → ℕ → Level → ℕ → ℕ → model.Search
+stepStart thresholds lines divisors n m budget conflicts rows numbers levels made before start earlier =
     record {
-      core = coreApart n m made rows lines divisors numbers (levelOf n before) (levelsFrom n levels start);
+      core = coreApart thresholds n m made rows lines divisors numbers (levelOf n before) (levelsFrom n levels start);
       budget = budget;
       conflicts = conflicts;
       propagations = earlier;
@@ -48,8 +48,8 @@ stepStart lines divisors n m budget conflicts rows numbers levels made before st
     }
 
 -- the core with the level in hand
-abbrev pub coreHere : List ℤ → List ℤ → ℕ → ℕ → List ℤ → List ℕ → List Level → ℕ → ℕ → Level → model.Core
-coreHere lines divisors n m rows numbers levels made depth level = coreApart n m made rows lines divisors numbers (levelOf n level) (levelsFrom n levels depth)
+abbrev pub coreHere : List ℤ → List ℤ → List ℤ → ℕ → ℕ → List ℤ → List ℕ → List Level → ℕ → ℕ → Level → model.Core
+coreHere thresholds lines divisors n m rows numbers levels made depth level = coreApart thresholds n m made rows lines divisors numbers (levelOf n level) (levelsFrom n levels depth)
 
 -- N5's count: `earlier` at the turn's start, `tally` here. What the turn still adds is what it adds from here on, and it stays far below what a word holds:
 -- each conflict, and the turn that goes on, can add no more than a turn weighs.
@@ -59,7 +59,7 @@ pub record Tally (start here : model.Core) (conflicts earlier tally : ℕ) : Typ
   pub fits : tally + slack (here .deepest .box) ≤ earlier + stepWeight
 
 -- ---- the invariant
-pub record Running (s : model.Search) (old : List ℕ) (limit : ℕ) (keep : Bool) (lines divisors : List ℤ) (n m budget : ℕ) (now : List ℕ) (rows : List ℤ) (numbers : List ℕ) (levels : List Level) (made conflicts depth : ℕ)
+pub record Running (s : model.Search) (old : List ℕ) (limit : ℕ) (keep : Bool) (thresholds lines divisors : List ℤ) (n m budget : ℕ) (now : List ℕ) (rows : List ℤ) (numbers : List ℕ) (levels : List Level) (made conflicts depth : ℕ)
     (level before : Level) (start done earlier tally : ℕ) : Type 0 where
   pub counts : Counts n m budget conflicts made
   pub whole : Whole level
@@ -67,17 +67,18 @@ pub record Running (s : model.Search) (old : List ℕ) (limit : ℕ) (keep : Boo
   pub rowsLong : length rows ≡ 4224
   pub numbersLong : length numbers ≡ 64
   pub levelsLong : length levels ≡ 33
+  pub thresholdsLong : length thresholds ≡ 32
   pub apart : Apart n m rows lines divisors
-  pub fits : CoreFits (coreHere lines divisors n m rows numbers levels made depth level)
+  pub fits : CoreFits (coreHere thresholds lines divisors n m rows numbers levels made depth level)
   pub from : start ≤ depth
-  pub counted : Tally (stepStart lines divisors n m budget conflicts rows numbers levels made before start earlier .core) (coreHere lines divisors n m rows numbers levels made depth level) conflicts earlier tally
-  pub turn : descend (stepStart lines divisors n m budget conflicts rows numbers levels made before start earlier .core) ≡ descend (coreHere lines divisors n m rows numbers levels made depth level)
+  pub counted : Tally (stepStart thresholds lines divisors n m budget conflicts rows numbers levels made before start earlier .core) (coreHere thresholds lines divisors n m rows numbers levels made depth level) conflicts earlier tally
+  pub turn : descend (stepStart thresholds lines divisors n m budget conflicts rows numbers levels made before start earlier .core) ≡ descend (coreHere thresholds lines divisors n m rows numbers levels made depth level)
   pub within : done ≤ limit
   pub blocks : List (List ℕ)
   pub many : length blocks ≡ done
   pub long : length (joined blocks) ≡ blockLength * done
   pub room : keep ≡ true → blockLength * limit ≤ length old
-  pub ahead : advance limit s ≡ withBlocks blocks (advance (limit - done) (stepStart lines divisors n m budget conflicts rows numbers levels made before start earlier))
+  pub ahead : advance limit s ≡ withBlocks blocks (advance (limit - done) (stepStart thresholds lines divisors n m budget conflicts rows numbers levels made before start earlier))
   pub buffer : Buffered keep blocks old now
 
 -- ---- where propagation left the level, and the move that comes next
@@ -107,11 +108,11 @@ decides-tally {d = d} {i = i} t p =
     record { same = t .same ∙ p .count; few = t .few; fits = omega (arith, t .fits, p .less, decided-slack d i (deepest-ordered d (p .fits)) (p .chosen)) }
 
 -- ---- a decision
-core-decided : (lines divisors : List ℤ) (n m made : ℕ) (rows : List ℤ) (numbers : List ℕ) (levels : List Level) (d i : ℕ) (l : Level) → Whole l → n ≤ 32 → i < n → d < length levels →
-    model.withLevels (coreHere lines divisors n m rows numbers levels made d l) (model.decideAt i (coreHere lines divisors n m rows numbers levels made d l .deepest)) (model.levels (coreHere lines divisors n m rows numbers levels made d l)) ≡
-    coreHere lines divisors n m rows numbers (set levels d l) made (suc d) (decidedAt l i)
+core-decided : (thresholds lines divisors : List ℤ) (n m made : ℕ) (rows : List ℤ) (numbers : List ℕ) (levels : List Level) (d i : ℕ) (l : Level) → Whole l → n ≤ 32 → i < n → d < length levels →
+    model.withLevels (coreHere thresholds lines divisors n m rows numbers levels made d l) (model.decideAt i (coreHere thresholds lines divisors n m rows numbers levels made d l .deepest)) (model.levels (coreHere thresholds lines divisors n m rows numbers levels made d l)) ≡
+    coreHere thresholds lines divisors n m rows numbers (set levels d l) made (suc d) (decidedAt l i)
 unfolding model.withLevels coreOver model.levels levelsFrom
-core-decided lines divisors n m made rows numbers levels d i l w f h k =
+core-decided thresholds lines divisors n m made rows numbers levels d i l w f h k =
     rw (level-decided n l w f i h, level-here n levels d l k, levels-above n levels d d l (omega arith))
 
 -- the first open variable is one of the n
@@ -123,27 +124,27 @@ whole-decided : (l : Level) (i : ℕ) → Whole l → Whole (decidedAt l i)
 whole-decided l i w =
     record { lower = w .lower; upper = length-set (l .upper) i (getD (l .lower) i (pos 0)) ∙ w .upper; below = w .below; above = length-set (l .above) i decisionReason ∙ w .above }
 
-pub depth-here : (lines divisors : List ℤ) (n m : ℕ) (rows : List ℤ) (numbers : List ℕ) (levels : List Level) (made depth : ℕ) (l : Level) → CoreFits (coreHere lines divisors n m rows numbers levels made depth l) → depth ≤ n
-depth-here lines divisors n m rows numbers levels made depth l f =
-    let h : length (levelsFrom n levels depth) ≤ n = unfold model.depth coreOver in depth-fits (coreHere lines divisors n m rows numbers levels made depth l) f in
+pub depth-here : (thresholds lines divisors : List ℤ) (n m : ℕ) (rows : List ℤ) (numbers : List ℕ) (levels : List Level) (made depth : ℕ) (l : Level) → CoreFits (coreHere thresholds lines divisors n m rows numbers levels made depth l) → depth ≤ n
+depth-here thresholds lines divisors n m rows numbers levels made depth l f =
+    let h : length (levelsFrom n levels depth) ≤ n = unfold model.depth coreOver in depth-fits (coreHere thresholds lines divisors n m rows numbers levels made depth l) f in
     omega (arith, length-levels n levels depth)
 
 -- a store at or below the turn's start leaves the turn's start as it is
-pub start-kept : (lines divisors : List ℤ) (n m budget conflicts : ℕ) (rows : List ℤ) (numbers : List ℕ) (levels : List Level) (made : ℕ) (before : Level) (start earlier d : ℕ) (l : Level) → start ≤ d →
-    stepStart lines divisors n m budget conflicts rows numbers (set levels d l) made before start earlier ≡ stepStart lines divisors n m budget conflicts rows numbers levels made before start earlier
-start-kept lines divisors n m budget conflicts rows numbers levels made before start earlier d l h = rw (levels-above n levels start d l h)
+pub start-kept : (thresholds lines divisors : List ℤ) (n m budget conflicts : ℕ) (rows : List ℤ) (numbers : List ℕ) (levels : List Level) (made : ℕ) (before : Level) (start earlier d : ℕ) (l : Level) → start ≤ d →
+    stepStart thresholds lines divisors n m budget conflicts rows numbers (set levels d l) made before start earlier ≡ stepStart thresholds lines divisors n m budget conflicts rows numbers levels made before start earlier
+start-kept thresholds lines divisors n m budget conflicts rows numbers levels made before start earlier d l h = rw (levels-above n levels start d l h)
 
-module _ {s : model.Search} {old : List ℕ} {limit : ℕ} {keep : Bool} {lines divisors : List ℤ} {n m budget : ℕ} {now : List ℕ} {rows : List ℤ} {numbers : List ℕ} {levels : List Level} {made conflicts depth : ℕ}
-    {level before : Level} {start done earlier tally : ℕ} (r : Running s old limit keep lines divisors n m budget now rows numbers levels made conflicts depth level before start done earlier tally) where
+module _ {s : model.Search} {old : List ℕ} {limit : ℕ} {keep : Bool} {thresholds lines divisors : List ℤ} {n m budget : ℕ} {now : List ℕ} {rows : List ℤ} {numbers : List ℕ} {levels : List Level} {made conflicts depth : ℕ}
+    {level before : Level} {start done earlier tally : ℕ} (r : Running s old limit keep thresholds lines divisors n m budget now rows numbers levels made conflicts depth level before start done earlier tally) where
   pub running-decides : (i : ℕ) (here : Level) (tally₁ : ℕ) → Whole here →
-      Propagates (coreHere lines divisors n m rows numbers levels made depth level) (coreHere lines divisors n m rows numbers levels made depth here) (decide i) tally tally₁ →
-      Running s old limit keep lines divisors n m budget now rows numbers (set levels depth here) made conflicts (depth + 1) (decidedAt here i) before start done earlier tally₁
+      Propagates (coreHere thresholds lines divisors n m rows numbers levels made depth level) (coreHere thresholds lines divisors n m rows numbers levels made depth here) (decide i) tally tally₁ →
+      Running s old limit keep thresholds lines divisors n m budget now rows numbers (set levels depth here) made conflicts (depth + 1) (decidedAt here i) before start done earlier tally₁
   running-decides i here tally₁ w p =
-      let c = coreHere lines divisors n m rows numbers levels made depth here in
+      let c = coreHere thresholds lines divisors n m rows numbers levels made depth here in
       let v : i < n = unfold coreOver in decided-variable c i (p .fits) (p .chosen) in
-      let deep : depth < length levels = omega (arith, depth-here lines divisors n m rows numbers levels made depth here (p .fits), r .counts .few, r .levelsLong) in
-      let e = core-decided lines divisors n m made rows numbers levels depth i here w (r .counts .few) v deep in
-      let t = start-kept lines divisors n m budget conflicts rows numbers levels made before start earlier depth here (r .from) in
+      let deep : depth < length levels = omega (arith, depth-here thresholds lines divisors n m rows numbers levels made depth here (p .fits), r .counts .few, r .levelsLong) in
+      let e = core-decided thresholds lines divisors n m made rows numbers levels depth i here w (r .counts .few) v deep in
+      let t = start-kept thresholds lines divisors n m budget conflicts rows numbers levels made before start earlier depth here (r .from) in
       rw add-one
       (record {
         counts = r .counts;
@@ -152,12 +153,13 @@ module _ {s : model.Search} {old : List ℕ} {limit : ℕ} {keep : Bool} {lines 
         rowsLong = r .rowsLong;
         numbersLong = r .numbersLong;
         levelsLong = length-set levels depth here ∙ r .levelsLong;
+        thresholdsLong = r .thresholdsLong;
         apart = r .apart;
         fits = subst CoreFits e (decide-fits c i (p .fits) (p .chosen));
         from = omega (arith, r .from);
         counted =
-            subst (λ (x : model.Core). Tally x (coreHere lines divisors n m rows numbers (set levels depth here) made (suc depth) (decidedAt here i)) conflicts earlier tally₁) (sym (ap (λ (x : model.Search). x .core) t))
-            (subst (λ (x : model.Core). Tally (stepStart lines divisors n m budget conflicts rows numbers levels made before start earlier .core) x conflicts earlier tally₁) e (decides-tally (r .counted) p));
+            subst (λ (x : model.Core). Tally x (coreHere thresholds lines divisors n m rows numbers (set levels depth here) made (suc depth) (decidedAt here i)) conflicts earlier tally₁) (sym (ap (λ (x : model.Search). x .core) t))
+            (subst (λ (x : model.Core). Tally (stepStart thresholds lines divisors n m budget conflicts rows numbers levels made before start earlier .core) x conflicts earlier tally₁) e (decides-tally (r .counted) p));
         turn = ap (λ (x : model.Search). descend (x .core)) t ∙ r .turn ∙ p .next ∙ (unfold follow in ap descend e);
         within = r .within;
         blocks = r .blocks;

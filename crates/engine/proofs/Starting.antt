@@ -40,7 +40,7 @@ none-written keep buffer = record { written = λ k. refl; untouched = λ k. refl
 -- the state at the start, by its parts
 abbrev pub startOf : Search → Search
 startOf s =
-    record { n = s .n; m = s .m; budget = s .budget; conflicts = s .conflicts; propagations = s .propagations; made = s .made; depth = s .depth; status = Undecided; rows = s .rows; divisors = s .divisors; numbers = s .numbers; levels = s .levels }
+    record { n = s .n; m = s .m; budget = s .budget; conflicts = s .conflicts; propagations = s .propagations; made = s .made; depth = s .depth; status = Undecided; thresholds = s .thresholds; rows = s .rows; divisors = s .divisors; numbers = s .numbers; levels = s .levels }
 
 pub view-unmarked : (s : Search) → s .status ≡ Undecided → view (startOf s) ≡ view s
 unfolding view coreOf inputsOf
@@ -49,7 +49,7 @@ view-unmarked s e = rw e
 -- the state at the start, with the rows of the divisor constraints blanked
 start-step : (s : Search) (l : Level) (rows : List ℤ) → s .status ≡ Undecided → levelAt (s .n) (s .levels) (s .depth) ≡ levelOf (s .n) l →
     tab (rowAt (s .n) rows) (s .m) (keptCuts (s .made)) ≡ tab (rowAt (s .n) (s .rows)) (s .m) (keptCuts (s .made)) →
-    view s ≡ stepStart (s .rows) (s .divisors) (s .n) (s .m) (s .budget) (s .conflicts) rows (s .numbers) (s .levels) (s .made) l (s .depth) (s .propagations)
+    view s ≡ stepStart (s .thresholds) (s .rows) (s .divisors) (s .n) (s .m) (s .budget) (s .conflicts) rows (s .numbers) (s .levels) (s .made) l (s .depth) (s .propagations)
 unfolding view coreOf inputsOf coreOver statusOf
 start-step s l rows u h e = rw (u, h, e)
 
@@ -71,18 +71,18 @@ module _ {s : Search} {limit : ℕ} {keep : Bool} {room : ℕ} {buffer : List �
   module _ (rows : List ℤ) (p : RowsPut (s .n) (s .m) (s .divisors) (replicate rowsLength (pos 0)) (s .rows) rows) (rl : length (s .rows) ≡ rowsLength) (dl : length (s .divisors) ≡ maxConstraints) where
     pub start-apart : Apart (s .n) (s .m) rows (s .rows) (s .divisors)
     start-apart =
-        apart-starts (s .n) (s .m) (s .rows) (s .divisors) rows p (start-counts .inputs) rl dl (s .made) (s .numbers) (levelAt (s .n) (s .levels) (s .depth)) (levelsFrom (s .n) (s .levels) (s .depth))
+        apart-starts (s .thresholds) (s .n) (s .m) (s .rows) (s .divisors) rows p (start-counts .inputs) rl dl (s .made) (s .numbers) (levelAt (s .n) (s .levels) (s .depth)) (levelsFrom (s .n) (s .levels) (s .depth))
         (unfold coreOf inputsOf in start-fits)
 
-    start-here : (l : Level) → levelAt (s .n) (s .levels) (s .depth) ≡ levelOf (s .n) l → CoreFits (coreHere (s .rows) (s .divisors) (s .n) (s .m) rows (s .numbers) (s .levels) (s .made) (s .depth) l)
+    start-here : (l : Level) → levelAt (s .n) (s .levels) (s .depth) ≡ levelOf (s .n) l → CoreFits (coreHere (s .thresholds) (s .rows) (s .divisors) (s .n) (s .m) rows (s .numbers) (s .levels) (s .made) (s .depth) l)
     unfolding coreOver
     start-here l h =
         rw (cuts-put (s .n) (s .m) (s .made) (s .divisors) _ (s .rows) rows p (start-counts .inputs))
-        (subst (λ (k : model.Level). CoreFits (coreApart (s .n) (s .m) (s .made) (s .rows) (s .rows) (s .divisors) (s .numbers) k (levelsFrom (s .n) (s .levels) (s .depth)))) h (unfold coreOf inputsOf in start-fits))
+        (subst (λ (k : model.Level). CoreFits (coreApart (s .thresholds) (s .n) (s .m) (s .made) (s .rows) (s .rows) (s .divisors) (s .numbers) k (levelsFrom (s .n) (s .levels) (s .depth)))) h (unfold coreOf inputsOf in start-fits))
 
-    pub running-starts : (l : Level) → l ≡ getD (s .levels) (s .depth) noLevel → Whole l → length (s .numbers) ≡ 64 → length (s .levels) ≡ 33 →
-        Running (view (startOf s)) buffer limit keep (s .rows) (s .divisors) (s .n) (s .m) (s .budget) buffer rows (s .numbers) (s .levels) (s .made) (s .conflicts) (s .depth) l l (s .depth) 0 (s .propagations) (s .propagations)
-    running-starts l e w nl ll =
+    pub running-starts : (l : Level) → l ≡ getD (s .levels) (s .depth) noLevel → Whole l → length (s .numbers) ≡ 64 → length (s .levels) ≡ 33 → length (s .thresholds) ≡ 32 →
+        Running (view (startOf s)) buffer limit keep (s .thresholds) (s .rows) (s .divisors) (s .n) (s .m) (s .budget) buffer rows (s .numbers) (s .levels) (s .made) (s .conflicts) (s .depth) l l (s .depth) 0 (s .propagations) (s .propagations)
+    running-starts l e w nl ll tl =
         let h : levelAt (s .n) (s .levels) (s .depth) ≡ levelOf (s .n) l = unfold levelAt in ap (levelOf (s .n)) (sym e) in
         let z : limit - 0 ≡ limit = omega arith in
         rw (view-unmarked s (i .unmarked))
@@ -93,6 +93,7 @@ module _ {s : Search} {limit : ℕ} {keep : Bool} {room : ℕ} {buffer : List �
           rowsLong = p .long;
           numbersLong = nl;
           levelsLong = ll;
+          thresholdsLong = tl;
           apart = start-apart;
           fits = start-here l h;
           from = omega arith;
@@ -108,10 +109,10 @@ module _ {s : Search} {limit : ℕ} {keep : Bool} {room : ℕ} {buffer : List �
         })
 
 -- ---- the state at the end, with those rows put back
-pub view-restored : (n m budget conflicts tally made depth : ℕ) (status : Status) (rows lines divisors after : List ℤ) (numbers : List ℕ) (levels : List Level) (l : Level) →
+pub view-restored : (n m budget conflicts tally made depth : ℕ) (status : Status) (thresholds rows lines divisors after : List ℤ) (numbers : List ℕ) (levels : List Level) (l : Level) →
     Apart n m rows lines divisors → RowsPut n m divisors lines rows after → m ≤ maxConstraints → depth < length levels →
-    view (record { n = n; m = m; budget = budget; conflicts = conflicts; propagations = tally; made = made; depth = depth; status = status; rows = after; divisors = divisors; numbers = numbers; levels = set levels depth l }) ≡
-    stateAt lines divisors n m budget conflicts made depth (statusOf status) rows numbers levels l tally
+    view (record { n = n; m = m; budget = budget; conflicts = conflicts; propagations = tally; made = made; depth = depth; status = status; thresholds = thresholds; rows = after; divisors = divisors; numbers = numbers; levels = set levels depth l }) ≡
+    stateAt thresholds lines divisors n m budget conflicts made depth (statusOf status) rows numbers levels l tally
 unfolding view coreOf inputsOf coreOver
-view-restored n m budget conflicts tally made depth status rows lines divisors after numbers levels l a p few h =
+view-restored n m budget conflicts tally made depth status thresholds rows lines divisors after numbers levels l a p few h =
     rw (inputs-restored n m rows lines divisors after a p few, cuts-put n m made divisors lines rows after p few, level-here n levels depth l h, levels-above n levels depth depth l (omega arith))

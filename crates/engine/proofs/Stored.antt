@@ -32,9 +32,9 @@ module _ (n : ℕ) (levels : List Level) where
   level-under k (suc j) zero q s = let z : ⊥ = omega arith in absurd z
   level-under k (suc j) (suc d) q s = level-under k j d (omega arith) (s .1)
 
-module _ (lines divisors : List ℤ) (n m : ℕ) (rows : List ℤ) (numbers : List ℕ) (levels : List Level) (made depth : ℕ) (here : Level) (deep : depth < length levels)
-    (f : CoreFits (coreHere lines divisors n m rows numbers levels made depth here)) where
-  stored : CoreFits (coreApart n m made rows lines divisors numbers (levelAt n (set levels depth here) depth) (levelsFrom n (set levels depth here) depth))
+module _ (thresholds lines divisors : List ℤ) (n m : ℕ) (rows : List ℤ) (numbers : List ℕ) (levels : List Level) (made depth : ℕ) (here : Level) (deep : depth < length levels)
+    (f : CoreFits (coreHere thresholds lines divisors n m rows numbers levels made depth here)) where
+  stored : CoreFits (coreApart thresholds n m made rows lines divisors numbers (levelAt n (set levels depth here) depth) (levelsFrom n (set levels depth here) depth))
   stored = rw (level-here n levels depth here deep, levels-above n levels depth depth here (omega arith)) f
 
   pub stored-range : (k : ℕ) → k ≤ depth → T (allOf boundsInRange (levelAt n (set levels depth here) k .box))

@@ -175,21 +175,21 @@ ending-solution NoSolution t x h = impossible (cc)
 ending-solution OutOfBudget t x h = impossible (cc)
 ending-solution Solution t x h = refl
 
-depth-at : (lines divisors : List ℤ) (n m : ℕ) (rows : List ℤ) (numbers : List ℕ) (levels : List Level) (made depth : ℕ) (l : Level) → model.depth (coreHere lines divisors n m rows numbers levels made depth l) ≡ depth
+depth-at : (thresholds lines divisors : List ℤ) (n m : ℕ) (rows : List ℤ) (numbers : List ℕ) (levels : List Level) (made depth : ℕ) (l : Level) → model.depth (coreHere thresholds lines divisors n m rows numbers levels made depth l) ≡ depth
 unfolding model.depth coreOver
-depth-at lines divisors n m rows numbers levels made depth l = length-levels n levels depth
+depth-at thresholds lines divisors n m rows numbers levels made depth l = length-levels n levels depth
 
 pub concludes : {s : model.Search} {limit room n left many done : ℕ} {list list₁ : List ℤ} {Here : model.Search → Type 0} (k : Struck s limit room n list left many list₁ Here) → s .core .variables ≡ n →
-    {keep : Bool} {ending : Ending} {old now : List ℕ} (lines divisors : List ℤ) (m budget conflicts made depth : ℕ) (status : model.Status) (rows : List ℤ) (numbers : List ℕ) (levels : List Level) (l : Level) (tally : ℕ) →
-    Reaches (k .base) left keep ending done (stateAt lines divisors n m budget conflicts made depth status rows numbers levels l tally) old now → (ending ≡ Solution → (room - many ≡ 0) ⊎ ((depth ≡ 0) ⊎ (maxPropagations < tally))) →
-    (u : Search) → view u ≡ stateAt lines divisors n m budget conflicts made depth status rows numbers levels l tally →
+    {keep : Bool} {ending : Ending} {old now : List ℕ} (thresholds lines divisors : List ℤ) (m budget conflicts made depth : ℕ) (status : model.Status) (rows : List ℤ) (numbers : List ℕ) (levels : List Level) (l : Level) (tally : ℕ) →
+    Reaches (k .base) left keep ending done (stateAt thresholds lines divisors n m budget conflicts made depth status rows numbers levels l tally) old now → (ending ≡ Solution → (room - many ≡ 0) ⊎ ((depth ≡ 0) ⊎ (maxPropagations < tally))) →
+    (u : Search) → view u ≡ stateAt thresholds lines divisors n m budget conflicts made depth status rows numbers levels l tally →
     Advances s limit keep room (record { ending = ending; struck = many; blocks = done; state = u }) old now list list₁
 unfolding traceOf view
-concludes {s} {limit} {room} {n} {left} {many} {list₁ = list₁} k v {ending = ending} lines divisors m budget conflicts made depth status rows numbers levels here tally r f u e =
-    let t = stateAt lines divisors n m budget conflicts made depth status rows numbers levels here tally in
+concludes {s} {limit} {room} {n} {left} {many} {list₁ = list₁} k v {ending = ending} thresholds lines divisors m budget conflicts made depth status rows numbers levels here tally r f u e =
+    let t = stateAt thresholds lines divisors n m budget conflicts made depth status rows numbers levels here tally in
     let l : Trace = record { verdict = verdictOf ending t; count = t .conflicts; propagations = tally; blocks = r .blocks; state = t } in
     let way : record { struck = k .gone; last = l } ≡ advanceOver room limit s =
-    sym (k .way ∙ ap (listAfter (k .gone)) (list-ends (room - many) left (k .base) l depth tally (sym (r .trace)) (depth-at lines divisors n m rows numbers levels made depth here) refl (λ x h. f (ending-solution ending t x h))) ∙ after-end (k .gone) l) in
+    sym (k .way ∙ ap (listAfter (k .gone)) (list-ends (room - many) left (k .base) l depth tally (sym (r .trace)) (depth-at thresholds lines divisors n m rows numbers levels made depth here) refl (λ x h. f (ending-solution ending t x h))) ∙ after-end (k .gone) l) in
     record {
       struck = k .gone;
       howMany = sym (k .count);
@@ -206,24 +206,24 @@ unfolding levelOf boxOf lowers
 lowers-are n l = tab-map (λ (b : Bounds). b .lower) (boundsAt (l .lower) (l .upper)) 0 n ∙ (unfold boundsAt in refl)
 
 module _ {s : model.Search} {limit room n : ℕ} {list : List ℤ} {left many : ℕ} {list₁ : List ℤ} {Here : model.Search → Type 0} (u : Struck s limit room n list left many list₁ Here)
-    {old : List ℕ} {keep : Bool} {lines divisors : List ℤ} {m budget : ℕ} {now : List ℕ} {rows : List ℤ} {numbers : List ℕ} {levels : List Level} {made conflicts depth : ℕ} {level before : Level} {start done earlier tally : ℕ}
-    (r : Running (u .base) old left keep lines divisors n m budget now rows numbers levels made conflicts depth level before start done earlier tally)
-    (tally₁ : ℕ) {here : Level} (k : Back lines divisors n m rows numbers levels made depth here depth made rows) where
+    {old : List ℕ} {keep : Bool} {thresholds lines divisors : List ℤ} {m budget : ℕ} {now : List ℕ} {rows : List ℤ} {numbers : List ℕ} {levels : List Level} {made conflicts depth : ℕ} {level before : Level} {start done earlier tally : ℕ}
+    (r : Running (u .base) old left keep thresholds lines divisors n m budget now rows numbers levels made conflicts depth level before start done earlier tally)
+    (tally₁ : ℕ) {here : Level} (k : Back thresholds lines divisors n m rows numbers levels made depth here depth made rows) where
   abbrev core : model.Core
-  core = coreHere lines divisors n m rows numbers levels made depth here
+  core = coreHere thresholds lines divisors n m rows numbers levels made depth here
 
   abbrev found : model.Search
-  found = stateAt lines divisors n m budget conflicts made depth model.solved rows numbers levels here tally₁
+  found = stateAt thresholds lines divisors n m budget conflicts made depth model.solved rows numbers levels here tally₁
 
   -- the state after the strike
   abbrev pub struckTo : model.Search
-  struckTo = stepStart lines divisors n m budget conflicts rows numbers (set levels depth here) made (flippedTo k) (depth - 1) tally₁
+  struckTo = stepStart thresholds lines divisors n m budget conflicts rows numbers (set levels depth here) made (flippedTo k) (depth - 1) tally₁
 
   deep-here : model.depth core ≡ suc (depth - 1)
-  deep-here = depth-at lines divisors n m rows numbers levels made depth here ∙ one-more k
+  deep-here = depth-at thresholds lines divisors n m rows numbers levels made depth here ∙ one-more k
 
-  backed : backUp (suc (depth - 1)) core ≡ coreHere lines divisors n m rows numbers (set levels depth here) made (depth - 1) (flippedTo k)
-  backed = backed-here lines divisors n m made rows numbers levels depth here (inside k) (depth - 1) (omega (arith, k .some)) (flippedTo k) (flipped-is k)
+  backed : backUp (suc (depth - 1)) core ≡ coreHere thresholds lines divisors n m rows numbers (set levels depth here) made (depth - 1) (flippedTo k)
+  backed = backed-here thresholds lines divisors n m made rows numbers levels depth here (inside k) (depth - 1) (omega (arith, k .some)) (flippedTo k) (flipped-is k)
 
   strikes : tally₁ ≤ maxPropagations → excludeWithin found ≡ record { answer = struck; state = struckTo }
   unfolding exclude excludeBy
@@ -231,7 +231,7 @@ module _ {s : model.Search} {limit room n : ℕ} {list : List ℤ} {left many : 
       within-exclude found few ∙ ap (λ (d : ℕ). excludeAt d found) deep-here ∙
       (unfold excludeAt withStatus in ap (λ (c : model.Core). record { answer = struck; state = record { core = c; budget = budget; conflicts = conflicts; propagations = tally₁; status = model.undecided } }) backed)
 
-  pub struck-out : many < room → tally₁ ≤ maxPropagations → done < left → Propagates (coreHere lines divisors n m rows numbers levels made depth level) core finish tally tally₁ →
+  pub struck-out : many < room → tally₁ ≤ maxPropagations → done < left → Propagates (coreHere thresholds lines divisors n m rows numbers levels made depth level) core finish tally tally₁ →
       (next : List ℤ) → ValuesPut n many (here .lower) list₁ next → length next ≡ length list₁ → {There : model.Search → Type 0} → There struckTo → Struck s limit room n list (left - done) (many + 1) next There
   unfolding verdictOf coreOver
   struck-out more few h p next q size {There} t =
@@ -240,7 +240,7 @@ module _ {s : model.Search} {limit room n : ℕ} {list : List ℤ} {left many : 
       (struck-more u more _ (here .lower) struckTo (sym (f .trace)) (ap solution (lowers-are n here)) (strikes few) next q size t)
 
   -- the turns go on from there
-  pub struck-on : keep ≡ false → tally₁ ≤ maxPropagations → Running struckTo old (left - done) keep lines divisors n m budget now rows numbers (set levels depth here) made conflicts (depth - 1) (flippedTo k) (flippedTo k) (depth - 1) 0 tally₁ tally₁
+  pub struck-on : keep ≡ false → tally₁ ≤ maxPropagations → Running struckTo old (left - done) keep thresholds lines divisors n m budget now rows numbers (set levels depth here) made conflicts (depth - 1) (flippedTo k) (flippedTo k) (depth - 1) 0 tally₁ tally₁
   struck-on off few =
       let z : left - done - 0 ≡ left - done = omega arith in
       let fits = subst CoreFits backed (back-fits (depth - 1) core (k .fits) (omega (arith, deep-here))) in
@@ -251,6 +251,7 @@ module _ {s : model.Search} {limit room n : ℕ} {list : List ℤ} {left many : 
         rowsLong = r .rowsLong;
         numbersLong = r .numbersLong;
         levelsLong = length-set levels depth here ∙ r .levelsLong;
+        thresholdsLong = r .thresholdsLong;
         apart = r .apart;
         fits = fits;
         from = omega arith;

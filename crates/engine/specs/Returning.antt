@@ -3,20 +3,20 @@ use Prim.Native.Nat.{ℕ, _+_, _≤_, _<_}
 use mathlib.Core.Bool.{false}
 use mathlib.Core.List.{List}
 use mathlib.Core.Path.{_≡_}
-use lib.IntN.{ℤ, pos, _+ℤ_}
+use lib.IntN.{ℤ}
 use lib.ListN.{set}
 use Rattle.model.specs.Ranges.{maxVariables}
 use Rattle.model.specs.Constraint.{falsified}
-use Rattle.layout.specs.Rows.{numberIn, inputAt, boxOf}
+use Rattle.layout.specs.Rows.{inputAt, boxOf}
 use Rattle.state.specs.View.{keptCuts, flippedReason}
 use Rattle.propagate.specs.Tracked.{Tracked}
 use Rattle.propagate.specs.Divided.{keptOver, Apart, Due, Everyone, Columns, Warned}
-use Rattle.backtrack.specs.Jumps.{Flippable}
+use Rattle.backtrack.specs.Jumps.{Flippable, nextIn}
 
 -- a level that lies at depth `low` or deeper falsifies no input
-pub record Returnable (n m made i depth low divided : ℕ) (columns : List ℕ) (rows lines divisors lower upper olds limits : List ℤ) (gones counts : List ℕ) (activities reaches : List ℤ) : Type 0 where
+pub record Returnable (n m made i depth low divided : ℕ) (columns : List ℕ) (thresholds rows lines divisors lower upper olds limits : List ℤ) (gones counts : List ℕ) (activities reaches : List ℤ) : Type 0 where
   pub few : n ≤ maxVariables
-  pub flippable : Flippable n m made rows lower upper i depth olds limits gones counts
+  pub flippable : Flippable n m made thresholds rows lower upper i depth olds limits gones counts
   pub lengths : Tracked n rows lower upper activities reaches 0
   pub apart : Apart n m rows lines divisors
   pub every : Due m divisors Everyone divided
@@ -24,7 +24,7 @@ pub record Returnable (n m made i depth low divided : ℕ) (columns : List ℕ) 
   pub clear : low ≤ depth → (j : ℕ) → j < m → falsified (inputAt n lines divisors j) (boxOf n lower upper) ≡ false
 
 -- r tells the first constraint that the level falsifies now
-pub record Returned (n m made i : ℕ) (rows lines divisors lower upper : List ℤ) (below : List ℕ) (lower₁ : List ℤ) (below₁ : List ℕ) (activities reaches : List ℤ) (r : ℕ) : Type 0 where
-  pub bound : lower₁ ≡ set lower i (numberIn lower i +ℤ pos 1)
+pub record Returned (n m made i : ℕ) (thresholds rows lines divisors lower upper : List ℤ) (below : List ℕ) (lower₁ : List ℤ) (below₁ : List ℕ) (activities reaches : List ℤ) (r : ℕ) : Type 0 where
+  pub bound : lower₁ ≡ set lower i (nextIn thresholds lower i)
   pub why : below₁ ≡ set below i flippedReason
   pub falsifies : Warned (keptOver n m made rows lines divisors) n rows lower₁ upper activities reaches (m + keptCuts made) r

@@ -4,13 +4,13 @@ use crate::Ending;
 use crate::apart::lesser;
 use crate::apart::put_rows;
 use crate::back::go_back;
-use crate::conflict::conflict;
 use crate::track::track;
 use backtrack::decide;
 use backtrack::mirror::keep_bounds;
 use backtrack::mirror::mirror;
 use backtrack::struck::is_last;
 use backtrack::struck::put_values;
+use conflict::conflict;
 use propagate::divided::columns;
 use propagate::divided::divided_mask;
 use propagate::divided::first_indivisible;
@@ -39,6 +39,7 @@ pub fn advance(
     let n = s.n;
     let m = s.m;
     let budget = s.budget;
+    let thresholds = s.thresholds;
     let divisors = s.divisors;
     let lines = s.rows;
     let mut rows = s.rows;
@@ -109,6 +110,7 @@ pub fn advance(
             made,
             &inputs,
             &cuts,
+            &thresholds,
             told,
             propagations,
             &mut lower,
@@ -237,6 +239,7 @@ pub fn advance(
             flipped,
             depth,
             low,
+            &thresholds,
             &upper,
             &olds,
             &limits,
@@ -273,6 +276,7 @@ pub fn advance(
             made,
             depth: start,
             status,
+            thresholds,
             rows,
             divisors,
             numbers,

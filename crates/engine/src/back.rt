@@ -18,6 +18,7 @@ pub fn go_back<'a>(
     i: usize,
     depth: usize,
     low: usize,
+    thresholds: &'a [i64; 32],
     upper: &'a [i64; 32],
     olds: &'a [i64; 4224],
     limits: &'a [i64; 4224],
@@ -28,8 +29,8 @@ pub fn go_back<'a>(
     activities: &mut [i64; 128],
     reaches: &mut [i64; 128],
 ) -> usize
-    requires { ⌜ Returnable n m made i depth low divided (now mentions) (now rows) (now lines) (now divisors) (now lower) (now upper) (now olds) (now limits) (now gones) (now counts) (now activities) (now reaches) ⌝ }
-    ensures { λ r. ⌜ Returned n m made i (now (rows .entry)) (now (lines .entry)) (now (divisors .entry)) (now (lower .entry)) (now (upper .entry)) (now (below .entry)) (now (lower .exit)) (now (below .exit)) (now (activities .exit)) (now (reaches .exit)) r ⌝ }
+    requires { ⌜ Returnable n m made i depth low divided (now mentions) (now thresholds) (now rows) (now lines) (now divisors) (now lower) (now upper) (now olds) (now limits) (now gones) (now counts) (now activities) (now reaches) ⌝ }
+    ensures { λ r. ⌜ Returned n m made i (now (thresholds .entry)) (now (rows .entry)) (now (lines .entry)) (now (divisors .entry)) (now (lower .entry)) (now (upper .entry)) (now (below .entry)) (now (lower .exit)) (now (below .exit)) (now (activities .exit)) (now (reaches .exit)) r ⌝ }
 {
     let first = backjump(
         rows,
@@ -38,6 +39,7 @@ pub fn go_back<'a>(
         made,
         i,
         depth,
+        thresholds,
         upper,
         olds,
         limits,

@@ -4,8 +4,6 @@ use state::Search;
 pub mod advance;
 pub mod apart;
 pub mod back;
-pub mod conflict;
-pub mod learn;
 pub mod track;
 
 // How turns repeated end: after as many as were asked for, or with a verdict.

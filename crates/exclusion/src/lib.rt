@@ -17,6 +17,7 @@ pub fn strike(s: Search) -> Search
     requires { ⌜ Valid (view s) × (0 < s .depth) ⌝ }
     ensures { λ r. ⌜ view r ≡ withStatus (view s) (backUp (s .depth) (view s .core)) undecided ⌝ }
 {
+    let thresholds = s.thresholds;
     let rows = s.rows;
     let divisors = s.divisors;
     let numbers = s.numbers;
@@ -30,7 +31,7 @@ pub fn strike(s: Search) -> Search
     let upper = o.upper;
     let mut below = o.below;
     let above = o.above;
-    flip(d.decided, &mut lower, &mut below);
+    flip(d.decided, &thresholds, &mut lower, &mut below);
     levels[back] = Level {
         lower,
         upper,
@@ -47,6 +48,7 @@ pub fn strike(s: Search) -> Search
         made: s.made,
         depth: back,
         status: Status::Undecided,
+        thresholds,
         rows,
         divisors,
         numbers,

@@ -13,7 +13,7 @@ use mir.Val.{SFits, toZ, ofZ}
 use mir.Facts.{toZ-ofZ}
 use Rattle.model.specs.Bytes.{i32At, block}
 use Rattle.model.specs.Constraint.{coefficientAt}
-use Rattle.model.specs.File.{variablesIn, boundsOffset, coefficientOffset, divisorOffset, coefficientIn, constraintIn, constraintOf}
+use Rattle.model.specs.File.{variablesIn, boundsOffset, thresholdOffset, thresholdIn, coefficientOffset, divisorOffset, coefficientIn, constraintIn, constraintOf}
 use Rattle.model.specs.Lists.{tab}
 use Rattle.lists.proofs.Tab.{length-tab, getD-tab, getD-tab-past, tab-more}
 use Rattle.layout.specs.Rows.{rowLength}
@@ -66,3 +66,8 @@ divisor-is f j r e = e ∙ rw (part-is f (j + 1), add-one j)
 pub bound-is : (f : List ℕ) (side i a : ℕ) (r : ℤ) → a ≡ boundsOffset i → r ≡ i32At f (a + side) → r ≡ boundIn f side i
 unfolding boundIn
 bound-is f side i a r ea e = rw (← ea) e
+
+-- ---- the thresholds
+pub threshold-is : (f : List ℕ) (i a : ℕ) (r : ℤ) → a ≡ thresholdOffset i → r ≡ i32At f a → r ≡ thresholdIn f i
+unfolding thresholdIn
+threshold-is f i a r ea e = rw (← ea) e

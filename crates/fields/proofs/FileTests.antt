@@ -9,7 +9,7 @@ use lib.Dec.{eqb}
 use lib.ListN.{take, drop, length}
 use borrow.Author.Tests.{le-leb, lt-leb, eq-eqb, eqb-true, not-true, not-false}
 use Rattle.model.specs.Bytes.{Bytes, u32At, u32Bytes, u16Bytes, blockLength, checkOffset, block, checksum, zeroBetween, zeroFrom}
-use Rattle.model.specs.File.{magic, variablesIn, constraintsIn, budgetIn, boundsOffset, coefficientOffset, divisorOffset, problemIn, wholeBlocks, checkMatches, checksMatch, magicMatches, blockCountMatches, blockPadded, constraintPadded, paddingZero}
+use Rattle.model.specs.File.{magic, variablesIn, constraintsIn, budgetIn, boundsOffset, coefficientOffset, divisorOffset, thresholdOffset, problemIn, wholeBlocks, checkMatches, checksMatch, magicMatches, blockCountMatches, blockPadded, constraintPadded, headPadded, paddingZero}
 use Rattle.model.specs.Lists.{tab, all}
 use Rattle.model.specs.Problem.{sizesInRange}
 use Rattle.lists.proofs.All.{all-more, all-end, all-fails}
@@ -102,11 +102,21 @@ module _ (b : List ℕ) (n a : ℕ) (ea : a ≡ 4 * (n + 1)) (r : Bool) (e : r �
   unfolding blockPadded
   stray-after t h z = rw (before-test, not-false r h) z
 
+-- the head's, before its thresholds and after them
+module _ (b : List ℕ) (n a d : ℕ) (ea : a ≡ boundsOffset n) (ed : d ≡ thresholdOffset 0) (r : Bool) (e : r ≡ zeroBetween a d b) where
+  pub head-before : not r ≡ true → false ≡ headPadded n b
+  unfolding headPadded
+  head-before h = rw (← ea, ← ed, ← e, not-true r h)
+
+  pub head-after : (t : Bool) (x : ℕ) → x ≡ thresholdOffset n → not r ≡ false → t ≡ zeroFrom x b → t ≡ headPadded n b
+  unfolding headPadded
+  head-after t x ex h z = rw (← ea, ← ed, ← ex, ← e, not-false r h) z
+
 module _ (f : List ℕ) (n : ℕ) (en : n ≡ variablesIn f) where
-  module _ (a : ℕ) (ea : a ≡ boundsOffset n) (r : Bool) (e : r ≡ zeroFrom a (take blockLength f)) where
-    head-test : zeroFrom (boundsOffset (variablesIn f)) (block f 0) ≡ r
+  module _ (r : Bool) (e : r ≡ headPadded n (take blockLength f)) where
+    head-test : headPadded (variablesIn f) (block f 0) ≡ r
     unfolding block
-    head-test = rw (← en, ← ea) (sym e)
+    head-test = rw (← en) (sym e)
 
     pub head-nonzero : not r ≡ true → false ≡ paddingZero f
     unfolding paddingZero
@@ -127,4 +137,4 @@ module _ (f : List ℕ) (n : ℕ) (en : n ≡ variablesIn f) where
     pub padding-nonzero : (m : ℕ) → m ≡ constraintsIn f → j < m → not r ≡ true → false ≡ paddingZero f
     unfolding paddingZero
     padding-nonzero m em l h =
-        rw (← em, all-fails (constraintPadded f) m j l (padded-test ∙ not-true r h)) (sym (and-false (zeroFrom (boundsOffset (variablesIn f)) (block f 0))))
+        rw (← em, all-fails (constraintPadded f) m j l (padded-test ∙ not-true r h)) (sym (and-false (headPadded (variablesIn f) (block f 0))))

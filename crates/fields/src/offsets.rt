@@ -2,7 +2,7 @@
 ghost use mathlib.Core.Path.{_≡_};
 ghost use Prim.Native.Nat.{_*_, _≤_};
 ghost use Rattle.model.specs.Ranges.{maxVariables};
-ghost use Rattle.model.specs.File.{boundsOffset};
+ghost use Rattle.model.specs.File.{boundsOffset, thresholdOffset};
 ghost use Rattle.layout.specs.Rows.{rowLength};
 
 // The letters BLUE, as a number of four bytes at the head's start.
@@ -27,6 +27,14 @@ pub fn bounds_offset(i: usize) -> usize
     ensures { λ r. ⌜ (r ≡ boundsOffset i) × (r ≤ 268) ⌝ }
 {
     12 + 8 * i
+}
+
+// The threshold of variable i in the head, whatever n is.
+pub fn threshold_offset(i: usize) -> usize
+    requires { ⌜ i ≤ maxVariables ⌝ }
+    ensures { λ r. ⌜ (r ≡ thresholdOffset i) × (r ≤ 396) ⌝ }
+{
+    268 + 4 * i
 }
 
 // The divisor of a constraint in its block, whatever n is, and what follows it.

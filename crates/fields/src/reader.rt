@@ -9,7 +9,7 @@ ghost use Prim.Native.Nat.{_*_, _<_, _≤_};
 ghost use lib.ListN.{length};
 ghost use Rattle.model.specs.Ranges.{maxVariables};
 ghost use Rattle.model.specs.Bytes.{blockLength};
-ghost use Rattle.model.specs.File.{variablesIn, constraintsIn, budgetIn, wholeBlocks, checksMatch, magicMatches, blockPadded, paddingZero};
+ghost use Rattle.model.specs.File.{variablesIn, constraintsIn, budgetIn, wholeBlocks, checksMatch, magicMatches, blockPadded, headPadded, thresholdIn, paddingZero};
 ghost use Rattle.layout.specs.Rows.{rowLength};
 ghost use Rattle.fields.specs.Fields.{sizesMatch, Blocks, room, cells, divisorRoom, filled, boundIn, cellIn, divisorIn};
 
@@ -95,6 +95,17 @@ fn is_padded(b: &[u8], n: usize) -> bool
     check::is_zero_from(b, offsets::DIVISOR_END)
 }
 
+// Whether the bytes of the head that should be zero are: before its thresholds and after them.
+fn is_head_padded(b: &[u8], n: usize) -> bool
+    requires { ⌜ (length (now b) ≡ blockLength) × (n ≤ maxVariables) ⌝ }
+    ensures { λ r. ⌜ r ≡ headPadded n (now (b .entry)) ⌝ }
+{
+    if !check::is_zero_between(b, offsets::bounds_offset(n), offsets::threshold_offset(0)) {
+        return false;
+    }
+    check::is_zero_from(b, offsets::threshold_offset(n))
+}
+
 // 7, 'stray': whether every byte that should be zero is.
 pub fn padding_zero(file: &[u8]) -> bool
     requires { ⌜ Blocks (now file) ⌝ }
@@ -102,7 +113,7 @@ pub fn padding_zero(file: &[u8]) -> bool
 {
     let n = variables_in(file);
     let m = constraints_in(file);
-    if !check::is_zero_from(&file[0..block::LENGTH], offsets::bounds_offset(n)) {
+    if !is_head_padded(&file[0..block::LENGTH], n) {
         return false;
     }
     let mut j: usize = 0;
@@ -129,6 +140,20 @@ pub fn bounds_in(file: &[u8], n: usize, side: usize) -> [i64; 32]
         i += 1;
     }
     bounds
+}
+
+// The thresholds of n variables; 0 past the last one.
+pub fn thresholds_in(file: &[u8], n: usize) -> [i64; 32]
+    requires { ⌜ (blockLength ≤ length (now file)) × (n ≤ maxVariables) ⌝ }
+    ensures { λ r. ⌜ r ≡ filled (thresholdIn (now (file .entry))) n room ⌝ }
+{
+    let mut thresholds = [0i64; 32];
+    let mut i: usize = 0;
+    while i < n {
+        thresholds[i] = number::i32_at(file, offsets::threshold_offset(i));
+        i += 1;
+    }
+    thresholds
 }
 
 // Number c of the rows, which stands in constraint c / 33; 0 past the last variable.

@@ -9,8 +9,8 @@ use borrow.Author.Tests.{leb-true, eq-eqb}
 use Rattle.model.specs.Ranges.{maxVariables, maxConstraints, maxBudget}
 use Rattle.model.specs.Lists.{all, allOf}
 use Rattle.model.specs.Bytes.{block}
-use Rattle.model.specs.Problem.{Problem, variables, sizesInRange, domainInRange, constraintsInRange, divisorsInRange, firstError}
-use Rattle.model.specs.File.{variablesIn, constraintsIn, boundsIn, constraintIn, coefficientIn, constraintOf, problemIn, wholeBlocks, checksMatch, magicMatches, blockCountMatches, paddingZero, readError}
+use Rattle.model.specs.Problem.{Problem, variables, sizesInRange, domainInRange, thresholdsInRange, constraintsInRange, divisorsInRange, firstError}
+use Rattle.model.specs.File.{variablesIn, constraintsIn, boundsIn, thresholdIn, constraintIn, coefficientIn, constraintOf, problemIn, wholeBlocks, checksMatch, magicMatches, blockCountMatches, paddingZero, readError}
 use Rattle.model.specs.Validity.{constraintShaped}
 use Rattle.lists.proofs.Bools.{T-of, and-true}
 use Rattle.lists.proofs.Tab.{length-tab}
@@ -47,6 +47,7 @@ pub record Tests (f : List ℕ) : Type 0 where
   pub sized : sizesInRange (problemIn f) ≡ true
   pub counted : blockCountMatches f ≡ true
   pub bounded : domainInRange (problemIn f) ≡ true
+  pub threshold-range : thresholdsInRange (problemIn f) ≡ true
   pub coefficient-range : constraintsInRange (problemIn f) ≡ true
   pub divisor-range : divisorsInRange (problemIn f) ≡ true
   pub clean : paddingZero f ≡ true
@@ -59,20 +60,36 @@ tests f e =
     let e₃ = passed 2 (magicMatches f) _ (e₂ .1) in
     let e₄ = passed 3 (sizesInRange (problemIn f) && blockCountMatches f) _ (e₃ .1) in
     let e₅ = passed 4 (domainInRange (problemIn f)) _ (e₄ .1) in
-    let e₆ = passed 5 (constraintsInRange (problemIn f)) _ (e₅ .1) in
-    let e₇ = passed 9 (divisorsInRange (problemIn f)) _ (e₆ .1) in
-    let e₈ = passed 6 (paddingZero f) _ (e₇ .1) in
+    let e₆ = passed 12 (thresholdsInRange (problemIn f)) _ (e₅ .1) in
+    let e₇ = passed 5 (constraintsInRange (problemIn f)) _ (e₆ .1) in
+    let e₈ = passed 9 (divisorsInRange (problemIn f)) _ (e₇ .1) in
+    let e₉ = passed 6 (paddingZero f) _ (e₈ .1) in
     let s = and-true (sizesInRange (problemIn f)) (blockCountMatches f) (e₄ .0) in
-    record { whole = e₁ .0; checked = e₂ .0; lettered = e₃ .0; sized = s .0; counted = s .1; bounded = e₅ .0; coefficient-range = e₆ .0; divisor-range = e₇ .0; clean = e₈ .0 }
+    record {
+      whole = e₁ .0;
+      checked = e₂ .0;
+      lettered = e₃ .0;
+      sized = s .0;
+      counted = s .1;
+      bounded = e₅ .0;
+      threshold-range = e₆ .0;
+      coefficient-range = e₇ .0;
+      divisor-range = e₈ .0;
+      clean = e₉ .0;
+    }
 
 pub no-error : (f : List ℕ) → Tests f → readError f ≡ 0
 unfolding readError firstError
-no-error f a = rw (a .whole, a .checked, a .lettered, a .sized, a .counted, a .bounded, a .coefficient-range, a .divisor-range, a .clean)
+no-error f a = rw (a .whole, a .checked, a .lettered, a .sized, a .counted, a .bounded, a .threshold-range, a .coefficient-range, a .divisor-range, a .clean)
 
 -- ---- the problem in a file has the sizes that its head says
 pub variables-in : (f : List ℕ) → variables (problemIn f) ≡ variablesIn f
 unfolding variables problemIn
 variables-in f = length-tab (boundsIn f) 0 (variablesIn f)
+
+pub thresholds-in : (f : List ℕ) → length (problemIn f .thresholds) ≡ variables (problemIn f)
+unfolding problemIn
+thresholds-in f = length-tab (thresholdIn f) 0 (variablesIn f) ∙ sym (variables-in f)
 
 pub constraints-in : (f : List ℕ) → length (problemIn f .constraints) ≡ constraintsIn f
 unfolding problemIn
@@ -85,6 +102,9 @@ module _ (f : List ℕ) (e : readError f ≡ 0) where
 
   pub accepted-domain : T (domainInRange (problemIn f))
   accepted-domain = T-of (tests f e .bounded)
+
+  pub accepted-thresholds : T (thresholdsInRange (problemIn f))
+  accepted-thresholds = T-of (tests f e .threshold-range)
 
   pub accepted-constraints : T (constraintsInRange (problemIn f))
   accepted-constraints = T-of (tests f e .coefficient-range)

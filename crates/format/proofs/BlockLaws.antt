@@ -2,15 +2,15 @@
 use Prim.Native.Nat.{ℕ, suc, _+_, _*_, _%_, _^_, _-_, _<_, _≤_}
 use native.Mathlib.Omega.{arith}
 use native.Mathlib.Nat.{mod-lt}
-use mathlib.Core.Bool.{true}
+use mathlib.Core.Bool.{true, _&&_}
 use mathlib.Core.Path.{_≡_, refl, sym, ap, ap₂, _∙_}
-use mathlib.Core.List.{List, [], _∷_, _++_}
+use mathlib.Core.List.{List, [], _∷_, _++_, append-assoc}
 use borrow.Author.Tests.{eqb-true}
 use lib.ListN.{take, drop, length, replicate, length-append, length-replicate, length-drop, take-append-drop}
 use lib.Seq.{take-add, take-all, take-at, drop-at, take-take, drop-append-seam, length-take-le}
 use Rattle.model.specs.Lists.{tab, sum, allOf}
 use Rattle.model.specs.Bytes.{Bytes, u32At, u32Bytes, blockLength, checkOffset, block, wordAt, checksum, isZero, zeroBetween, zeroFrom, paddedTo, padded, sealed}
-use Rattle.lists.proofs.Bools.{and-true}
+use Rattle.lists.proofs.Bools.{and-true, and-both}
 use Rattle.lists.proofs.Tab.{tab-ext-0}
 use Rattle.lists.proofs.AllOf.{allOf-replicate}
 use Rattle.format.proofs.ByteLaws.{bytes-append, bytes-take, bytes-drop, bytes-zeros, bytes-u32, length-u32, u32-take, u32-read, u32-written}
@@ -86,6 +86,34 @@ pub sealed-zero : (k : ℕ) (c : List ℕ) → length c ≤ checkOffset → zero
 unfolding zeroFrom sealed padded
 sealed-zero k c l = padded-zero checkOffset c (u32Bytes (checksum k (padded c))) l
 
+-- ---- a content of two fields, c and d, with zeros from c up to d's place e
+-- what a sealed block has after its content, and after the first of its two fields
+pub end : ℕ → List ℕ → List ℕ
+end k c = replicate (checkOffset - length c) 0 ++ u32Bytes (checksum k (padded c))
+
+pub after : ℕ → ℕ → List ℕ → List ℕ → List ℕ
+after k e c d = replicate (e - length c) 0 ++ (d ++ end k (paddedTo e c ++ d))
+
+pub length-two : (e : ℕ) (c d : List ℕ) (n : ℕ) → length c ≤ e → length d ≡ n → length (paddedTo e c ++ d) ≡ e + n
+length-two e c d n l h = length-append (paddedTo e c) d ∙ omega (arith, length-padded-to e c l)
+
+module _ (k e : ℕ) (c d : List ℕ) where
+  pub first-stands : sealed k (paddedTo e c ++ d) ≡ c ++ after k e c d
+  unfolding sealed padded paddedTo end after
+  first-stands = simp append-assoc
+
+  pub second-stands : sealed k (paddedTo e c ++ d) ≡ paddedTo e c ++ (d ++ end k (paddedTo e c ++ d))
+  unfolding sealed padded paddedTo end
+  second-stands = simp append-assoc
+
+  pub two-zero : (i n : ℕ) → length c ≡ i → length d ≡ n → i ≤ e → e + n ≤ checkOffset →
+      (zeroBetween i e (sealed k (paddedTo e c ++ d)) && zeroFrom (e + n) (sealed k (paddedTo e c ++ d))) ≡ true
+  two-zero i n a b l m =
+      let whole = length-two e c d n (omega arith) b in
+      let between : zeroBetween i e (sealed k (paddedTo e c ++ d)) ≡ true = rw (second-stands, ← a) (padded-zero e c (d ++ end k (paddedTo e c ++ d)) (omega arith)) in
+      let last : zeroFrom (e + n) (sealed k (paddedTo e c ++ d)) ≡ true = rw (← whole) (sealed-zero k (paddedTo e c ++ d) (omega arith)) in
+      and-both between last
+
 -- ---- a block that is zero after its content, with the right check, is its content sealed
 zeros-are : (s : List ℕ) → allOf isZero s ≡ true → s ≡ replicate (length s) 0
 unfolding allOf isZero
@@ -101,6 +129,9 @@ padded-of b i e l h z =
     let ld : length (drop i (take e b)) ≡ e - i = length-drop i (take e b) ∙ rw (length-take-le e b l) in
     let zeros : replicate (e - i) 0 ≡ drop i (take e b) = sym (zeros-are (drop i (take e b)) z ∙ ap (λ (n : ℕ). replicate n 0) ld) in
     rw (li, zeros, ← take-take i e b h) (take-append-drop i (take e b))
+
+pub two-of : (b : List ℕ) (i e n : ℕ) → e + n ≤ length b → i ≤ e → zeroBetween i e b ≡ true → paddedTo e (take i b) ++ take n (drop e b) ≡ take (e + n) b
+two-of b i e n l h z = rw (padded-of b i e (omega arith) h z) (sym (take-add e n b))
 
 pub sealed-of : (b : List ℕ) (i : ℕ) → length b ≡ blockLength → i ≤ checkOffset → zeroFrom i b ≡ true → (k : ℕ) → Bytes b → checksum k b ≡ u32At b checkOffset → sealed k (take i b) ≡ b
 unfolding sealed padded zeroFrom

@@ -13,16 +13,17 @@ use borrow.Author.Tests.{eqb-true, le-leb}
 use Rattle.model.specs.Lists.{tab, parts, all}
 use Rattle.model.specs.Ranges.{maxVariables}
 use Rattle.model.specs.Constraint.{Bounds, noBounds, lowerAt, upperAt, coefficientAt}
+use Rattle.model.specs.Threshold.{thresholdAt}
 use Rattle.model.specs.Problem.{firstError}
 use Rattle.model.specs.Bytes.{Bytes, u16At, u32At, i32Bytes, checkOffset, block, checksum, zeroBetween, zeroFrom}
-use Rattle.model.specs.File.{magic, variablesIn, constraintsIn, budgetIn, boundsOffset, boundsIn, coefficientOffset, divisorOffset, coefficientIn, constraintIn, constraintOf, problemIn, checkMatches, checksMatch, magicMatches, blockCountMatches, blockPadded, constraintPadded, paddingZero, readError, boundsBytes, headBytes, coefficientBytes, numbersBytes, constraintBytes, noConstraint, blockOf, fileOf, fileLength, writeError, writtenBy, writeFile}
+use Rattle.model.specs.File.{magic, variablesIn, constraintsIn, budgetIn, boundsOffset, boundsIn, thresholdOffset, thresholdIn, coefficientOffset, divisorOffset, coefficientIn, constraintIn, constraintOf, problemIn, checkMatches, checksMatch, magicMatches, blockCountMatches, blockPadded, constraintPadded, headPadded, paddingZero, readError, boundsBytes, thresholdBytes, limitsBytes, headBytes, coefficientBytes, numbersBytes, constraintBytes, noConstraint, blockOf, fileOf, fileLength, writeError, writtenBy, writeFile}
 use Rattle.lists.proofs.Bools.{and-true}
 use Rattle.lists.proofs.Tab.{getD-tab}
 use Rattle.lists.proofs.Parts.{parts-of}
 use Rattle.lists.proofs.All.{all-at}
 use Rattle.lists.proofs.AllPairs.{pairs-equal}
 use Rattle.format.proofs.ByteLaws.{join, u16-written, u32-written, i32-written}
-use Rattle.format.proofs.BlockLaws.{bytes-block, length-block, padded-of, sealed-of}
+use Rattle.format.proofs.BlockLaws.{bytes-block, length-block, two-of, sealed-of}
 use Rattle.format.proofs.AcceptedShape.{sizes, Tests, tests, variables-in, constraints-in}
 
 -- ---- a constraint's bytes, from the block that it stands in
@@ -39,7 +40,7 @@ module _ (b : List ℕ) (y : Bytes b) (n : ℕ) (few : n ≤ maxVariables) (l : 
   constraint-is : zeroBetween (4 + 4 * n) divisorOffset b ≡ true → constraintBytes n (constraintIn n b) ≡ take (divisorOffset + 4) b
   unfolding constraintBytes constraintIn
   constraint-is z =
-      rw (numbers-are, padded-of b (4 + 4 * n) divisorOffset (omega arith) (omega arith) z, i32-written b y divisorOffset l) (join b 0 divisorOffset 4)
+      rw (numbers-are, i32-written b y divisorOffset l) (two-of b (4 + 4 * n) divisorOffset 4 l (omega arith) z)
 
 first-block : (f : List ℕ) (n : ℕ) → n ≤ 512 → take n f ≡ take n (block f 0)
 unfolding block
@@ -76,19 +77,33 @@ module _ (f : List ℕ) (y : Bytes f) (a : Tests f) where
       rw (i32-written f y (12 + 8 * i) (omega (arith, few, long)), i32-written f y (12 + 8 * i + 4) (omega (arith, few, long)))
       (join f (12 + 8 * i) 4 4)
 
-  head-is : headBytes (problemIn f) ≡ take (12 + 8 * variablesIn f) f
-  unfolding headBytes variablesIn constraintsIn budgetIn problemIn
-  head-is =
+  limits-are : limitsBytes (problemIn f) ≡ take (12 + 8 * variablesIn f) f
+  unfolding limitsBytes variablesIn constraintsIn budgetIn problemIn
+  limits-are =
       let x = 8 * u16At f 4 in
       let total : 4 + (2 + (2 + (4 + 8 * u16At f 4))) ≡ 12 + 8 * u16At f 4 = omega arith in
       let bounds : parts (boundsBytes (problemIn f)) 0 (u16At f 4) ≡ take (8 * u16At f 4) (drop 12 f) = parts-of 8 12 f (boundsBytes (problemIn f)) (u16At f 4) bounds-is in
       rw (variables-in f, constraints-in f, ← magic-is, u16-written f y 4 (omega (arith, long)), u16-written f y 6 (omega (arith, long)), u32-written f y 8 (omega (arith, long)), bounds)
       (rw (join f 8 4 x, join f 6 2 (4 + x), join f 4 2 (2 + (4 + x)), join f 0 4 (2 + (2 + (4 + x)))) (ap (λ (n : ℕ). take n f) total))
 
+  threshold-is : (i : ℕ) → i < variablesIn f → thresholdBytes (problemIn f) i ≡ take 4 (drop (268 + 4 * i) f)
+  unfolding thresholdBytes thresholdAt problemIn thresholdIn thresholdOffset
+  threshold-is i l = ap i32Bytes (getD-tab (thresholdIn f) (variablesIn f) i (pos 0) l) ∙ i32-written f y (268 + 4 * i) (omega (arith, few, long))
+
   -- ---- its blocks
-  padding : (zeroFrom (12 + 8 * variablesIn f) (block f 0) ≡ true) × (all (tab (constraintPadded f) 0 (constraintsIn f)) ≡ true)
-  unfolding paddingZero boundsOffset
+  padding : (headPadded (variablesIn f) (block f 0) ≡ true) × (all (tab (constraintPadded f) 0 (constraintsIn f)) ≡ true)
+  unfolding paddingZero
   padding = and-true _ _ (a .clean)
+
+  head-padding : (zeroBetween (12 + 8 * variablesIn f) 268 f ≡ true) × (zeroFrom (268 + 4 * variablesIn f) (block f 0) ≡ true)
+  unfolding headPadded boundsOffset thresholdOffset zeroBetween
+  head-padding = rw (first-block f 268 (omega arith)) (and-true _ _ (padding .0))
+
+  head-is : headBytes (problemIn f) ≡ take (268 + 4 * variablesIn f) f
+  unfolding headBytes thresholdOffset
+  head-is =
+      rw (limits-are, variables-in f, parts-of 4 268 f (thresholdBytes (problemIn f)) (variablesIn f) threshold-is)
+      (two-of f (12 + 8 * variablesIn f) 268 (4 * variablesIn f) (omega (arith, few, long)) (omega (arith, few)) (head-padding .0))
 
   constraint-in : (j : ℕ) → j < constraintsIn f → getD (problemIn f .constraints) j noConstraint ≡ constraintIn (variablesIn f) (block f (suc j))
   unfolding problemIn constraintOf
@@ -97,9 +112,9 @@ module _ (f : List ℕ) (y : Bytes f) (a : Tests f) where
   block-is : (k : ℕ) → k < suc (constraintsIn f) → blockOf (problemIn f) k ≡ block f k
   unfolding blockOf constraintPadded blockPadded coefficientOffset
   block-is zero l =
-      let n = 12 + 8 * variablesIn f in
-      rw (head-is, first-block f (12 + 8 * variablesIn f) (omega (arith, few)))
-      (sealed-of (block f 0) n (length-block f 0 (omega (arith, long))) (omega (arith, few)) (padding .0) 0 (bytes-block f 0 y) (checks 0 l))
+      let n = 268 + 4 * variablesIn f in
+      rw (head-is, first-block f (268 + 4 * variablesIn f) (omega (arith, few)))
+      (sealed-of (block f 0) n (length-block f 0 (omega (arith, long))) (omega (arith, few)) (head-padding .1) 0 (bytes-block f 0 y) (checks 0 l))
   block-is (suc j) l =
       let b = block f (suc j) in
       let n = variablesIn f in
@@ -126,7 +141,7 @@ module _ (f : List ℕ) (y : Bytes f) (e : readError f ≡ 0) where
 
   pub writable-again : (room : ℕ) → length f ≤ room → writeError (problemIn f) room ≡ 0
   unfolding writeError firstError
-  writable-again room l = let a = tests f e in rw (a .sized, a .bounded, a .coefficient-range, a .divisor-range, size-is, le-leb (length f) room l)
+  writable-again room l = let a = tests f e in rw (a .sized, a .bounded, a .threshold-range, a .coefficient-range, a .divisor-range, size-is, le-leb (length f) room l)
 
   pub read-then-written : (buffer : List ℕ) → length f ≤ length buffer → writeFile (problemIn f) buffer ≡ record { number = 0; buffer = f ++ drop (length f) buffer }
   unfolding writeFile writtenBy

@@ -9,11 +9,12 @@ use Rattle.model.specs.Lists.{parts}
 use Rattle.model.specs.Ranges.{maxVariables}
 use Rattle.model.specs.Constraint.{Constraint, coefficientAt, lowerAt, upperAt}
 use Rattle.model.specs.Problem.{Problem, variables}
-use Rattle.model.specs.Bytes.{Bytes, u16Bytes, u32Bytes, i32Bytes, blockLength, checkOffset, block, paddedTo}
-use Rattle.model.specs.File.{magic, divisorOffset, boundsBytes, headBytes, coefficientBytes, numbersBytes, constraintBytes, noConstraint, blockOf, fileOf, fileLength}
+use Rattle.model.specs.Bytes.{Bytes, u16Bytes, u32Bytes, i32Bytes, blockLength, checkOffset, block}
+use Rattle.model.specs.Threshold.{thresholdAt}
+use Rattle.model.specs.File.{magic, thresholdOffset, divisorOffset, boundsBytes, thresholdBytes, limitsBytes, headBytes, coefficientBytes, numbersBytes, constraintBytes, noConstraint, blockOf, fileOf, fileLength}
 use Rattle.lists.proofs.Parts.{length-parts, part-of}
 use Rattle.format.proofs.ByteLaws.{bytes-append, bytes-parts, bytes-u16, bytes-u32, bytes-i32, length-i32}
-use Rattle.format.proofs.BlockLaws.{length-padded-to, bytes-padded-to, length-sealed, bytes-sealed}
+use Rattle.format.proofs.BlockLaws.{length-two, bytes-padded-to, length-sealed, bytes-sealed}
 
 -- ---- a constraint's block
 pub length-coefficient : (k : Constraint) (i : ℕ) → length (coefficientBytes k i) ≡ 4
@@ -30,14 +31,10 @@ length-numbers n k =
     length-append (i32Bytes (k .constant)) (parts (coefficientBytes k) 0 n) ∙
     omega (arith, length-i32 (k .constant), length-parts 4 (coefficientBytes k) n (λ i l. length-coefficient k i))
 
--- up to its divisor
-pub length-before : (n : ℕ) (k : Constraint) → n ≤ maxVariables → length (paddedTo divisorOffset (numbersBytes n k)) ≡ divisorOffset
-length-before n k few = length-padded-to divisorOffset (numbersBytes n k) (omega (arith, length-numbers n k))
-
 pub length-constraint : (n : ℕ) (k : Constraint) → n ≤ maxVariables → length (constraintBytes n k) ≡ divisorOffset + 4
 unfolding constraintBytes
 length-constraint n k few =
-    length-append (paddedTo divisorOffset (numbersBytes n k)) (i32Bytes (k .divisor)) ∙ omega (arith, length-before n k few, length-i32 (k .divisor))
+    length-two divisorOffset (numbersBytes n k) (i32Bytes (k .divisor)) 4 (omega (arith, length-numbers n k)) (length-i32 (k .divisor))
 
 bytes-numbers : (n : ℕ) (k : Constraint) → Bytes (numbersBytes n k)
 unfolding numbersBytes
@@ -58,17 +55,37 @@ bytes-bounds : (p : Problem) (i : ℕ) → Bytes (boundsBytes p i)
 unfolding boundsBytes
 bytes-bounds p i = search (bytes-append, bytes-i32)
 
+pub length-threshold : (p : Problem) (i : ℕ) → length (thresholdBytes p i) ≡ 4
+unfolding thresholdBytes
+length-threshold p i = length-i32 (thresholdAt (p .thresholds) i)
+
+bytes-threshold : (p : Problem) (i : ℕ) → Bytes (thresholdBytes p i)
+unfolding thresholdBytes
+bytes-threshold p i = bytes-i32 (thresholdAt (p .thresholds) i)
+
 bytes-magic : Bytes magic
 unfolding magic
 bytes-magic = omega arith
 
-pub length-head : (p : Problem) → length (headBytes p) ≡ 12 + 8 * variables p
-unfolding headBytes magic u16Bytes u32Bytes
-length-head p = omega (arith, length-parts 8 (boundsBytes p) (variables p) (λ i l. length-bounds p i))
+pub length-limits : (p : Problem) → length (limitsBytes p) ≡ 12 + 8 * variables p
+unfolding limitsBytes magic u16Bytes u32Bytes
+length-limits p = omega (arith, length-parts 8 (boundsBytes p) (variables p) (λ i l. length-bounds p i))
 
-pub bytes-head : (p : Problem) → Bytes (headBytes p)
+pub length-thresholds : (p : Problem) → length (parts (thresholdBytes p) 0 (variables p)) ≡ 4 * variables p
+length-thresholds p = length-parts 4 (thresholdBytes p) (variables p) (λ i l. length-threshold p i)
+
+length-head : (p : Problem) → variables p ≤ maxVariables → length (headBytes p) ≡ 268 + 4 * variables p
+unfolding headBytes thresholdOffset
+length-head p few =
+    length-two 268 (limitsBytes p) (parts (thresholdBytes p) 0 (variables p)) (4 * variables p) (omega (arith, length-limits p)) (length-thresholds p)
+
+bytes-limits : (p : Problem) → Bytes (limitsBytes p)
+unfolding limitsBytes
+bytes-limits p = search (bytes-append, bytes-magic, bytes-u16, bytes-u32, bytes-parts, bytes-bounds) depth 8
+
+bytes-head : (p : Problem) → Bytes (headBytes p)
 unfolding headBytes
-bytes-head p = search (bytes-append, bytes-magic, bytes-u16, bytes-u32, bytes-parts, bytes-bounds) depth 8
+bytes-head p = search (bytes-append, bytes-padded-to, bytes-limits, bytes-parts, bytes-threshold)
 
 -- ---- the blocks and the file
 bytes-block-of : (p : Problem) (k : ℕ) → Bytes (blockOf p k)
@@ -83,7 +100,7 @@ bytes-file p = bytes-parts (blockOf p) 0 (suc (length (p .constraints))) (bytes-
 
 module _ (p : Problem) (few : variables p ≤ maxVariables) where
   pub head-fits : length (headBytes p) ≤ checkOffset
-  head-fits = omega (arith, length-head p)
+  head-fits = omega (arith, length-head p few)
 
   pub constraint-fits : (k : Constraint) → length (constraintBytes (variables p) k) ≤ checkOffset
   constraint-fits k = omega (arith, length-constraint (variables p) k few)

@@ -5,7 +5,7 @@ use native.Mathlib.Nat.{mul-div-right, mul-mod-right}
 use mathlib.Core.Bool.{true}
 use mathlib.Core.Path.{_≡_, refl, sym, ap, ap₂, _∙_}
 use mathlib.Core.List.{List}
-use lib.IntN.{ℤ}
+use lib.IntN.{ℤ, pos}
 use lib.Dec.{T, eqb, leb}
 use lib.ListN.{getD, take, length}
 use lib.Seq.{take-take}
@@ -13,26 +13,28 @@ use borrow.Author.Tests.{leb-true, le-leb, eqb-true, eq-eqb}
 use Rattle.model.specs.Lists.{tab, allOf}
 use Rattle.model.specs.Ranges.{maxVariables}
 use Rattle.model.specs.Constraint.{noBounds, lowerAt, upperAt, inRange, divisorInRange}
-use Rattle.model.specs.Problem.{Problem, variables, sizesInRange, domainInRange, constraintsInRange, divisorsInRange, ok}
-use Rattle.model.specs.Bytes.{u16At, u32At, i32At, checkOffset, block, checksum, zeroFrom}
-use Rattle.model.specs.File.{magic, variablesIn, constraintsIn, budgetIn, boundsOffset, boundsIn, constraintOf, problemIn, wholeBlocks, checkMatches, checksMatch, magicMatches, blockCountMatches, constraintPadded, paddingZero, readError, readFile, headBytes, constraintBytes, noConstraint, blockOf, fileOf, fileLength, writeError}
+use Rattle.model.specs.Threshold.{thresholdAt, thresholdFits}
+use Rattle.model.specs.Problem.{Problem, variables, sizesInRange, domainInRange, thresholdsInRange, constraintsInRange, divisorsInRange, ok}
+use Rattle.model.specs.Bytes.{u16At, u32At, i32At, checkOffset, block, checksum}
+use Rattle.model.specs.File.{magic, variablesIn, constraintsIn, budgetIn, boundsOffset, boundsIn, thresholdOffset, thresholdIn, constraintOf, problemIn, wholeBlocks, checkMatches, checksMatch, magicMatches, blockCountMatches, constraintPadded, paddingZero, readError, readFile, headBytes, constraintBytes, noConstraint, blockOf, fileOf, fileLength, writeError}
 use Rattle.model.specs.Validity.{constraintShaped}
 use Rattle.lists.proofs.Bools.{true-of}
 use Rattle.lists.proofs.Tab.{tab-is}
 use Rattle.lists.proofs.All.{all-of}
 use Rattle.lists.proofs.AllOf.{allOf-getD}
-use Rattle.lists.proofs.AllPairs.{pairs-refl}
+use Rattle.lists.proofs.AllPairs.{pairs-length, pairs-refl}
 use Rattle.format.proofs.Errors.{passed, result-ok}
 use Rattle.format.proofs.ByteLaws.{u16-take, u32-take, i32-take}
-use Rattle.format.proofs.BlockLaws.{sealed-check, sealed-zero}
-use Rattle.format.proofs.FileShape.{length-head, head-fits, constraint-fits, length-file, block-of-file}
+use Rattle.format.proofs.BlockLaws.{sealed-check}
+use Rattle.format.proofs.FileShape.{head-fits, constraint-fits, length-file, block-of-file}
 use Rattle.format.proofs.AcceptedShape.{Sizes, sizes, Tests, no-error}
-use Rattle.format.proofs.BlocksRead.{constraint-padded, constraint-read, headBlock, magic-stands, variables-read, constraints-read, budget-read, lower-read, upper-read}
+use Rattle.format.proofs.BlocksRead.{constraint-padded, constraint-read, headBlock, magic-stands, variables-read, constraints-read, budget-read, head-padded, lower-read, upper-read, threshold-read}
 
 -- ---- what the writer takes
 pub record Writable (p : Problem) (room : ℕ) : Type 0 where
   pub sized : sizesInRange p ≡ true
   pub bounded : domainInRange p ≡ true
+  pub threshold-range : thresholdsInRange p ≡ true
   pub coefficient-range : constraintsInRange p ≡ true
   pub divisor-range : divisorsInRange p ≡ true
   pub fits : fileLength p ≤ room
@@ -42,10 +44,11 @@ unfolding writeError
 writable p room e =
     let e₁ = passed 3 (sizesInRange p) _ e in
     let e₂ = passed 4 (domainInRange p) _ (e₁ .1) in
-    let e₃ = passed 5 (constraintsInRange p) _ (e₂ .1) in
-    let e₄ = passed 9 (divisorsInRange p) _ (e₃ .1) in
-    let e₅ = passed 7 (leb (fileLength p) room) _ (e₄ .1) in
-    record { sized = e₁ .0; bounded = e₂ .0; coefficient-range = e₃ .0; divisor-range = e₄ .0; fits = leb-true _ _ (e₅ .0) }
+    let e₃ = passed 12 (thresholdsInRange p) _ (e₂ .1) in
+    let e₄ = passed 5 (constraintsInRange p) _ (e₃ .1) in
+    let e₅ = passed 9 (divisorsInRange p) _ (e₄ .1) in
+    let e₆ = passed 7 (leb (fileLength p) room) _ (e₅ .1) in
+    record { sized = e₁ .0; bounded = e₂ .0; threshold-range = e₃ .0; coefficient-range = e₄ .0; divisor-range = e₅ .0; fits = leb-true _ _ (e₆ .0) }
 
 -- ---- the file of a problem whose sizes are in range
 module _ (p : Problem) (s : Sizes p) where
@@ -107,24 +110,29 @@ module _ (p : Problem) (s : Sizes p) where
       rw (variables-are, block-of-file p few (suc j) (omega arith)) (constraint-padded (variables p) (suc j) (getD (p .constraints) j noConstraint) few)
 
   clean-is : paddingZero (fileOf p) ≡ true
-  unfolding paddingZero boundsOffset blockOf
+  unfolding paddingZero blockOf
   clean-is =
-      let h : zeroFrom (12 + 8 * variables p) (headBlock p) ≡ true = rw (← length-head p) (sealed-zero 0 (headBytes p) (head-fits p few)) in
-      rw (variables-are, constraints-are, block-of-file p few 0 (omega arith), h) (all-of (constraintPadded (fileOf p)) (length (p .constraints)) padded-is)
+      rw (variables-are, constraints-are, block-of-file p few 0 (omega arith), head-padded p few) (all-of (constraintPadded (fileOf p)) (length (p .constraints)) padded-is)
 
 -- ---- the problem in it
 module _ (p : Problem) (room : ℕ) (w : Writable p room) (shape : allOf (constraintShaped (variables p)) (p .constraints) ≡ true) where
   s : Sizes p
   s = sizes p (w .sized)
 
+  here : (q : ℕ) → q + 4 ≤ 512 → i32At (fileOf p) q ≡ i32At (headBlock p) q
+  here q h = sym (i32-take 512 (fileOf p) q h) ∙ ap (λ (b : List ℕ). i32At b q) (first p s)
+
   bounds-are : (i : ℕ) → i < variables p → boundsIn (fileOf p) i ≡ getD (p .domain) i noBounds
   unfolding boundsIn boundsOffset lowerAt upperAt
   bounds-are i l =
       let n = s .few-variables in
-      let here : (q : ℕ) → q + 4 ≤ 512 → i32At (fileOf p) q ≡ i32At (headBlock p) q = λ q h. sym (i32-take 512 (fileOf p) q h) ∙ ap (λ (b : List ℕ). i32At b q) (first p s) in
       ap₂ (λ (a b : ℤ). record { lower = a; upper = b })
       (here (12 + 8 * i) (omega arith) ∙ lower-read p (w .bounded) i l)
       (here (12 + 8 * i + 4) (omega arith) ∙ upper-read p (w .bounded) i l)
+
+  threshold-is : (i : ℕ) → i < variables p → thresholdIn (fileOf p) i ≡ getD (p .thresholds) i (pos 0)
+  unfolding thresholdIn thresholdOffset thresholdAt
+  threshold-is i l = let n = s .few-variables in here (268 + 4 * i) (omega arith) ∙ threshold-read p (w .bounded) i l (w .threshold-range) n
 
   constraint-is : (j : ℕ) → j < length (p .constraints) → constraintOf (fileOf p) j ≡ getD (p .constraints) j noConstraint
   unfolding constraintOf blockOf constraintShaped constraintsInRange divisorsInRange
@@ -140,13 +148,19 @@ module _ (p : Problem) (room : ℕ) (w : Writable p room) (shape : allOf (constr
   unfolding variables
   domain-is = rw (variables-are p s) (tab-is (p .domain) (variables p) (boundsIn (fileOf p)) noBounds refl (λ i l. sym (bounds-are i l)))
 
+  thresholds-are : tab (thresholdIn (fileOf p)) 0 (variablesIn (fileOf p)) ≡ p .thresholds
+  unfolding variables thresholdsInRange
+  thresholds-are =
+      rw (variables-are p s)
+      (tab-is (p .thresholds) (variables p) (thresholdIn (fileOf p)) (pos 0) (pairs-length thresholdFits (p .thresholds) (p .domain) (w .threshold-range)) (λ i l. sym (threshold-is i l)))
+
   constraint-list-is : tab (constraintOf (fileOf p)) 0 (constraintsIn (fileOf p)) ≡ p .constraints
   constraint-list-is =
       rw (constraints-are p s) (tab-is (p .constraints) (length (p .constraints)) (constraintOf (fileOf p)) noConstraint refl (λ j l. sym (constraint-is j l)))
 
   problem-is : problemIn (fileOf p) ≡ p
   unfolding problemIn
-  problem-is = λ i. record { domain = domain-is i; constraints = constraint-list-is i; budget = budget-is p s i }
+  problem-is = λ i. record { domain = domain-is i; thresholds = thresholds-are i; constraints = constraint-list-is i; budget = budget-is p s i }
 
   tests-passed : Tests (fileOf p)
   tests-passed = record {
@@ -156,6 +170,7 @@ module _ (p : Problem) (room : ℕ) (w : Writable p room) (shape : allOf (constr
     sized = rw problem-is (w .sized);
     counted = counted-is p s;
     bounded = rw problem-is (w .bounded);
+    threshold-range = rw problem-is (w .threshold-range);
     coefficient-range = rw problem-is (w .coefficient-range);
     divisor-range = rw problem-is (w .divisor-range);
     clean = clean-is p s;

@@ -14,7 +14,7 @@ use borrow.Author.Tests.{le-leb, lt-leb, leb-true}
 use Rattle.model.specs.Lists.{all}
 use Rattle.model.specs.Problem.{Problem, variables, sizesInRange}
 use Rattle.model.specs.Ranges.{within, maxVariables, maxConstraints, maxBudget, maxDivisor}
-use Rattle.model.specs.Constraint.{equalℤ, isDivisor}
+use Rattle.model.specs.Constraint.{equalℤ, noneOrFromTwo, isDivisor}
 use Rattle.lists.proofs.Bools.{and-true as and-parts}
 use Rattle.integer.specs.Size.{fits, size, neg-within}
 use Rattle.integer.specs.Tests.{ltZ-true, ltZ-false, lt-leZ, le-leZ}
@@ -78,24 +78,29 @@ module _ (limit : ℕ) (h : Fits w32 limit) where
         let l : ltZ z (negℤ (pos limit)) ≡ false = rw (toZ-ofZ f, least) at e in
         rw (toZ-ofZ f, most, le-leZ (ltZ-false {a = z} {b = negℤ (pos limit)} l))
 
--- ---- a divisor: none, or 2 to 2^20
+-- ---- none, or 2 to a limit
 module _ (q : ℤ) (f : SFits w64 q) (r : Bool) (t : r ≡ equalℤ (back q) (pos 0)) where
   none-test : r ≡ equalℤ q (pos 0)
   none-test = rw (toZ-ofZ f) at t
 
-  pub no-divisor : r ≡ true → true ≡ isDivisor q
-  unfolding isDivisor
-  no-divisor h = rw (sym none-test ∙ h)
+  pub is-none : (limit : ℤ) → r ≡ true → true ≡ noneOrFromTwo limit q
+  unfolding noneOrFromTwo
+  is-none limit h = rw (sym none-test ∙ h)
 
   module _ (h : r ≡ false) where
-    pub small-divisor : ltZ (back q) (pos 2) ≡ true → false ≡ isDivisor q
-    unfolding isDivisor
-    small-divisor e =
+    pub below-two : (limit : ℤ) → ltZ (back q) (pos 2) ≡ true → false ≡ noneOrFromTwo limit q
+    unfolding noneOrFromTwo
+    below-two limit e =
         let l : ltZ q (pos 2) ≡ true = rw (toZ-ofZ f) at e in
         rw (sym none-test ∙ h, lt-leZ (ltZ-true {a = q} {b = pos 2} l))
 
-    pub large-divisor : ltZ (back q) (pos 2) ≡ false → leZ (back q) (pos maxDivisor) ≡ isDivisor q
-    unfolding isDivisor
-    large-divisor e =
+    pub from-two : (limit : ℤ) → SFits w64 limit → ltZ (back q) (pos 2) ≡ false → leZ (back q) (back limit) ≡ noneOrFromTwo limit q
+    unfolding noneOrFromTwo
+    from-two limit g e =
         let l : ltZ q (pos 2) ≡ false = rw (toZ-ofZ f) at e in
-        rw (sym none-test ∙ h, toZ-ofZ f, le-leZ (ltZ-false {a = q} {b = pos 2} l))
+        rw (sym none-test ∙ h, toZ-ofZ f, toZ-ofZ g, le-leZ (ltZ-false {a = q} {b = pos 2} l))
+
+-- ---- a divisor
+pub divisor-test : (q : ℤ) (r : Bool) → SFits w64 q → r ≡ noneOrFromTwo (pos maxDivisor) (back q) → r ≡ isDivisor q
+unfolding isDivisor
+divisor-test q r f e = rw (toZ-ofZ f) at e

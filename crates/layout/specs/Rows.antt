@@ -49,3 +49,7 @@ boundsAt lower upper i = record { lower = numberIn lower i; upper = numberIn upp
 
 unfoldable pub boxOf : ℕ → List ℤ → List ℤ → Box
 boxOf n lower upper = tab (boundsAt lower upper) 0 n
+
+-- the thresholds of the first n variables
+unfoldable pub thresholdsOf : ℕ → List ℤ → List ℤ
+thresholdsOf n thresholds = tab (numberIn thresholds) 0 n

@@ -15,7 +15,7 @@ ghost use lib.ListN.{length};
 ghost use Rattle.model.specs.Lists.{tab, allOf};
 ghost use Rattle.model.specs.Ranges.{within, maxVariables, maxConstraints};
 ghost use Rattle.model.specs.Problem.{boundsInRange};
-ghost use Rattle.model.specs.Constraint.{inRange, isDivisor, divisorInRange};
+ghost use Rattle.model.specs.Constraint.{inRange, noneOrFromTwo, isDivisor, divisorInRange};
 ghost use Rattle.layout.specs.Rows.{rowLength, constraintAt, rowAt, inputAt};
 ghost use Rattle.layout.specs.Sizes.{sizesFit};
 
@@ -92,9 +92,9 @@ pub fn are_in_range(rows: &[i64], count: usize, n: usize) -> bool
     true
 }
 
-// Whether a constraint's divisor is in range: none, or 2 to 2^20.
-pub fn is_divisor_in_range(q: i64) -> bool
-    ensures { λ r. ⌜ r ≡ isDivisor q ⌝ }
+// Whether a number is 0, for none, or from 2 to a limit.
+pub fn is_none_or_from_two(limit: i64, q: i64) -> bool
+    ensures { λ r. ⌜ r ≡ noneOrFromTwo limit q ⌝ }
 {
     if is_same(q, 0) {
         return true;
@@ -102,7 +102,14 @@ pub fn is_divisor_in_range(q: i64) -> bool
     if q < 2 {
         return false;
     }
-    q <= MAX_DIVISOR as i64
+    q <= limit
+}
+
+// Whether a constraint's divisor is in range: none, or 2 to 2^20.
+pub fn is_divisor_in_range(q: i64) -> bool
+    ensures { λ r. ⌜ r ≡ isDivisor q ⌝ }
+{
+    is_none_or_from_two(MAX_DIVISOR as i64, q)
 }
 
 // Whether the divisors of the first m constraints are in range.

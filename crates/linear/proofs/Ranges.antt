@@ -13,7 +13,7 @@ use mir.Syntax.{w64}
 use mir.Val.{toZ, ofZ}
 use Rattle.model.specs.Ranges.{within, maxVariables, maxCoefficient, maxDivisor, maxBound}
 use Rattle.model.specs.Lists.{all, allOf}
-use Rattle.model.specs.Constraint.{equalℤ, inRange, isDivisor, noBounds}
+use Rattle.model.specs.Constraint.{equalℤ, inRange, noneOrFromTwo, isDivisor, noBounds}
 use Rattle.model.specs.Problem.{boundsInRange}
 use Rattle.integer.specs.Size.{Within, weaken, between-in}
 use Rattle.integer.specs.Tests.{back, of-true}
@@ -46,7 +46,7 @@ row-fits n rows start few room e =
 
 -- ---- a divisor, from `isDivisor`
 pub divisor-fits : (q : ℤ) → isDivisor q ≡ true → DivisorFits q
-unfolding isDivisor equalℤ
+unfolding isDivisor noneOrFromTwo equalℤ
 divisor-fits (pos q) e = ⊎-elim (λ z. omega (arith, eqb-true q 0 z)) (λ b. leb-true q maxDivisor (and-true (leb 2 q) (leb q maxDivisor) b .1)) (or-true (eqb q 0) _ e)
 divisor-fits (negsuc q) e = clash e refl
 

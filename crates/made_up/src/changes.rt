@@ -20,6 +20,7 @@ const MAX_BOUND: i64 = 1048576;
 
 // The state with another mark.
 pub fn marked(s: Search, status: Status) -> Search {
+    let thresholds = s.thresholds;
     let rows = s.rows;
     let divisors = s.divisors;
     let numbers = s.numbers;
@@ -33,6 +34,7 @@ pub fn marked(s: Search, status: Status) -> Search {
         made: s.made,
         depth: s.depth,
         status,
+        thresholds,
         rows,
         divisors,
         numbers,

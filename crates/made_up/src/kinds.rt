@@ -11,6 +11,7 @@ use crate::divided::false_behind;
 use crate::divided::false_from_1;
 use crate::divided::named;
 use crate::divided::shifted;
+use crate::gaps;
 use crate::litter::littered;
 use crate::refusals::is_refused;
 use crate::strikes;
@@ -65,8 +66,8 @@ const FALSE_BEHIND: usize = 36;
 
 pub const NAMED: usize = 37;
 
-// The last are those of `strikes`, four, and of `brink`, six.
-pub const KINDS: usize = 49;
+// The last are those of `strikes`, four, of `brink`, six, and of `gaps`, eleven.
+pub const KINDS: usize = 60;
 
 // How many states were tried, and how many of them had a wrong answer.
 pub struct Tried {
@@ -75,7 +76,7 @@ pub struct Tried {
 }
 
 // Whether a state has this outcome by turns and by a run, and these blocks.
-fn has_outcome(s: Search, want: Outcome, journal: &[u8; ROOM]) -> bool {
+pub fn has_outcome(s: Search, want: Outcome, journal: &[u8; ROOM]) -> bool {
     let mut own = [MARK; ROOM];
     if !same(walk(s, &mut own), want) {
         return false;
@@ -84,6 +85,13 @@ fn has_outcome(s: Search, want: Outcome, journal: &[u8; ROOM]) -> bool {
         return false;
     }
     same(run(s, want.blocks), want)
+}
+
+// Whether a state answers the same with other numbers where nothing is read.
+pub fn is_same_littered(s: Search) -> bool {
+    let mut journal = [MARK; ROOM];
+    let want = walk(s, &mut journal);
+    has_outcome(littered(s), want, &journal)
 }
 
 // What a state answers whose budget is the conflicts that are counted.
@@ -232,15 +240,15 @@ fn is_divided_right(s: Search, kind: usize) -> bool {
         FALSE_FROM_1 => goes_back_to_1(s),
         FALSE_BEHIND => sees_behind(s),
         NAMED => is_passed_over(s),
-        _ => {
-            let want = walk(s, &mut journal);
-            has_outcome(littered(s), want, &journal)
-        }
+        _ => is_same_littered(s),
     }
 }
 
 // Whether a state that is made in a kind is answered as it must be; the last two kinds before those with divisors as the state that it is made of.
 fn is_right(s: Search, kind: usize) -> bool {
+    if gaps::FIRST <= kind {
+        return gaps::is_right(s, kind);
+    }
     if brink::BELOW <= kind {
         return brink::is_right(s, kind);
     }

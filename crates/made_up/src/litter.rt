@@ -68,6 +68,8 @@ pub fn littered(s: Search) -> Search {
     t.rows = rows;
     let past = s.m % 64;
     t.divisors[past] = JUNK;
+    let next = s.n % 32;
+    t.thresholds[next] = JUNK;
     let cut = s.made % 64;
     t.numbers[cut] = MANY;
     let mut d: usize = 0;

@@ -3,6 +3,7 @@ mod bounds;
 mod brink;
 mod changes;
 mod divided;
+mod gaps;
 mod given;
 mod kinds;
 mod litter;
@@ -16,16 +17,19 @@ use trials::family::Family;
 use trials::number::plus;
 use trials::print::disagreements;
 
-// The problems whose states are changed in a kind: two equations, for the last kinds with a divisor constraint after them; where states are struck out they
-// have smaller numbers, so that there are more solutions.
+// The problems whose states are changed in a kind: two equations, for later kinds with a divisor constraint after them; where states are struck out they
+// have smaller numbers, so that there are more solutions. For the last kinds four variables, two with thresholds.
 fn changed_family(kind: usize) -> Family {
     if kind < kinds::NAMED {
-        return family::of(6, 4, 1, 0, 1, 3, 3, 1, 0);
+        return family::of(6, 4, 1, 0, 0, 1, 3, 3, 1, 0);
     }
     if kind < strikes::AS_IT_IS {
-        return family::of(6, 5, 1, 1, 1, 3, 3, 1, 0);
+        return family::of(6, 5, 1, 1, 0, 1, 3, 3, 1, 0);
     }
-    family::of(6, 5, 1, 1, 1, 1, 1, 1, 0)
+    if kind < gaps::FIRST {
+        return family::of(6, 5, 1, 1, 0, 1, 1, 1, 1, 0);
+    }
+    family::of(4, 3, 1, 1, 2, 1, 3, 3, 1, 0)
 }
 
 // Tries the made-up states of a kind, and prints how many.

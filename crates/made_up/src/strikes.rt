@@ -12,7 +12,7 @@ use state::Status;
 use trials::compare::mark_of;
 use trials::compare::states_same;
 use trials::listing::agrees;
-use trials::number::added;
+use trials::points::value_after;
 use trials::strikes::ENDED;
 use trials::strikes::STRUCK;
 use trials::strikes::UNSOLVED;
@@ -26,6 +26,8 @@ pub const AS_IT_IS: usize = 39;
 const UNMARKED: usize = 40;
 
 const MARKED_NONE: usize = 41;
+
+pub const MARKED_SOLUTION: usize = 42;
 
 // The answer to striking out, by the mark and the depth.
 fn wanted(s: Search) -> usize {
@@ -45,7 +47,7 @@ fn struck(s: Search) -> Search {
     let deepest = s.levels[d];
     let i = deepest.decided % 6;
     let l = state::whole(s.levels[above]);
-    let flipped = bounds::raise(l, i, added(l.lower[i], 1, 1), FLIPPED);
+    let flipped = bounds::raise(l, i, value_after(l.lower[i], s.thresholds[i]), FLIPPED);
     let mut t = marked(s, Status::Undecided);
     t.depth = above;
     t.levels[above] = flipped;

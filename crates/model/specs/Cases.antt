@@ -1,4 +1,4 @@
--- Computed cases beside the table: of lines, points and kept cuts here, of divisor lines, of turns and runs, of strikes and listings, of bounds set, of validity, and of bytes. One theorem covers them.
+-- Computed cases beside the table: of lines, points and kept cuts here, of divisor lines, of thresholds, of turns and runs, of strikes and listings, of bounds set, of validity, and of bytes. One theorem covers them.
 use Prim.Native.Nat.{ℕ}
 use mathlib.Core.Bool.{Bool, true, false, _&&_, not}
 use mathlib.Core.List.{List, [], _∷_, _++_}
@@ -9,9 +9,10 @@ use Rattle.model.specs.Lists.{tab, all, anyOf, allPairs}
 use Rattle.model.specs.Constraint.{Constraint, rounded, resolvent, equal}
 use Rattle.model.specs.Search.{Core, numberAt, keptNumber, nextNumber, keep, coreOf}
 use Rattle.model.specs.Points.{allPoints, points}
-use Rattle.model.specs.Examples.{neg, linear, divided, between, A-second, planA, planB, sameValues, definitions}
+use Rattle.model.specs.Examples.{neg, linear, divided, between, problem, A-second, planA, planB, sameValues, definitions}
 use Rattle.model.specs.SearchCases.{searchCases}
 use Rattle.model.specs.DivisorCases.{divisorCases}
+use Rattle.model.specs.ThresholdCases.{thirteen, allowedPoints, thresholdCases}
 use Rattle.model.specs.ExclusionCases.{exclusionCases}
 use Rattle.model.specs.ListingCases.{listingCases}
 use Rattle.model.specs.PropagationCases.{propagationCases}
@@ -47,9 +48,9 @@ unequal =
 -- the points of limits −1 to 1 and 5 to 6, in dictionary order
 abbrev pointList : Bool
 pointList =
-    let box = between (neg 1) (pos 1) ∷ between (pos 5) (pos 6) ∷ [] in
-    eqb (points box) 6 &&
-    allPairs sameValues (allPoints box) ((neg 1 ∷ pos 5 ∷ []) ∷ (neg 1 ∷ pos 6 ∷ []) ∷ (pos 0 ∷ pos 5 ∷ []) ∷ (pos 0 ∷ pos 6 ∷ []) ∷ (pos 1 ∷ pos 5 ∷ []) ∷ (pos 1 ∷ pos 6 ∷ []) ∷ [])
+    let p = problem (between (neg 1) (pos 1) ∷ between (pos 5) (pos 6) ∷ []) [] 0 in
+    eqb (points p) 6 &&
+    allPairs sameValues (allPoints p) ((neg 1 ∷ pos 5 ∷ []) ∷ (neg 1 ∷ pos 6 ∷ []) ∷ (pos 0 ∷ pos 5 ∷ []) ∷ (pos 0 ∷ pos 6 ∷ []) ∷ (pos 1 ∷ pos 5 ∷ []) ∷ (pos 1 ∷ pos 6 ∷ []) ∷ [])
 
 -- ---- 'Input lines and the 64 newest cuts are kept': cuts 3 to 66 are kept, and one more is made
 abbrev cutWith : ℕ → Constraint
@@ -60,6 +61,7 @@ full =
     let c = coreOf (planA 5) in
     record {
       variables = 2;
+      thresholds = c .thresholds;
       inputs = c .inputs;
       cuts = tab cutWith 3 64;
       numbers = tab (λ (k : ℕ). k) 3 64;
@@ -95,11 +97,11 @@ newestKept =
 
 -- ---- the theorem: what is quick stands first
 unfoldable pub shortCases : List Bool
-shortCases = checkRule ∷ zeroLines ∷ opened ∷ unequal ∷ pointList ∷ indivisible ∷ []
+shortCases = checkRule ∷ zeroLines ∷ opened ∷ unequal ∷ pointList ∷ allowedPoints ∷ indivisible ∷ thirteen ∷ []
 
 pub cases : List Bool
-cases = shortCases ++ (divisorCases ++ (searchCases ++ (exclusionCases ++ (listingCases ++ (propagationCases ++ (newestKept ∷ (validityCases ++ fileCases)))))))
+cases = shortCases ++ (divisorCases ++ (thresholdCases ++ (searchCases ++ (exclusionCases ++ (listingCases ++ (propagationCases ++ (newestKept ∷ (validityCases ++ fileCases))))))))
 
 pub cases-hold : T (all cases)
-unfolding cases shortCases divisorCases searchCases exclusionCases listingCases propagationCases validityCases fileCases definitions
+unfolding cases shortCases divisorCases thresholdCases searchCases exclusionCases listingCases propagationCases validityCases fileCases definitions
 cases-hold = tt

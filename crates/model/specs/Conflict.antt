@@ -94,7 +94,7 @@ levelsTested depth (suc d) = depth - suc d + 2
 unfoldable pub backFrom : List Level → Core → Core
 backFrom [] c = c
 backFrom (l ∷ []) c = c
-backFrom (l ∷ o ∷ ls) c = withLevels c (flipAt (l .decided) o) ls
+backFrom (l ∷ o ∷ ls) c = withLevels c (flipAt (c .thresholds) (l .decided) o) ls
 
 unfoldable pub backUp : ℕ → Core → Core
 backUp d c = backFrom (drop (depth c - d) (levels c)) c

@@ -4,7 +4,7 @@ use Prim.Native.Nat.{ℕ, zero, suc, _/_}
 use mathlib.Core.Bool.{Bool, false, not, cond, _&&_, _||_}
 use mathlib.Core.List.{List, [], _∷_, map}
 use lib.Dec.{eqb}
-use lib.IntN.{ℤ, pos, negsuc, negℤ, natAbs, sucℤ, _+ℤ_, _*ℤ_}
+use lib.IntN.{ℤ, pos, negsuc, negℤ, natAbs, _+ℤ_, _*ℤ_}
 use lib.Signed.{leZ, ltZ}
 use lib.ListN.{getD, set}
 use Rattle.model.specs.Division.{floorDiv, ceilDiv, exactDiv, gcd, divides}
@@ -50,15 +50,12 @@ upperAt box i = getD box i noBounds .upper
 unfoldable pub isOpen : Bounds → Bool
 isOpen b = ltZ (b .lower) (b .upper)
 
--- ---- the three ways in which bounds change: a lower bound rises to v, an upper bound falls to v, and v's next value
+-- one bound in place of another
 unfoldable pub setLower : ℕ → ℤ → Box → Box
 setLower i v box = set box i (record { lower = v; upper = upperAt box i })
 
 unfoldable pub setUpper : ℕ → ℤ → Box → Box
 setUpper i v box = set box i (record { lower = lowerAt box i; upper = v })
-
-unfoldable pub nextValue : ℤ → ℤ
-nextValue v = sucℤ v
 
 -- ---- the 'lowest value' of a constraint: its minimum activity
 -- a · L for a > 0, a · U for a < 0
@@ -158,9 +155,13 @@ equalℤ (pos a) (negsuc b) = false
 equalℤ (negsuc a) (pos b) = false
 equalℤ (negsuc a) (negsuc b) = eqb a b
 
--- a divisor that a constraint may carry: none, or 2 to 2^20
+-- none, or 2 to the limit
+unfoldable pub noneOrFromTwo : ℤ → ℤ → Bool
+noneOrFromTwo limit q = equalℤ q (pos 0) || (leZ (pos 2) q && leZ q limit)
+
+-- a divisor that a constraint may carry
 unfoldable pub isDivisor : ℤ → Bool
-isDivisor q = equalℤ q (pos 0) || (leZ (pos 2) q && leZ q (pos maxDivisor))
+isDivisor q = noneOrFromTwo (pos maxDivisor) q
 
 unfoldable pub divisorInRange : Constraint → Bool
 divisorInRange k = isDivisor (k .divisor)

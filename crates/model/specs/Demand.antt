@@ -15,7 +15,7 @@ use Rattle.model.specs.Validity.{admitted}
 use Rattle.model.specs.Step.{Verdict, goOn, noSolution, outOfBudget, solution, Outcome, blockIn, step, run, stepCall}
 use Rattle.model.specs.Trace.{Trace, endingWith, advance}
 use Rattle.model.specs.Propagations.{boundsSet}
-use Rattle.model.specs.Points.{Point, Inside, allPoints, points, Meets, Solution, First}
+use Rattle.model.specs.Points.{Point, Inside, Allowed, allPoints, points, Meets, Solution, First}
 
 -- ---- a list of turns, each on the walk that the one before returned
 -- the walk after a call: a refusal leaves it as it was
@@ -59,14 +59,14 @@ abbrev pub NoRepeats : List Point → Type 0
 NoRepeats [] = Unit {0}
 NoRepeats (v ∷ vs) = (In v vs → ⊥) × NoRepeats vs
 
--- `allPoints` lists the points inside a box, each once; `points` is its length
+-- `allPoints` lists the points inside the limits, of allowed values, each once; `points` is its length
 pub record Listed (p : Problem) : Type 0 where
-  pub every : (v : Point) → Inside v (p .domain) ↔ In v (allPoints (p .domain))
-  pub once : NoRepeats (allPoints (p .domain))
+  pub every : (v : Point) → (Inside v (p .domain) × Allowed (p .thresholds) v) ↔ In v (allPoints p)
+  pub once : NoRepeats (allPoints p)
 
 -- ---- verdicts and budgets
 unfoldable pub withBudget : Problem → ℕ → Problem
-withBudget p b = record { domain = p .domain; constraints = p .constraints; budget = b }
+withBudget p b = record { domain = p .domain; thresholds = p .thresholds; constraints = p .constraints; budget = b }
 
 -- the verdict of a problem under a budget, in a file or not
 unfoldable pub verdictWith : Problem → ℕ → Verdict
@@ -90,7 +90,7 @@ pub record Steps (p : Problem) (s : Search) : Type 0 where
   -- after each turn the count, in the answer and in the walk, is the number of journal blocks so far, and at most the number of points
   pub counted : (k : ℕ) → step (stateAfter k s) .count ≡ length (journal (suc k) s)
   pub carried : (k : ℕ) → stateAfter k s .conflicts ≡ length (journal k s)
-  pub bounded : (k : ℕ) → length (journal k s) ≤ points (p .domain)
+  pub bounded : (k : ℕ) → length (journal k s) ≤ points p
   -- N5's count, in the answer and in the walk, is the number of bounds that lines set in the turns that were not taken back, and at most (dead ends + 1) times
   -- the sum of all hi − lo, the domain's slack
   pub propagated : (k : ℕ) → step (stateAfter k s) .propagations ≡ boundsSet (suc k) s
@@ -112,8 +112,8 @@ pub record Steps (p : Problem) (s : Search) : Type 0 where
       (run (stateAfter k s) .verdict ≡ step (stateAfter last s) .verdict) × (run (stateAfter k s) .count ≡ step (stateAfter last s) .count) ×
       (run (stateAfter k s) .propagations ≡ step (stateAfter last s) .propagations) × (run (stateAfter k s) .state ≡ stateAfter (suc last) s)
   -- with a budget of at least the points the verdict is 'none' exactly when there is no solution, else the first solution; also where no file can hold so large a budget
-  pub decides : points (p .domain) ≤ p .budget → Decides p (run s .verdict)
-  pub decides-with : (b : ℕ) → points (p .domain) ≤ b → Decides p (verdictWith p b)
+  pub decides : points p ≤ p .budget → Decides p (run s .verdict)
+  pub decides-with : (b : ℕ) → points p ≤ b → Decides p (verdictWith p b)
   -- under every smaller budget it is the same verdict, or 'spent', whatever the number of points
   pub smaller : (b c : ℕ) → b ≤ c → (verdictWith p b ≡ verdictWith p c) ⊎ (verdictWith p b ≡ outOfBudget)
   pub own : run s .verdict ≡ verdictWith p (p .budget)

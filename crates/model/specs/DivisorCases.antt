@@ -59,7 +59,7 @@ notRounded = equal (rounded evenLine) evenLine
 
 -- a core of two variables over these inputs, its levels from the deepest out
 abbrev over : List Constraint → Level → List Level → Core
-over ks l ls = record { variables = 2; inputs = ks; cuts = []; numbers = []; made = 0; deepest = l; outer = ls }
+over ks l ls = record { variables = 2; thresholds = replicate 2 (pos 0); inputs = ks; cuts = []; numbers = []; made = 0; deepest = l; outer = ls }
 
 abbrev level : Bounds → Bounds → ℕ → Level
 level b c i = record { box = b ∷ c ∷ []; reasons = replicate 2 (by (constraint 1) (constraint 1)); decided = i }

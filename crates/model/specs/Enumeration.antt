@@ -136,7 +136,7 @@ setIn (c ∷ cs) s = setBy c (walk cs s) + setIn cs s
 
 -- enough budget, or few enough strikes, for every count to stay within N5's limit
 abbrev pub Modest : Problem → List Call → Search → Type 0
-Modest p cs s = (points (p .domain) ≤ p .budget) ⊎ (strikes cs s < 2 ^ 32)
+Modest p cs s = (points p ≤ p .budget) ⊎ (strikes cs s < 2 ^ 32)
 
 -- ---- a list kept up: a strike where a solution stands, else a turn, a run, or a trace with room
 abbrev pub Due : Bool → Call → Type 0
@@ -191,7 +191,7 @@ pub record Enumerates (p : Problem) (s : Search) : Type 0 where
   pub counted : (c : Call) (cs : List Call) → admitted (walk cs s) ≡ true → answer c (walk cs s) .count ≡ walk (c ∷ cs) s .conflicts
   pub carried : (cs : List Call) → NoRun cs → walk cs s .conflicts ≡ length (blocksOf cs s)
   -- dead ends plus solutions shown, those struck out among them, are at most the number of points
-  pub bounded : (cs : List Call) → walk cs s .conflicts + length (shown cs s) ≤ points (p .domain)
+  pub bounded : (cs : List Call) → walk cs s .conflicts + length (shown cs s) ≤ points p
   -- N5's count, in each answer and in the walk, is the number of bounds that lines set in the turns that were not taken back, and at most (dead ends + struck
   -- out + 1) times the sum of all hi − lo, the domain's slack
   pub propagated : (c : Call) (cs : List Call) → admitted (walk cs s) ≡ true → answer c (walk cs s) .propagations ≡ walk (c ∷ cs) s .propagations
@@ -204,8 +204,8 @@ pub record Enumerates (p : Problem) (s : Search) : Type 0 where
   -- with 'ended' or 'none' every solution has been shown
   pub complete : (c : Call) (cs : List Call) → Completes (says c cs s) → shown (c ∷ cs) s ≡ allSolutions p
   -- a list that is kept up ends; with a budget of at least the points neither with 'spent' nor, as above, with a refusal
-  pub ends : (cs : List Call) → KeptUp cs s → length cs < 2 * points (p .domain)
-  pub enough : points (p .domain) ≤ p .budget → (c : Call) (cs : List Call) → ¬ (says c cs s ≡ verdict outOfBudget)
+  pub ends : (cs : List Call) → KeptUp cs s → length cs < 2 * points p
+  pub enough : points p ≤ p .budget → (c : Call) (cs : List Call) → ¬ (says c cs s ≡ verdict outOfBudget)
 
 pub record Listings : Type 0 where
   pub lists : (f : List ℕ) → Accepted f → Enumerates (problemIn f) (openProblem (problemIn f))

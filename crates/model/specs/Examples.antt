@@ -11,6 +11,7 @@ use Rattle.model.specs.Ranges
 use Rattle.model.specs.Division
 use Rattle.model.specs.Constraint
 use Rattle.model.specs.Constraint.{Constraint, Bounds, Box, equalℤ, equal}
+use Rattle.model.specs.Threshold
 use Rattle.model.specs.Problem
 use Rattle.model.specs.Problem.{Problem, Result, ok, error}
 use Rattle.model.specs.Bytes
@@ -56,9 +57,12 @@ withDivisor q k = record { constant = k .constant; coefficients = k .coefficient
 abbrev pub between : ℤ → ℤ → Bounds
 between l u = record { lower = l; upper = u }
 
--- limits, lines, budget
+-- N6's thresholds, limits, lines, budget; and without thresholds
+abbrev pub semicontinuous : List ℤ → Box → List Constraint → ℕ → Problem
+semicontinuous ts d ks b = record { domain = d; thresholds = ts; constraints = ks; budget = b }
+
 abbrev pub problem : Box → List Constraint → ℕ → Problem
-problem d ks b = record { domain = d; constraints = ks; budget = b }
+problem d ks b = semicontinuous (replicate (length d) (pos 0)) d ks b
 
 -- 'Plan A', with a budget: limits 0 to 1, lines −v1 − v2 + 1 and −v1 + v2
 abbrev pub A-first : Constraint
@@ -95,7 +99,7 @@ sameBounds b c = equalℤ (b .lower) (c .lower) && equalℤ (b .upper) (c .upper
 
 abbrev pub sameProblem : Problem → Problem → Bool
 sameProblem p q =
-    all (allPairs sameBounds (p .domain) (q .domain) ∷ allPairs equal (p .constraints) (q .constraints) ∷ eqb (p .budget) (q .budget) ∷ [])
+    all (allPairs sameBounds (p .domain) (q .domain) ∷ sameValues (p .thresholds) (q .thresholds) ∷ allPairs equal (p .constraints) (q .constraints) ∷ eqb (p .budget) (q .budget) ∷ [])
 
 abbrev reasonCode : Reason → ℕ
 reasonCode domain = 0
@@ -196,18 +200,20 @@ unfolding Lists.tab Lists.parts Lists.sum Lists.all Lists.allOf Lists.anyOf List
     Ranges.within
     Division.floorDiv Division.ceilDiv Division.exactDiv Division.gcdWith Division.gcd Division.divides
     Constraint.modulus Constraint.isInequality Constraint.isOpen Constraint.openDivisor Constraint.fixedTerms Constraint.fixedValue Constraint.falsifiedBy
-    Constraint.coefficientAt Constraint.lowerAt Constraint.upperAt Constraint.setLower Constraint.setUpper Constraint.nextValue Constraint.term
+    Constraint.coefficientAt Constraint.lowerAt Constraint.upperAt Constraint.setLower Constraint.setUpper Constraint.term
     Constraint.terms Constraint.activity Constraint.falsified Constraint.impliedUpper Constraint.impliedLower Constraint.commonDivisor Constraint.roundedBy
-    Constraint.roundedAs Constraint.isDivisor Constraint.divisorInRange Constraint.rounded Constraint.mixed Constraint.combination Constraint.resolvent Constraint.opposite Constraint.inRange Constraint.equalℤ
+    Constraint.roundedAs Constraint.noneOrFromTwo Constraint.isDivisor Constraint.divisorInRange Constraint.rounded Constraint.mixed Constraint.combination Constraint.resolvent Constraint.opposite Constraint.inRange Constraint.equalℤ
     Constraint.equal
-    Problem.variables Problem.sizesInRange Problem.boundsInRange Problem.domainInRange Problem.constraintsInRange Problem.divisorsInRange Problem.firstError Problem.resultOf
+    Threshold.thresholdAt Threshold.inGap Threshold.allowed Threshold.lifted Threshold.sunk Threshold.nextValue Threshold.thresholdFits Threshold.isThreshold
+    Threshold.outsideGap
+    Problem.variables Problem.sizesInRange Problem.boundsInRange Problem.domainInRange Problem.thresholdsInRange Problem.constraintsInRange Problem.divisorsInRange Problem.firstError Problem.resultOf
     Bytes.u16At Bytes.u32At Bytes.signed Bytes.i32At Bytes.u16Bytes Bytes.u32Bytes Bytes.unsigned Bytes.i32Bytes Bytes.block Bytes.wordAt
     Bytes.checksum Bytes.isZero Bytes.zeroBetween Bytes.zeroFrom Bytes.paddedTo Bytes.padded Bytes.sealed
-    File.magic File.variablesIn File.constraintsIn File.budgetIn File.boundsOffset File.boundsIn File.coefficientOffset File.coefficientIn
+    File.magic File.variablesIn File.constraintsIn File.budgetIn File.boundsOffset File.boundsIn File.thresholdOffset File.thresholdIn File.coefficientOffset File.coefficientIn
     File.constraintIn File.constraintOf File.problemIn File.wholeBlocks File.checkMatches File.checksMatch File.magicMatches File.blockCountMatches
-    File.blockPadded File.constraintPadded File.paddingZero File.readError File.readFile File.boundsBytes File.headBytes File.coefficientBytes File.numbersBytes File.constraintBytes
+    File.blockPadded File.constraintPadded File.headPadded File.paddingZero File.readError File.readFile File.boundsBytes File.thresholdBytes File.limitsBytes File.headBytes File.coefficientBytes File.numbersBytes File.constraintBytes
     File.blockOf File.fileOf File.fileLength File.writeError File.writtenBy File.writeFile
-    Search.reasonsAt Search.setLowerReason Search.setUpperReason Search.raiseLower Search.lowerUpper Search.decideAt Search.flipAt Search.depth
+    Search.reasonsAt Search.setLowerReason Search.setUpperReason Search.holdLower Search.holdUpper Search.raiseLower Search.lowerUpper Search.decideAt Search.flipAt Search.depth
     Search.levels Search.withLevels Search.withDeepest Search.kept Search.dropped Search.numberAt Search.keptNumber Search.nextNumber Search.newest
     Search.keep Search.levelOf Search.coreOf Search.openProblem Search.openedBy Search.openFile
     Move.firstFalsified Move.improvementAt Move.improvementFrom Move.improvementBy Move.firstImprovement Move.firstOpen Move.nextMove Move.follow Move.slack
@@ -217,15 +223,15 @@ unfolding Lists.tab Lists.parts Lists.sum Lists.all Lists.allOf Lists.anyOf List
     Conflict.backFrom Conflict.backUp Conflict.settled Conflict.conflictOf Conflict.learning Conflict.nothingLearned Conflict.noLearning Conflict.conflictBy Conflict.atConflict
     Journal.recordMagic Journal.usedBytes Journal.recordHead Journal.recordContent Journal.recordBytes Journal.cutOffset Journal.cutCoefficient
     Journal.cutIn
-    Validity.scalarsValid Validity.constraintsValid Validity.divisorsValid Validity.cutNumber Validity.numbersValid Validity.reasonValid Validity.reasonsValid
+    Validity.scalarsValid Validity.constraintsValid Validity.thresholdsValid Validity.divisorsValid Validity.cutNumber Validity.numbersValid Validity.reasonValid Validity.reasonsValid
     Validity.levelValid Validity.levelsValid Validity.inside Validity.boxInside Validity.decisionValid Validity.nestedValid
-    Validity.falsifies Validity.anyFalsified Validity.outermost Validity.statusValid Validity.valid Validity.withinLimit Validity.admitted Validity.levelShaped Validity.constraintShaped
+    Validity.falsifies Validity.anyFalsified Validity.outermost Validity.statusValid Validity.levelAllowed Validity.valid Validity.withinLimit Validity.admitted Validity.levelShaped Validity.constraintShaped
     Validity.shaped
     Step.lowers Step.propagated Step.withStatus Step.solvedBy Step.budgetSpent Step.recordOf Step.verdictAt Step.statusAt Step.counted Step.onConflict Step.endedAt
     Step.ended Step.again Step.stepBy Step.step Step.continue Step.runFor Step.withoutBlock Step.run Step.checked Step.stepCall Step.runCall
     Trace.withBlocks Trace.lastStep Trace.advanced Trace.advance Trace.joined Trace.written Trace.tracedBy Trace.traceCall
     Exclude.unchanged Exclude.excludeAt Exclude.excludeBy Exclude.exclude Exclude.excludeCall Exclude.excludeWithin
-    Points.valuesBetween Points.valuesFrom Points.values Points.prefixed Points.allPoints Points.points Points.dot Points.value
+    Points.wholeNumbers Points.numbersFrom Points.values Points.prefixed Points.pointsIn Points.allPoints Points.points Points.dot Points.value
     Points.isMetBy Points.isMet Points.isSolution Points.allSolutions
     Listing.endsWith Listing.listAfter Listing.goesOn Listing.listFrom Listing.roomAt Listing.list Listing.listedIn Listing.listedBy Listing.listCall
     Enumeration.traced Enumeration.excluded Enumeration.taken Enumeration.answeredBy Enumeration.answer Enumeration.walk Enumeration.says Enumeration.shownIn

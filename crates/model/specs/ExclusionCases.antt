@@ -60,7 +60,7 @@ level b rs = record { box = b; reasons = rs; decided = 0 }
 abbrev unmarked : Level → List Level → Search
 unmarked l ls =
     record {
-      core = record { variables = 3; inputs = stepping .constraints; cuts = stepCut ∷ []; numbers = 3 ∷ []; made = 1; deepest = l; outer = ls };
+      core = record { variables = 3; thresholds = replicate 3 (pos 0); inputs = stepping .constraints; cuts = stepCut ∷ []; numbers = 3 ∷ []; made = 1; deepest = l; outer = ls };
       budget = 9;
       conflicts = 1;
       propagations = 1;
@@ -108,7 +108,7 @@ madeUpLevel b c r i = record { box = b ∷ c ∷ []; reasons = r ∷ by domain d
 
 abbrev madeUpState : Level → List Level → Status → Search
 madeUpState l ls m =
-    record { core = record { variables = 2; inputs = []; cuts = []; numbers = []; made = 0; deepest = l; outer = ls }; budget = 0; conflicts = 0; propagations = 0; status = m }
+    record { core = record { variables = 2; thresholds = replicate 2 (pos 0); inputs = []; cuts = []; numbers = []; made = 0; deepest = l; outer = ls }; budget = 0; conflicts = 0; propagations = 0; status = m }
 
 abbrev madeUp : Bool
 madeUp =

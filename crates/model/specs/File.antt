@@ -1,4 +1,4 @@
--- Document 01, 'The plan file' and the writer, with N1's divisors: the format on bytes, its errors in the order in which they count, reading and writing.
+-- Document 01, 'The plan file' and the writer, with N1's divisors and N6's thresholds: the format on bytes, its errors in the order in which they count, reading and writing.
 use Prim.Native.Nat.{ℕ, zero, suc, _+_, _*_, _/_, _%_}
 use mathlib.Core.Bool.{Bool, _&&_}
 use mathlib.Core.List.{List, [], _∷_, _++_}
@@ -7,7 +7,8 @@ use lib.IntN.{ℤ, pos}
 use lib.ListN.{getD, take, drop, length}
 use Rattle.model.specs.Lists.{tab, parts, all, allPairs}
 use Rattle.model.specs.Constraint.{Constraint, Bounds, lowerAt, upperAt, coefficientAt}
-use Rattle.model.specs.Problem.{Problem, variables, sizesInRange, domainInRange, constraintsInRange, divisorsInRange, firstError, Result, resultOf}
+use Rattle.model.specs.Threshold.{thresholdAt}
+use Rattle.model.specs.Problem.{Problem, variables, sizesInRange, domainInRange, thresholdsInRange, constraintsInRange, divisorsInRange, firstError, Result, resultOf}
 use Rattle.model.specs.Bytes.{u16At, u32At, i32At, u16Bytes, u32Bytes, i32Bytes, blockLength, checkOffset, block, checksum, zeroBetween, zeroFrom, paddedTo, sealed}
 
 -- ---- where the fields stand
@@ -32,6 +33,13 @@ boundsOffset i = 12 + 8 * i
 unfoldable pub boundsIn : List ℕ → ℕ → Bounds
 boundsIn f i = record { lower = i32At f (boundsOffset i); upper = i32At f (boundsOffset i + 4) }
 
+-- N6's 't', whatever n is
+unfoldable pub thresholdOffset : ℕ → ℕ
+thresholdOffset i = 268 + 4 * i
+
+unfoldable pub thresholdIn : List ℕ → ℕ → ℤ
+thresholdIn f i = i32At f (thresholdOffset i)
+
 -- the coefficient of variable i in a constraint's block; its constant is at 0
 unfoldable pub coefficientOffset : ℕ → ℕ
 coefficientOffset i = 4 + 4 * i
@@ -52,7 +60,12 @@ constraintOf f j = constraintIn (variablesIn f) (block f (suc j))
 
 unfoldable pub problemIn : List ℕ → Problem
 problemIn f =
-    record { domain = tab (boundsIn f) 0 (variablesIn f); constraints = tab (constraintOf f) 0 (constraintsIn f); budget = budgetIn f }
+    record {
+      domain = tab (boundsIn f) 0 (variablesIn f);
+      thresholds = tab (thresholdIn f) 0 (variablesIn f);
+      constraints = tab (constraintOf f) 0 (constraintsIn f);
+      budget = budgetIn f;
+    }
 
 -- ---- the conditions of the table, each as the test that it does not hold
 -- 1, 'torn'
@@ -82,8 +95,12 @@ blockPadded n b = zeroBetween (coefficientOffset n) divisorOffset b && zeroFrom 
 unfoldable pub constraintPadded : List ℕ → ℕ → Bool
 constraintPadded f j = blockPadded (variablesIn f) (block f (suc j))
 
+-- of the head: before its thresholds and after them
+unfoldable pub headPadded : ℕ → List ℕ → Bool
+headPadded n b = zeroBetween (boundsOffset n) (thresholdOffset 0) b && zeroFrom (thresholdOffset n) b
+
 unfoldable pub paddingZero : List ℕ → Bool
-paddingZero f = zeroFrom (boundsOffset (variablesIn f)) (block f 0) && all (tab (constraintPadded f) 0 (constraintsIn f))
+paddingZero f = headPadded (variablesIn f) (block f 0) && all (tab (constraintPadded f) 0 (constraintsIn f))
 
 -- ---- reading
 unfoldable pub readError : List ℕ → ℕ
@@ -94,6 +111,7 @@ readError f =
     (3, magicMatches f) ∷
     (4, sizesInRange (problemIn f) && blockCountMatches f) ∷
     (5, domainInRange (problemIn f)) ∷
+    (13, thresholdsInRange (problemIn f)) ∷
     (6, constraintsInRange (problemIn f)) ∷
     (10, divisorsInRange (problemIn f)) ∷
     (7, paddingZero f) ∷
@@ -106,9 +124,15 @@ readFile f = resultOf (readError f) (problemIn f)
 unfoldable pub boundsBytes : Problem → ℕ → List ℕ
 boundsBytes p i = i32Bytes (lowerAt (p .domain) i) ++ i32Bytes (upperAt (p .domain) i)
 
-unfoldable pub headBytes : Problem → List ℕ
-headBytes p =
+unfoldable pub thresholdBytes : Problem → ℕ → List ℕ
+thresholdBytes p i = i32Bytes (thresholdAt (p .thresholds) i)
+
+unfoldable pub limitsBytes : Problem → List ℕ
+limitsBytes p =
     magic ++ (u16Bytes (variables p) ++ (u16Bytes (length (p .constraints)) ++ (u32Bytes (p .budget) ++ parts (boundsBytes p) 0 (variables p))))
+
+unfoldable pub headBytes : Problem → List ℕ
+headBytes p = paddedTo (thresholdOffset 0) (limitsBytes p) ++ parts (thresholdBytes p) 0 (variables p)
 
 unfoldable pub coefficientBytes : Constraint → ℕ → List ℕ
 coefficientBytes k i = i32Bytes (coefficientAt k i)
@@ -136,7 +160,7 @@ fileLength p = blockLength * suc (length (p .constraints))
 -- writing into a buffer of `room` bytes; 8 is the 'short shelf'
 unfoldable pub writeError : Problem → ℕ → ℕ
 writeError p room =
-    firstError ((4, sizesInRange p) ∷ (5, domainInRange p) ∷ (6, constraintsInRange p) ∷ (10, divisorsInRange p) ∷ (8, leb (fileLength p) room) ∷ [])
+    firstError ((4, sizesInRange p) ∷ (5, domainInRange p) ∷ (13, thresholdsInRange p) ∷ (6, constraintsInRange p) ∷ (10, divisorsInRange p) ∷ (8, leb (fileLength p) room) ∷ [])
 
 -- the answer's number, 0 where the file was written, and the lent buffer's bytes after the call
 pub record Written : Type 0 where

@@ -3,6 +3,7 @@ pub mod Lists
 pub mod Ranges
 pub mod Division
 pub mod Constraint
+pub mod Threshold
 pub mod Problem
 pub mod Bytes
 pub mod File
@@ -23,6 +24,7 @@ pub mod Examples
 pub mod Table
 pub mod SearchCases
 pub mod DivisorCases
+pub mod ThresholdCases
 pub mod ExclusionCases
 pub mod ListingCases
 pub mod PropagationCases

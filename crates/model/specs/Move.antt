@@ -64,8 +64,8 @@ pub record Stop : Type 0 where
 -- the state after a move; 1 and 4 leave it as it is
 abbrev pub moved : Move → Core → Core
 moved (conflict j) c = c
-moved (newLower j i v) c = withDeepest c (raiseLower i v (constraint (numberAt c j)) (c .deepest))
-moved (newUpper j i v) c = withDeepest c (lowerUpper i v (constraint (numberAt c j)) (c .deepest))
+moved (newLower j i v) c = withDeepest c (raiseLower (c .thresholds) i v (constraint (numberAt c j)) (c .deepest))
+moved (newUpper j i v) c = withDeepest c (lowerUpper (c .thresholds) i v (constraint (numberAt c j)) (c .deepest))
 moved (decide i) c = withLevels c (decideAt i (c .deepest)) (levels c)
 moved finish c = c
 

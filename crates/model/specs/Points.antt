@@ -4,12 +4,13 @@ use mathlib.Core.Bool.{Bool, true, cond}
 use mathlib.Core.List.{List, [], _∷_, _++_, map}
 use mathlib.Core.Logic.{_⊎_}
 use mathlib.Core.Path.{_≡_}
-use lib.IntN.{ℤ, pos, natAbs, _+ℤ_, _-ℤ_, _*ℤ_}
+use lib.IntN.{ℤ, pos, natAbs, sucℤ, _+ℤ_, _-ℤ_, _*ℤ_}
 use lib.Signed.{leZ, _≤ℤ_, _<ℤ_}
 use lib.ListN.{length}
 use Rattle.model.specs.Lists.{allOf, filter}
 use Rattle.model.specs.Division.{divides}
-use Rattle.model.specs.Constraint.{Constraint, Bounds, Box, nextValue, modulus}
+use Rattle.model.specs.Constraint.{Constraint, Bounds, Box, modulus}
+use Rattle.model.specs.Threshold.{allowed}
 use Rattle.model.specs.Problem.{Problem}
 
 -- a 'point' is a choice of all variables' values
@@ -23,29 +24,42 @@ Inside [] (b ∷ box) = ⊥
 Inside (x ∷ v) [] = ⊥
 Inside (x ∷ v) (b ∷ box) = (b .lower ≤ℤ x) × (x ≤ℤ b .upper) × Inside v box
 
+-- N6: each value is one that its variable may have
+abbrev pub Allowed : List ℤ → Point → Type 0
+Allowed [] [] = Unit {0}
+Allowed [] (x ∷ v) = ⊥
+Allowed (t ∷ ts) [] = ⊥
+Allowed (t ∷ ts) (x ∷ v) = (allowed t x ≡ true) × Allowed ts v
+
 -- ---- the number of points
 -- how many whole numbers lie from L to U
-unfoldable pub valuesBetween : ℤ → ℤ → ℕ
-valuesBetween l u = cond (leZ l u) (suc (natAbs (u -ℤ l))) 0
+unfoldable pub wholeNumbers : ℤ → ℤ → ℕ
+wholeNumbers l u = cond (leZ l u) (suc (natAbs (u -ℤ l))) 0
 
-unfoldable pub valuesFrom : ℕ → ℤ → List ℤ
-valuesFrom zero v = []
-valuesFrom (suc count) v = v ∷ valuesFrom count (nextValue v)
+unfoldable pub numbersFrom : ℕ → ℤ → List ℤ
+numbersFrom zero v = []
+numbersFrom (suc count) v = v ∷ numbersFrom count (sucℤ v)
 
-unfoldable pub values : Bounds → List ℤ
-values b = valuesFrom (valuesBetween (b .lower) (b .upper)) (b .lower)
+-- those that the variable may have
+unfoldable pub values : ℤ → Bounds → List ℤ
+values t b = filter (allowed t) (numbersFrom (wholeNumbers (b .lower) (b .upper)) (b .lower))
 
 -- each value before each point
 unfoldable pub prefixed : List ℤ → List Point → List Point
 prefixed [] vs = []
 prefixed (x ∷ xs) vs = map (λ (v : Point). x ∷ v) vs ++ prefixed xs vs
 
-unfoldable pub allPoints : Box → List Point
-allPoints [] = [] ∷ []
-allPoints (b ∷ box) = prefixed (values b) (allPoints box)
+unfoldable pub pointsIn : List ℤ → Box → List Point
+pointsIn [] [] = [] ∷ []
+pointsIn [] (b ∷ box) = []
+pointsIn (t ∷ ts) [] = []
+pointsIn (t ∷ ts) (b ∷ box) = prefixed (values t b) (pointsIn ts box)
 
-unfoldable pub points : Box → ℕ
-points box = length (allPoints box)
+unfoldable pub allPoints : Problem → List Point
+allPoints p = pointsIn (p .thresholds) (p .domain)
+
+unfoldable pub points : Problem → ℕ
+points p = length (allPoints p)
 
 -- ---- solutions
 unfoldable pub dot : List ℤ → Point → ℤ
@@ -70,6 +84,7 @@ MeetsAll v (k ∷ ks) = Meets v k × MeetsAll v ks
 
 pub record Solution (p : Problem) (v : Point) : Type 0 where
   pub inside : Inside v (p .domain)
+  pub allowed : Allowed (p .thresholds) v
   pub meets : MeetsAll v (p .constraints)
 
 -- 'dictionary order': u comes before v
@@ -99,4 +114,4 @@ unfoldable pub isSolution : Problem → Point → Bool
 isSolution p v = allOf (isMet v) (p .constraints)
 
 unfoldable pub allSolutions : Problem → List Point
-allSolutions p = filter (isSolution p) (allPoints (p .domain))
+allSolutions p = filter (isSolution p) (allPoints p)

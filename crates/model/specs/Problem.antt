@@ -5,14 +5,17 @@ use mathlib.Core.List.{List, [], _∷_}
 use lib.Dec.{leb}
 use lib.Signed.{leZ}
 use lib.ListN.{length}
-use Rattle.model.specs.Lists.{all, allOf}
+use lib.IntN.{ℤ}
+use Rattle.model.specs.Lists.{all, allOf, allPairs}
 use Rattle.model.specs.Ranges.{maxVariables, maxConstraints, maxBudget, maxBound, within}
 use Rattle.model.specs.Constraint.{Constraint, Bounds, Box, inRange, divisorInRange}
+use Rattle.model.specs.Threshold.{thresholdFits}
 
--- The 'limits', the 'lines' as they stand in the file, and 'B'. The number of variables, 'n', is the length of the domain; 'm' that of the constraints,
--- each of which has n coefficients: what a problem holds past n and m is not part of it.
+-- The 'limits', N6's thresholds, the 'lines' as they stand in the file, and 'B'. The number of variables, 'n', is the length of the domain and of the
+-- thresholds; 'm' that of the constraints, each of which has n coefficients: what a problem holds past n and m is not part of it.
 pub record Problem : Type 0 where
   pub domain : Box
+  pub thresholds : List ℤ
   pub constraints : List Constraint
   pub budget : ℕ
 
@@ -29,6 +32,10 @@ boundsInRange b = all (within maxBound (b .lower) ∷ within maxBound (b .upper)
 
 unfoldable pub domainInRange : Problem → Bool
 domainInRange p = allOf boundsInRange (p .domain)
+
+-- 13 does not hold
+unfoldable pub thresholdsInRange : Problem → Bool
+thresholdsInRange p = allPairs thresholdFits (p .thresholds) (p .domain)
 
 -- 6 does not hold
 unfoldable pub constraintsInRange : Problem → Bool

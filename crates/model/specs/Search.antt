@@ -7,7 +7,8 @@ use lib.Dec.{ltb}
 use lib.IntN.{ℤ}
 use lib.ListN.{getD, set, length, drop, replicate, getElem?}
 use Rattle.model.specs.Ranges.{maxCuts}
-use Rattle.model.specs.Constraint.{Constraint, Box, setLower, setUpper, nextValue, lowerAt, rounded}
+use Rattle.model.specs.Constraint.{Constraint, Box, setLower, setUpper, lowerAt, rounded}
+use Rattle.model.specs.Threshold.{thresholdAt, lifted, sunk, nextValue}
 use Rattle.model.specs.Problem.{Problem, variables, Result, ok, error}
 use Rattle.model.specs.File.{readFile}
 
@@ -39,13 +40,20 @@ setLowerReason i r rs = set rs i (record { lower = r; upper = reasonsAt rs i .up
 unfoldable pub setUpperReason : ℕ → Reason → List Reasons → List Reasons
 setUpperReason i r rs = set rs i (record { lower = reasonsAt rs i .lower; upper = r })
 
--- variable i's lower bound rises to v, for reason r
-unfoldable pub raiseLower : ℕ → ℤ → Reason → Level → Level
-raiseLower i v r l = record { box = setLower i v (l .box); reasons = setLowerReason i r (l .reasons); decided = l .decided }
+-- variable i's lower bound is v, for reason r
+unfoldable pub holdLower : ℕ → ℤ → Reason → Level → Level
+holdLower i v r l = record { box = setLower i v (l .box); reasons = setLowerReason i r (l .reasons); decided = l .decided }
 
--- variable i's upper bound falls to v, for reason r
-unfoldable pub lowerUpper : ℕ → ℤ → Reason → Level → Level
-lowerUpper i v r l = record { box = setUpper i v (l .box); reasons = setUpperReason i r (l .reasons); decided = l .decided }
+-- variable i's upper bound is v, for reason r
+unfoldable pub holdUpper : ℕ → ℤ → Reason → Level → Level
+holdUpper i v r l = record { box = setUpper i v (l .box); reasons = setUpperReason i r (l .reasons); decided = l .decided }
+
+-- variable i's lower bound rises to v, and its upper bound falls to v, past the gap below its threshold
+unfoldable pub raiseLower : List ℤ → ℕ → ℤ → Reason → Level → Level
+raiseLower ts i v r l = holdLower i (lifted (thresholdAt ts i) v) r l
+
+unfoldable pub lowerUpper : List ℤ → ℕ → ℤ → Reason → Level → Level
+lowerUpper ts i v r l = holdUpper i (sunk (thresholdAt ts i) v) r l
 
 -- the level of a new decision: a copy with U = L at variable i
 unfoldable pub decideAt : ℕ → Level → Level
@@ -53,14 +61,15 @@ decideAt i l =
     record { box = setUpper i (lowerAt (l .box) i) (l .box); reasons = setUpperReason i decision (l .reasons); decided = i }
 
 -- the decision at variable i turned over: its lower bound rises to the next value
-unfoldable pub flipAt : ℕ → Level → Level
-flipAt i l = raiseLower i (nextValue (lowerAt (l .box) i)) flipped l
+unfoldable pub flipAt : List ℤ → ℕ → Level → Level
+flipAt ts i l = holdLower i (nextValue (thresholdAt ts i) (lowerAt (l .box) i)) flipped l
 
 -- ---- the state
--- What the search works on: 'n', the input lines rounded, the kept cuts with their stored numbers, oldest first, 'cuts made', and the levels: the
+-- What the search works on: 'n', the thresholds, the input lines rounded, the kept cuts with their stored numbers, oldest first, 'cuts made', and the levels: the
 -- deepest, and the others from the next one out to level 0. 'm' is the number of inputs and the 'depth' that of outer levels.
 pub record Core : Type 0 where
   pub variables : ℕ
+  pub thresholds : List ℤ
   pub inputs : List Constraint
   pub cuts : List Constraint
   pub numbers : List ℕ
@@ -87,7 +96,7 @@ unfoldable pub levels : Core → List Level
 levels c = c .deepest ∷ c .outer
 
 unfoldable pub withLevels : Core → Level → List Level → Core
-withLevels c l ls = record { variables = c .variables; inputs = c .inputs; cuts = c .cuts; numbers = c .numbers; made = c .made; deepest = l; outer = ls }
+withLevels c l ls = record { variables = c .variables; thresholds = c .thresholds; inputs = c .inputs; cuts = c .cuts; numbers = c .numbers; made = c .made; deepest = l; outer = ls }
 
 unfoldable pub withDeepest : Core → Level → Core
 withDeepest c l = withLevels c l (c .outer)
@@ -124,6 +133,7 @@ unfoldable pub keep : Constraint → Core → Core
 keep cut c =
     record {
       variables = c .variables;
+      thresholds = c .thresholds;
       inputs = c .inputs;
       cuts = newest (c .cuts ++ (cut ∷ []));
       numbers = newest (c .numbers ++ (nextNumber c ∷ []));
@@ -138,7 +148,7 @@ levelOf p = record { box = p .domain; reasons = replicate (variables p) noReason
 
 unfoldable pub coreOf : Problem → Core
 coreOf p =
-    record { variables = variables p; inputs = map rounded (p .constraints); cuts = []; numbers = []; made = 0; deepest = levelOf p; outer = [] }
+    record { variables = variables p; thresholds = p .thresholds; inputs = map rounded (p .constraints); cuts = []; numbers = []; made = 0; deepest = levelOf p; outer = [] }
 
 unfoldable pub openProblem : Problem → Search
 openProblem p = record { core = coreOf p; budget = p .budget; conflicts = 0; propagations = 0; status = undecided }

@@ -132,6 +132,7 @@ abbrev blamed : Constraint → ℕ → Core
 blamed k v =
     record {
       variables = 2;
+      thresholds = replicate 2 (pos 0);
       inputs = k ∷ [];
       cuts = [];
       numbers = [];

@@ -8,6 +8,8 @@ use lib.ListN.{length}
 use Rattle.model.specs.Lists.{tab, all, allOf, anyOf, allPairs}
 use Rattle.model.specs.Ranges.{maxVariables, maxConstraints, maxCuts, maxBudget, maxPropagations}
 use Rattle.model.specs.Constraint.{Constraint, Bounds, Box, isInequality, lowerAt, upperAt, isOpen, falsified, inRange, divisorInRange, equalℤ}
+use lib.IntN.{ℤ}
+use Rattle.model.specs.Threshold.{isThreshold, outsideGap}
 use Rattle.model.specs.Problem.{boundsInRange}
 use Rattle.model.specs.Search.{Reason, domain, decision, flipped, constraint, Reasons, Level, Core, Status, undecided, infeasible, solved, Search, depth, levels, kept, dropped}
 
@@ -94,6 +96,13 @@ statusValid c undecided = true
 statusValid c infeasible = anyFalsified c (outermost (c .deepest) (c .outer))
 statusValid c solved = not (anyOf isOpen (c .deepest .box)) && not (anyFalsified c (c .deepest))
 
+-- N6: the thresholds, and no bound of a frame from 1 to its threshold less one
+unfoldable pub levelAllowed : List ℤ → Level → Bool
+levelAllowed ts l = allPairs outsideGap ts (l .box)
+
+unfoldable pub thresholdsValid : Core → Bool
+thresholdsValid c = allOf isThreshold (c .thresholds) && allOf (levelAllowed (c .thresholds)) (levels c)
+
 unfoldable pub valid : Search → Bool
 valid s =
     all (
@@ -104,6 +113,7 @@ valid s =
     levelsValid (s .core) ∷
     nestedValid (s .core .variables) (s .core .deepest) (s .core .outer) ∷
     statusValid (s .core) (s .status) ∷
+    thresholdsValid (s .core) ∷
     [])
 
 -- N5's limit. It stands apart from what every turn keeps: a turn may pass it, and then the next call refuses the state.

@@ -21,7 +21,7 @@ metA = all (valid (openProblem (planA 5)) ∷ valid (stateAfter 1 (openProblem (
 abbrev state : Level → List Level → List Constraint → List ℕ → ℕ → ℕ → Status → Search
 state l ls ks ns made ends status =
     record {
-      core = record { variables = 2; inputs = A-first ∷ A-second ∷ []; cuts = ks; numbers = ns; made = made; deepest = l; outer = ls };
+      core = record { variables = 2; thresholds = replicate 2 (pos 0); inputs = A-first ∷ A-second ∷ []; cuts = ks; numbers = ns; made = made; deepest = l; outer = ls };
       budget = 5;
       conflicts = ends;
       propagations = 0;
@@ -96,7 +96,7 @@ rangeCase =
 abbrev withInput : Constraint → Level → Status → Search
 withInput k l status =
     record {
-      core = record { variables = 2; inputs = k ∷ A-second ∷ []; cuts = []; numbers = []; made = 0; deepest = l; outer = [] };
+      core = record { variables = 2; thresholds = replicate 2 (pos 0); inputs = k ∷ A-second ∷ []; cuts = []; numbers = []; made = 0; deepest = l; outer = [] };
       budget = 5;
       conflicts = 1;
       propagations = 0;
@@ -126,7 +126,7 @@ numberCase = refused (withCut cut (2 ∷ []) 1 1 ∷ withCut cut (4 ∷ []) 1 1 
 abbrev many : ℕ → Search
 many first =
     record {
-      core = record { variables = 2; inputs = A-first ∷ A-second ∷ []; cuts = replicate 64 cut; numbers = tab (λ (k : ℕ). k) first 64; made = 65; deepest = root; outer = [] };
+      core = record { variables = 2; thresholds = replicate 2 (pos 0); inputs = A-first ∷ A-second ∷ []; cuts = replicate 64 cut; numbers = tab (λ (k : ℕ). k) first 64; made = 65; deepest = root; outer = [] };
       budget = 65;
       conflicts = 65;
       propagations = 0;

@@ -9,7 +9,7 @@ use Rattle.model.specs.Constraint.{rounded}
 use Rattle.model.specs.Problem.{variables}
 use Rattle.model.specs.Search as model
 use Rattle.lists.proofs.Tab.{tab-ext-0, tab-const, getD-const}
-use Rattle.layout.specs.Rows.{inputAt, boxOf}
+use Rattle.layout.specs.Rows.{inputAt, boxOf, thresholdsOf}
 use Rattle.layout.proofs.Rows.{length-box}
 use Rattle.problem.specs.declared.Problem.{Problem}
 use Rattle.problem.specs.View.{problemOf}
@@ -37,12 +37,12 @@ module _ (p : Problem) where
   -- ---- the state
   pub opened : (rows : List ℤ) (numbers : List ℕ) (levels : List Level) → tab (inputAt (p .n) rows (p .divisors)) 0 (p .m) ≡ map rounded (problemOf p .constraints) →
       levelOf (p .n) (getD levels 0 noLevel) ≡ model.levelOf (problemOf p) →
-      view (record { n = p .n; m = p .m; budget = p .budget; conflicts = 0; propagations = 0; made = 0; depth = 0; status = Undecided; rows = rows; divisors = p .divisors; numbers = numbers; levels = levels }) ≡ model.openProblem (problemOf p)
+      view (record { n = p .n; m = p .m; budget = p .budget; conflicts = 0; propagations = 0; made = 0; depth = 0; status = Undecided; thresholds = p .thresholds; rows = rows; divisors = p .divisors; numbers = numbers; levels = levels }) ≡ model.openProblem (problemOf p)
   unfolding view coreOf coreOver inputsOf levelAt levelsFrom keptCuts tab statusOf model.openProblem model.coreOf problemOf
   opened rows numbers levels r l =
       λ i.
       record {
-        core = record { variables = variables-are i; inputs = r i; cuts = []; numbers = []; made = 0; deepest = l i; outer = [] };
+        core = record { variables = variables-are i; thresholds = thresholdsOf (p .n) (p .thresholds); inputs = r i; cuts = []; numbers = []; made = 0; deepest = l i; outer = [] };
         budget = p .budget;
         conflicts = 0;
         propagations = 0;

@@ -82,6 +82,7 @@ pub fn from_problem(p: Problem) -> Search
     let budget = p.budget;
     let rows = rounded_rows(p);
     let divisors = p.divisors;
+    let thresholds = p.thresholds;
     let first = first_level(p);
     Search {
         n,
@@ -92,6 +93,7 @@ pub fn from_problem(p: Problem) -> Search
         made: 0,
         depth: 0,
         status: Status::Undecided,
+        thresholds,
         rows,
         divisors,
         numbers: [0; 64],

@@ -7,7 +7,8 @@ use lib.IntN.{ℤ, pos}
 use lib.ListN.{getD, replicate}
 use Rattle.model.specs.Bytes.{i32At}
 use Rattle.model.specs.Constraint.{Constraint, Bounds, noBounds, coefficientAt, lowerAt, upperAt}
-use Rattle.model.specs.File.{variablesIn, constraintsIn, budgetIn, boundsIn, constraintOf, problemIn, noConstraint}
+use Rattle.model.specs.Threshold.{thresholdAt}
+use Rattle.model.specs.File.{variablesIn, constraintsIn, budgetIn, boundsIn, thresholdIn, constraintOf, problemIn, noConstraint}
 use Rattle.model.specs.Lists.{tab}
 use Rattle.lists.proofs.Tab.{getD-tab, getD-tab-past, tab-append, tab-ext, tab-ext-0, tab-const}
 use Rattle.format.proofs.AcceptedShape.{variables-in, constraints-in}
@@ -48,6 +49,13 @@ module _ (f : List ℕ) (n : ℕ) (en : n ≡ variablesIn f) (few : n ≤ room) 
       (λ i l. sym (ap (λ (b : Bounds). b .upper) (bounds-at i l)))
       (λ i l. ap (λ (b : Bounds). b .upper) (bounds-past i l))
 
+  thresholds-are : filled (thresholdIn f) n room ≡ tab (thresholdAt (problemIn f .thresholds)) 0 room
+  unfolding thresholdAt problemIn
+  thresholds-are =
+      filled-is (thresholdIn f) (thresholdAt (problemIn f .thresholds)) n room few
+      (λ i l. sym (getD-tab (thresholdIn f) (variablesIn f) i (pos 0) (omega arith)))
+      (λ i l. getD-tab-past (thresholdIn f) 0 (variablesIn f) i (pos 0) (omega arith))
+
 no-cell : (i : ℕ) → inRow noConstraint i ≡ pos 0
 unfolding inRow coefficientAt
 no-cell zero = refl
@@ -69,18 +77,19 @@ module _ (f : List ℕ) (m : ℕ) (em : m ≡ constraintsIn f) (few : m ≤ divi
       (λ j l. ap (λ (k : Constraint). k .divisor) (getD-tab-past (constraintOf f) 0 (constraintsIn f) j noConstraint (omega arith)))
 
 -- ---- and the problem
-same : {n n′ m m′ b b′ : ℕ} {l l′ u u′ k k′ q q′ : List ℤ} → n ≡ n′ → m ≡ m′ → b ≡ b′ → l ≡ l′ → u ≡ u′ → k ≡ k′ → q ≡ q′ →
-    _≡_ {A = Problem} (record { n = n; m = m; budget = b; lower = l; upper = u; constraints = k; divisors = q })
-    (record { n = n′; m = m′; budget = b′; lower = l′; upper = u′; constraints = k′; divisors = q′ })
-same en em eb el eu ek eq = cc
+same : {n n′ m m′ b b′ : ℕ} {l l′ u u′ k k′ q q′ t t′ : List ℤ} → n ≡ n′ → m ≡ m′ → b ≡ b′ → l ≡ l′ → u ≡ u′ → k ≡ k′ → q ≡ q′ → t ≡ t′ →
+    _≡_ {A = Problem} (record { n = n; m = m; budget = b; lower = l; upper = u; constraints = k; divisors = q; thresholds = t })
+    (record { n = n′; m = m′; budget = b′; lower = l′; upper = u′; constraints = k′; divisors = q′; thresholds = t′ })
+same en em eb el eu ek eq et = cc
 
-pub problem-is : (f : List ℕ) (n m b : ℕ) (l u k q : List ℤ) → Blocks f → n ≡ variablesIn f → m ≡ constraintsIn f → b ≡ budgetIn f →
+pub problem-is : (f : List ℕ) (n m b : ℕ) (l u k q t : List ℤ) → Blocks f → n ≡ variablesIn f → m ≡ constraintsIn f → b ≡ budgetIn f →
     l ≡ filled (boundIn f 0) n room → u ≡ filled (boundIn f 4) n room → k ≡ filled (cellIn f) (rowLength * m) cells →
-    q ≡ filled (divisorIn f) m divisorRoom →
-    _≡_ {A = Problem} (record { n = n; m = m; budget = b; lower = l; upper = u; constraints = k; divisors = q }) (packed (problemIn f))
+    q ≡ filled (divisorIn f) m divisorRoom → t ≡ filled (thresholdIn f) n room →
+    _≡_ {A = Problem} (record { n = n; m = m; budget = b; lower = l; upper = u; constraints = k; divisors = q; thresholds = t }) (packed (problemIn f))
 unfolding packed problemIn
-problem-is f n m b l u k q s en em eb el eu ek eq =
+problem-is f n m b l u k q t s en em eb el eu ek eq et =
     let few = s .few-variables in
     let short = s .few-constraints in
     same (en ∙ sym (variables-in f)) (em ∙ sym (constraints-in f)) eb
     (el ∙ lower-is f n en (omega arith)) (eu ∙ upper-is f n en (omega arith)) (ek ∙ rows-are f m em (omega arith)) (eq ∙ divisors-are f m em (omega arith))
+    (et ∙ thresholds-are f n en (omega arith))

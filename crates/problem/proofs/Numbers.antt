@@ -7,7 +7,7 @@ use Rattle.model.specs.File.{problemIn, readError, readFile}
 use Rattle.model.specs.Problem as model
 use Rattle.model.specs.Problem.{resultOf}
 use Rattle.problem.specs.declared.Answer.{Answer}
-use Rattle.problem.specs.declared.Answer.the-variants.{Done, Truncated, BadChecksum, BadMagic, SizeRange, DomainRange, CoefficientRange, NonzeroPadding, ShortBuffer, InvalidSearch, DivisorRange}
+use Rattle.problem.specs.declared.Answer.the-variants.{Done, Truncated, BadChecksum, BadMagic, SizeRange, DomainRange, CoefficientRange, NonzeroPadding, ShortBuffer, InvalidSearch, DivisorRange, ThresholdRange}
 use Rattle.problem.specs.declared.Reading.{Reading}
 use Rattle.problem.specs.Answer.{number}
 use Rattle.problem.specs.View.{SeenReading, seenRead, readingOf}
@@ -25,6 +25,7 @@ done NonzeroPadding e = absurd (omega arith)
 done ShortBuffer e = absurd (omega arith)
 done InvalidSearch e = absurd (omega arith)
 done DivisorRange e = absurd (omega arith)
+done ThresholdRange e = absurd (omega arith)
 
 number-by : (p : model.Problem) (e : ℕ) → readingOf (resultOf e p) .number ≡ e
 unfolding readingOf resultOf

@@ -8,11 +8,11 @@ use lib.ListN.{length}
 use borrow.Author.Tests.{leb-true, eqb-true}
 use Rattle.model.specs.Bytes.{blockLength}
 use Rattle.model.specs.File.{constraintsIn, problemIn, wholeBlocks, checksMatch, magicMatches, blockCountMatches, paddingZero, readError, readFile}
-use Rattle.model.specs.Problem.{sizesInRange, domainInRange, constraintsInRange, divisorsInRange, firstError, resultOf}
+use Rattle.model.specs.Problem.{sizesInRange, domainInRange, thresholdsInRange, constraintsInRange, divisorsInRange, firstError, resultOf}
 use Rattle.lists.proofs.Bools.{said-no, said-yes, and-true}
 use Rattle.format.proofs.AcceptedShape.{Sizes, sizes, variables-in, constraints-in}
 use Rattle.problem.specs.declared.Answer.{Answer}
-use Rattle.problem.specs.declared.Answer.the-variants.{Done, Truncated, BadChecksum, BadMagic, SizeRange, DomainRange, CoefficientRange, NonzeroPadding, DivisorRange}
+use Rattle.problem.specs.declared.Answer.the-variants.{Done, Truncated, BadChecksum, BadMagic, SizeRange, DomainRange, CoefficientRange, NonzeroPadding, DivisorRange, ThresholdRange}
 use Rattle.problem.specs.declared.Problem.{Problem}
 use Rattle.problem.specs.declared.Reading.{Reading}
 use Rattle.problem.specs.Answer.{number}
@@ -48,7 +48,7 @@ module _ (f : List ℕ) where
         unfolding sizesMatch readError firstError number
         size-range r q e h g = error-is 3 SizeRange q (rw (t₁, t₂, t₃, said-no e h)) refl g
 
--- ---- past the sizes, 5, 6 and 10 are tests on the problem
+-- ---- past the sizes, 5, 13, 6 and 10 are tests on the problem
 module _ (f : List ℕ) (t₄ : sizesMatch f ≡ true) where
   t₄′ : (sizesInRange (problemIn f) && blockCountMatches f) ≡ true
   unfolding sizesMatch
@@ -82,30 +82,40 @@ module _ (f : List ℕ) (t₄ : sizesMatch f ≡ true) where
         t₅′ : domainInRange (problemIn f) ≡ true
         t₅′ = rw view at t₅
 
-        pub coefficient-range : (r : Bool) (q : Reading) → r ≡ constraintsInRange (problemOf p) → not r ≡ true → q ≡ record { answer = CoefficientRange; problem = empty } → seenRead q ≡ readingOf (readFile f)
+        pub threshold-range : (r : Bool) (q : Reading) → r ≡ thresholdsInRange (problemOf p) → not r ≡ true → q ≡ record { answer = ThresholdRange; problem = empty } → seenRead q ≡ readingOf (readFile f)
         unfolding readError firstError number
-        coefficient-range r q e h g =
-            let t : constraintsInRange (problemIn f) ≡ false = rw view at (said-no e h) in
-            error-is f 5 CoefficientRange q (rw (t₁, t₂, t₃, t₄′, t₅′, t)) refl g
+        threshold-range r q e h g =
+            let t : thresholdsInRange (problemIn f) ≡ false = rw view at (said-no e h) in
+            error-is f 12 ThresholdRange q (rw (t₁, t₂, t₃, t₄′, t₅′, t)) refl g
 
-        module _ (t₆ : constraintsInRange (problemOf p) ≡ true) where
-          t₆′ : constraintsInRange (problemIn f) ≡ true
-          t₆′ = rw view at t₆
+        module _ (t₁₃ : thresholdsInRange (problemOf p) ≡ true) where
+          t₁₃′ : thresholdsInRange (problemIn f) ≡ true
+          t₁₃′ = rw view at t₁₃
 
-          pub divisor-range : (r : Bool) (q : Reading) → r ≡ divisorsInRange (problemOf p) → not r ≡ true → q ≡ record { answer = DivisorRange; problem = empty } → seenRead q ≡ readingOf (readFile f)
+          pub coefficient-range : (r : Bool) (q : Reading) → r ≡ constraintsInRange (problemOf p) → not r ≡ true → q ≡ record { answer = CoefficientRange; problem = empty } → seenRead q ≡ readingOf (readFile f)
           unfolding readError firstError number
-          divisor-range r q e h g =
-              let t : divisorsInRange (problemIn f) ≡ false = rw view at (said-no e h) in
-              error-is f 9 DivisorRange q (rw (t₁, t₂, t₃, t₄′, t₅′, t₆′, t)) refl g
+          coefficient-range r q e h g =
+              let t : constraintsInRange (problemIn f) ≡ false = rw view at (said-no e h) in
+              error-is f 5 CoefficientRange q (rw (t₁, t₂, t₃, t₄′, t₅′, t₁₃′, t)) refl g
 
-          module _ (t₁₀ : divisorsInRange (problemOf p) ≡ true) where
-            t₁₀′ : divisorsInRange (problemIn f) ≡ true
-            t₁₀′ = rw view at t₁₀
+          module _ (t₆ : constraintsInRange (problemOf p) ≡ true) where
+            t₆′ : constraintsInRange (problemIn f) ≡ true
+            t₆′ = rw view at t₆
 
-            pub nonzero-padding : (r : Bool) (q : Reading) → r ≡ paddingZero f → not r ≡ true → q ≡ record { answer = NonzeroPadding; problem = empty } → seenRead q ≡ readingOf (readFile f)
+            pub divisor-range : (r : Bool) (q : Reading) → r ≡ divisorsInRange (problemOf p) → not r ≡ true → q ≡ record { answer = DivisorRange; problem = empty } → seenRead q ≡ readingOf (readFile f)
             unfolding readError firstError number
-            nonzero-padding r q e h g = error-is f 6 NonzeroPadding q (rw (t₁, t₂, t₃, t₄′, t₅′, t₆′, t₁₀′, said-no e h)) refl g
+            divisor-range r q e h g =
+                let t : divisorsInRange (problemIn f) ≡ false = rw view at (said-no e h) in
+                error-is f 9 DivisorRange q (rw (t₁, t₂, t₃, t₄′, t₅′, t₁₃′, t₆′, t)) refl g
 
-            pub accepted : (r : Bool) → r ≡ paddingZero f → not r ≡ false → seenRead (record { answer = Done; problem = p }) ≡ readingOf (readFile f)
-            unfolding readFile readError firstError resultOf readingOf seenRead number
-            accepted r e h = rw (ep, t₁, t₂, t₃, t₄′, t₅′, t₆′, t₁₀′, said-yes e h)
+            module _ (t₁₀ : divisorsInRange (problemOf p) ≡ true) where
+              t₁₀′ : divisorsInRange (problemIn f) ≡ true
+              t₁₀′ = rw view at t₁₀
+
+              pub nonzero-padding : (r : Bool) (q : Reading) → r ≡ paddingZero f → not r ≡ true → q ≡ record { answer = NonzeroPadding; problem = empty } → seenRead q ≡ readingOf (readFile f)
+              unfolding readError firstError number
+              nonzero-padding r q e h g = error-is f 6 NonzeroPadding q (rw (t₁, t₂, t₃, t₄′, t₅′, t₁₃′, t₆′, t₁₀′, said-no e h)) refl g
+
+              pub accepted : (r : Bool) → r ≡ paddingZero f → not r ≡ false → seenRead (record { answer = Done; problem = p }) ≡ readingOf (readFile f)
+              unfolding readFile readError firstError resultOf readingOf seenRead number
+              accepted r e h = rw (ep, t₁, t₂, t₃, t₄′, t₅′, t₁₃′, t₆′, t₁₀′, said-yes e h)

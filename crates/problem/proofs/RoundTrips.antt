@@ -22,7 +22,7 @@ use Rattle.format.proofs.Errors.{result-ok}
 use Rattle.format.proofs.FileIsWritten.{read-then-written}
 use Rattle.format.proofs.WrittenIsRead.{writable, written-is-read}
 use Rattle.layout.proofs.Rows.{length-box}
-use Rattle.layout.specs.Rows.{rowLength, cell, dividedAt, inputAt}
+use Rattle.layout.specs.Rows.{rowLength, numberIn, cell, dividedAt, inputAt, thresholdsOf}
 use Rattle.problem.specs.declared.Answer.{Answer}
 use Rattle.problem.specs.declared.Answer.the-variants.{Done}
 use Rattle.problem.specs.declared.Problem.{Problem}
@@ -57,6 +57,10 @@ inputs-shaped p =
     (T-of (allOf-tab (constraintShaped (p .n)) (inputAt (p .n) (p .constraints) (p .divisors)) 0 (p .m) ∙
     all-of (λ j. constraintShaped (p .n) (inputAt (p .n) (p .constraints) (p .divisors) j)) (p .m)
     (λ j l. eq-eqb _ _ (length-tab (cell (p .constraints) (rowLength * j)) 0 (p .n)))))
+
+thresholds-even : (p : Problem) → length (problemOf p .thresholds) ≡ variables (problemOf p)
+unfolding problemOf variables thresholdsOf
+thresholds-even p = length-tab (numberIn (p .thresholds)) 0 (p .n) ∙ sym (length-box (p .n) (p .lower) (p .upper))
 
 same-reading : {a b : Answer} {p q : Problem} → a ≡ b → p ≡ q → _≡_ {A = Reading} (record { answer = a; problem = p }) (record { answer = b; problem = q })
 same-reading d g = cc
@@ -93,5 +97,5 @@ module _ (p : Problem) (b : List ℕ) (a : Answer) (s : List ℕ) (writes : writ
   pub view-of-written : problemOf (packed (problemOf p)) ≡ problemOf p
   view-of-written =
       let z = sizes (problemOf p) (writable (problemOf p) (length b) writes-no-error .sized) in
-      view-of-packed (problemOf p) (z .few-variables) (z .few-constraints)
+      view-of-packed (problemOf p) (z .few-variables) (z .few-constraints) (thresholds-even p)
       (true-of (allOf (constraintShaped (variables (problemOf p))) (problemOf p .constraints)) (inputs-shaped p))

@@ -8,6 +8,7 @@ use lib.IntN.{ℤ, pos}
 use lib.ListN.{getD, length}
 use borrow.Author.Tests.{eqb-true}
 use Rattle.model.specs.Constraint.{Constraint, Box, noBounds, coefficientAt, lowerAt, upperAt}
+use Rattle.model.specs.Threshold.{thresholdAt}
 use Rattle.model.specs.File.{noConstraint, problemIn, readError}
 use Rattle.model.specs.Lists.{tab, allOf}
 use Rattle.model.specs.Problem as model
@@ -17,8 +18,8 @@ use Rattle.model.specs.Validity.{constraintShaped}
 use Rattle.lists.proofs.AllOf.{allOf-getD}
 use Rattle.lists.proofs.Bools.{true-of}
 use Rattle.lists.proofs.Tab.{getD-tab, tab-is}
-use Rattle.format.proofs.AcceptedShape.{Sizes, sizes, tests, problem-shaped}
-use Rattle.layout.specs.Rows.{rowLength, numberIn, cell, dividedAt, inputAt, boundsAt, boxOf}
+use Rattle.format.proofs.AcceptedShape.{Sizes, sizes, tests, thresholds-in, problem-shaped}
+use Rattle.layout.specs.Rows.{rowLength, numberIn, cell, dividedAt, inputAt, boundsAt, boxOf, thresholdsOf}
 use Rattle.fields.specs.Fields.{room, cells, divisorRoom, inRow}
 use Rattle.problem.specs.View.{problemOf, inRows, divisorAt, packed}
 
@@ -33,6 +34,11 @@ module _ (box : Box) (few : length box ≤ room) where
   box-is : boxOf (length box) (tab (lowerAt box) 0 room) (tab (upperAt box) 0 room) ≡ box
   unfolding boxOf
   box-is = tab-is box (length box) (boundsAt (tab (lowerAt box) 0 room) (tab (upperAt box) 0 room)) noBounds refl bounds-are
+
+-- ---- the thresholds
+thresholds-are : (ts : List ℤ) (n : ℕ) → length ts ≡ n → n ≤ room → thresholdsOf n (tab (thresholdAt ts) 0 room) ≡ ts
+unfolding thresholdsOf thresholdAt numberIn
+thresholds-are ts n e few = tab-is ts n (numberIn (tab (thresholdAt ts) 0 room)) (pos 0) e (λ i l. sym (getD-tab (thresholdAt ts) room i (pos 0) (omega arith)))
 
 -- ---- the constraints
 module _ (ks : List Constraint) (j : ℕ) (h : j < maxConstraints) where
@@ -61,7 +67,7 @@ module _ (ks : List Constraint) (j : ℕ) (h : j < maxConstraints) where
 
 -- ---- the problem
 module _ (p : model.Problem) (few : variables p ≤ maxVariables) (short : length (p .constraints) ≤ maxConstraints)
-    (shape : allOf (constraintShaped (variables p)) (p .constraints) ≡ true) where
+    (even : length (p .thresholds) ≡ variables p) (shape : allOf (constraintShaped (variables p)) (p .constraints) ≡ true) where
   constraints-are : tab (inputAt (variables p) (tab (inRows (p .constraints)) 0 cells) (tab (divisorAt (p .constraints)) 0 divisorRoom)) 0 (length (p .constraints)) ≡ p .constraints
   unfolding constraintShaped
   constraints-are =
@@ -71,12 +77,18 @@ module _ (p : model.Problem) (few : variables p ≤ maxVariables) (short : lengt
 
   pub view-of-packed : problemOf (packed p) ≡ p
   unfolding problemOf packed variables
-  view-of-packed = λ i. record { domain = box-is (p .domain) few i; constraints = constraints-are i; budget = p .budget }
+  view-of-packed =
+      λ i. record {
+        domain = box-is (p .domain) few i;
+        thresholds = thresholds-are (p .thresholds) (variables p) even few i;
+        constraints = constraints-are i;
+        budget = p .budget;
+      }
 
 -- the problem of a file whose sizes are in range, and so of every accepted one
 pub view-of-file : (f : List ℕ) → Sizes (problemIn f) → problemOf (packed (problemIn f)) ≡ problemIn f
 view-of-file f s =
-    view-of-packed (problemIn f) (s .few-variables) (s .few-constraints)
+    view-of-packed (problemIn f) (s .few-variables) (s .few-constraints) (thresholds-in f)
     (true-of (allOf (constraintShaped (variables (problemIn f))) (problemIn f .constraints)) (problem-shaped f))
 
 pub view-of-accepted : (f : List ℕ) → readError f ≡ 0 → problemOf (packed (problemIn f)) ≡ problemIn f

@@ -8,13 +8,10 @@ use lib.ListN.{drop, length}
 use borrow.Author.Tests.{lt-leb, le-leb}
 use Rattle.model.specs.Bytes.{blockLength}
 use Rattle.model.specs.File.{fileOf, fileLength, writeError, writtenBy, writeFile}
-use Rattle.model.specs.Problem.{variables, sizesInRange, domainInRange, constraintsInRange, divisorsInRange, firstError}
+use Rattle.model.specs.Problem.{sizesInRange, domainInRange, thresholdsInRange, constraintsInRange, divisorsInRange, firstError}
 use Rattle.model.specs.Ranges.{maxVariables, maxConstraints}
-use Rattle.lists.proofs.Tab.{length-tab}
 use Rattle.format.proofs.AcceptedShape.{Sizes, sizes}
-use Rattle.layout.proofs.Rows.{length-box}
-use Rattle.layout.specs.Rows.{inputAt}
-use Rattle.problem.specs.declared.Answer.the-variants.{Done, SizeRange, DomainRange, CoefficientRange, ShortBuffer, DivisorRange}
+use Rattle.problem.specs.declared.Answer.the-variants.{Done, SizeRange, DomainRange, CoefficientRange, ShortBuffer, DivisorRange, ThresholdRange}
 use Rattle.problem.specs.declared.Problem.{Problem}
 use Rattle.problem.specs.Answer.{number, written}
 use Rattle.problem.specs.Writable.{Writable}
@@ -22,24 +19,17 @@ use Rattle.layout.specs.Sizes.{sizesFit}
 use Rattle.layout.proofs.Limits.{sizes-fit}
 use Rattle.problem.specs.View.{problemOf}
 use Rattle.lists.proofs.Bools.{said-no, said-yes}
+use Rattle.problem.proofs.Writing.{variable-count, constraint-count}
 
 module _ (p : Problem) where
-  variable-count : variables (problemOf p) ≡ p .n
-  unfolding variables problemOf
-  variable-count = length-box (p .n) (p .lower) (p .upper)
-
-  constraint-count : length (problemOf p .constraints) ≡ p .m
-  unfolding problemOf
-  constraint-count = length-tab (inputAt (p .n) (p .constraints) (p .divisors)) 0 (p .m)
-
   length-is : fileLength (problemOf p) ≡ blockLength * suc (p .m)
   unfolding fileLength
-  length-is = rw constraint-count
+  length-is = rw (constraint-count p)
 
   -- the code's test of the three numbers
   sizes-are : (r : Bool) → r ≡ sizesFit (p .n) (p .m) (p .budget) → r ≡ sizesInRange (problemOf p)
   unfolding problemOf
-  sizes-are r t = t ∙ sizes-fit (p .n) (p .m) (p .budget) (problemOf p) variable-count constraint-count refl
+  sizes-are r t = t ∙ sizes-fit (p .n) (p .m) (p .budget) (problemOf p) (variable-count p) (constraint-count p) refl
 
   pub sized : (r : Bool) → r ≡ sizesFit (p .n) (p .m) (p .budget) → not r ≡ false → sizesInRange (problemOf p) ≡ true
   sized r t h = said-yes (sizes-are r t) h
@@ -49,14 +39,15 @@ module _ (p : Problem) where
     in-range = sizes (problemOf p) t₄
 
     pub variables-few : p .n ≤ maxVariables
-    variables-few = omega (arith, in-range .few-variables, variable-count)
+    variables-few = omega (arith, in-range .few-variables, variable-count p)
 
     pub constraints-few : p .m ≤ maxConstraints
-    constraints-few = omega (arith, in-range .few-constraints, constraint-count)
+    constraints-few = omega (arith, in-range .few-constraints, constraint-count p)
 
-    pub writable : (space : ℕ) → domainInRange (problemOf p) ≡ true → constraintsInRange (problemOf p) ≡ true → divisorsInRange (problemOf p) ≡ true → p .m < space / blockLength → Writable p space
-    writable space t₅ t₆ t₁₀ l =
-        record { few-variables = variables-few; few-constraints = constraints-few; bounded = t₅; coefficient-range = t₆; divisor-range = t₁₀; long = omega arith }
+    pub writable : (space : ℕ) → domainInRange (problemOf p) ≡ true → thresholdsInRange (problemOf p) ≡ true → constraintsInRange (problemOf p) ≡ true → divisorsInRange (problemOf p) ≡ true →
+        p .m < space / blockLength → Writable p space
+    writable space t₅ t₁₃ t₆ t₁₀ l =
+        record { few-variables = variables-few; few-constraints = constraints-few; bounded = t₅; threshold-range = t₁₃; coefficient-range = t₆; divisor-range = t₁₀; long = omega arith }
 
 module _ (p : Problem) (b : List ℕ) where
   pub size-range : (r : Bool) → r ≡ sizesFit (p .n) (p .m) (p .budget) → not r ≡ true → written SizeRange b ≡ writeFile (problemOf p) b
@@ -69,20 +60,25 @@ module _ (p : Problem) (b : List ℕ) where
     domain-range r e h = rw (t₄, said-no e h)
 
     module _ (t₅ : domainInRange (problemOf p) ≡ true) where
-      pub coefficient-range : (r : Bool) → r ≡ constraintsInRange (problemOf p) → not r ≡ true → written CoefficientRange b ≡ writeFile (problemOf p) b
+      pub threshold-range : (r : Bool) → r ≡ thresholdsInRange (problemOf p) → not r ≡ true → written ThresholdRange b ≡ writeFile (problemOf p) b
       unfolding written number writeFile writeError writtenBy firstError
-      coefficient-range r e h = rw (t₄, t₅, said-no e h)
+      threshold-range r e h = rw (t₄, t₅, said-no e h)
 
-      module _ (t₆ : constraintsInRange (problemOf p) ≡ true) where
-        pub divisor-range : (r : Bool) → r ≡ divisorsInRange (problemOf p) → not r ≡ true → written DivisorRange b ≡ writeFile (problemOf p) b
+      module _ (t₁₃ : thresholdsInRange (problemOf p) ≡ true) where
+        pub coefficient-range : (r : Bool) → r ≡ constraintsInRange (problemOf p) → not r ≡ true → written CoefficientRange b ≡ writeFile (problemOf p) b
         unfolding written number writeFile writeError writtenBy firstError
-        divisor-range r e h = rw (t₄, t₅, t₆, said-no e h)
+        coefficient-range r e h = rw (t₄, t₅, t₁₃, said-no e h)
 
-        module _ (t₁₀ : divisorsInRange (problemOf p) ≡ true) where
-          pub short-buffer : length b / blockLength ≤ p .m → written ShortBuffer b ≡ writeFile (problemOf p) b
+        module _ (t₆ : constraintsInRange (problemOf p) ≡ true) where
+          pub divisor-range : (r : Bool) → r ≡ divisorsInRange (problemOf p) → not r ≡ true → written DivisorRange b ≡ writeFile (problemOf p) b
           unfolding written number writeFile writeError writtenBy firstError
-          short-buffer h = rw (t₄, t₅, t₆, t₁₀, length-is p, lt-leb (blockLength * suc (p .m)) (length b) (omega arith))
+          divisor-range r e h = rw (t₄, t₅, t₁₃, t₆, said-no e h)
 
-          pub done : (s : List ℕ) → p .m < length b / blockLength → s ≡ fileOf (problemOf p) ++ drop (fileLength (problemOf p)) b → written Done s ≡ writeFile (problemOf p) b
-          unfolding written number writeFile writeError writtenBy firstError
-          done s l e = rw (t₄, t₅, t₆, t₁₀, e, le-leb (fileLength (problemOf p)) (length b) (omega (arith, length-is p)))
+          module _ (t₁₀ : divisorsInRange (problemOf p) ≡ true) where
+            pub short-buffer : length b / blockLength ≤ p .m → written ShortBuffer b ≡ writeFile (problemOf p) b
+            unfolding written number writeFile writeError writtenBy firstError
+            short-buffer h = rw (t₄, t₅, t₁₃, t₆, t₁₀, length-is p, lt-leb (blockLength * suc (p .m)) (length b) (omega arith))
+
+            pub done : (s : List ℕ) → p .m < length b / blockLength → s ≡ fileOf (problemOf p) ++ drop (fileLength (problemOf p)) b → written Done s ≡ writeFile (problemOf p) b
+            unfolding written number writeFile writeError writtenBy firstError
+            done s l e = rw (t₄, t₅, t₁₃, t₆, t₁₀, e, le-leb (fileLength (problemOf p)) (length b) (omega (arith, length-is p)))

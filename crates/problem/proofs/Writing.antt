@@ -14,23 +14,34 @@ use mir.Facts.{toZ-ofZ}
 use borrow.Rule.Slice.PartMut.{putMid}
 use Rattle.model.specs.Bytes.{u16Bytes, u32Bytes, i32Bytes, blockLength, checkOffset, sealed}
 use Rattle.model.specs.Constraint.{inRange, isDivisor, divisorInRange}
-use Rattle.model.specs.File.{magic, boundsOffset, boundsBytes, headBytes, constraintBytes, noConstraint, blockOf, fileOf, fileLength}
+use Rattle.model.specs.Threshold.{thresholdAt}
+use Rattle.model.specs.File.{magic, boundsOffset, thresholdOffset, boundsBytes, thresholdBytes, limitsBytes, headBytes, constraintBytes, noConstraint, blockOf, fileOf, fileLength}
 use Rattle.model.specs.Lists.{parts, all}
-use Rattle.model.specs.Problem.{variables, boundsInRange, domainInRange, constraintsInRange, divisorsInRange}
+use Rattle.model.specs.Problem.{variables, boundsInRange, domainInRange, thresholdsInRange, constraintsInRange, divisorsInRange}
 use Rattle.model.specs.Ranges.{within, maxVariables, maxBound}
 use Rattle.integer.specs.Size.{Within}
 use Rattle.lists.proofs.Loops.{every-at}
 use Rattle.lists.proofs.Bools.{and-true}
 use Rattle.lists.proofs.Parts.{parts-append}
 use Rattle.lists.proofs.Tab.{length-tab, getD-tab}
+use Rattle.format.proofs.Within.{threshold-small}
 use Rattle.layout.proofs.Rows.{length-box, lower-at, upper-at}
-use Rattle.layout.specs.Rows.{rowLength, numberIn, constraintAt, dividedAt, inputAt, boundsAt, boxOf}
+use Rattle.layout.specs.Rows.{rowLength, numberIn, constraintAt, dividedAt, inputAt, boundsAt, boxOf, thresholdsOf}
 use Rattle.block.proofs.Placing.{then, none-placed, more-placed, part-placed}
-use Rattle.block.proofs.Sealing.{sealed-content}
+use Rattle.block.proofs.Sealing.{padded-placed, sealed-content}
 use Rattle.block.specs.Placed.{Placed, cleared}
 use Rattle.fields.proofs.Writing.{within-back, moved}
 use Rattle.problem.specs.declared.Problem.{Problem}
 use Rattle.problem.specs.View.{problemOf}
+
+-- ---- the sizes
+pub variable-count : (p : Problem) → variables (problemOf p) ≡ p .n
+unfolding variables problemOf
+variable-count p = length-box (p .n) (p .lower) (p .upper)
+
+pub constraint-count : (p : Problem) → length (problemOf p .constraints) ≡ p .m
+unfolding problemOf
+constraint-count p = length-tab (inputAt (p .n) (p .constraints) (p .divisors)) 0 (p .m)
 
 -- ---- the bounds
 module _ (p : Problem) (i : ℕ) (l : i < p .n) where
@@ -61,19 +72,41 @@ module _ (p : Problem) (i : ℕ) (l : i < p .n) where
       let high : Placed u (a + 4) (12 + 8 * (i + 1)) (i32Bytes (getD (p .upper) i (pos 0))) v = rw (toZ-ofZ g) at (moved (a + 4) (12 + 8 * (i + 1)) (omega arith) (omega arith) z) in
       more-placed (boundsBytes (problemOf p)) i x (rw bounds-bytes (then low high))
 
-pub bounds-end : (p : Problem) (i : ℕ) {s t : List ℕ} → p .n ≤ i → i ≤ p .n → Placed s 12 (12 + 8 * i) (parts (boundsBytes (problemOf p)) 0 i) t →
-    Placed s 12 (12 + 8 * p .n) (parts (boundsBytes (problemOf p)) 0 (p .n)) t
-bounds-end p i l h x = let e : i ≡ p .n = omega arith in rw e at x
+-- ---- the thresholds
+module _ (p : Problem) (i : ℕ) (l : i < p .n) where
+  threshold-at : thresholdAt (problemOf p .thresholds) i ≡ getD (p .thresholds) i (pos 0)
+  unfolding thresholdAt problemOf thresholdsOf numberIn
+  threshold-at = getD-tab (numberIn (p .thresholds)) (p .n) i (pos 0) l
 
--- and its block
-pub head-sealed : (p : Problem) {y z s t : List ℕ} → p .n ≤ maxVariables → y ≡ cleared →
-    Placed y 0 12 (magic ++ (u16Bytes (p .n) ++ (u16Bytes (p .m) ++ u32Bytes (p .budget)))) z →
-    Placed z 12 (12 + 8 * p .n) (parts (boundsBytes (problemOf p)) 0 (p .n)) s →
-    t ≡ sealed 0 (take checkOffset s) → t ≡ sealed 0 (headBytes (problemOf p))
-unfolding headBytes problemOf variables
-head-sealed p l e x y f =
-    rw (length-box (p .n) (p .lower) (p .upper), length-tab (inputAt (p .n) (p .constraints) (p .divisors)) 0 (p .m))
-    (sealed-content 0 f (simp append-assoc at (then x y)) (omega arith) e)
+  pub threshold-room : domainInRange (problemOf p) ≡ true → thresholdsInRange (problemOf p) ≡ true → SFits w64 (getD (p .thresholds) i (pos 0)) →
+      Within (2 ^ 31) (toZ w64 (ofZ w64 (getD (p .thresholds) i (pos 0))))
+  threshold-room d t f =
+      rw (toZ-ofZ f, ← threshold-at) (record { within = omega (arith, threshold-small (problemOf p) d t i (omega (arith, variable-count p))) })
+
+  pub thresholds-more : {s t u : List ℕ} (a : ℕ) → a ≡ thresholdOffset i → SFits w64 (getD (p .thresholds) i (pos 0)) →
+      Placed s 268 (268 + 4 * i) (parts (thresholdBytes (problemOf p)) 0 i) t →
+      Placed t a (a + 4) (i32Bytes (toZ w64 (ofZ w64 (getD (p .thresholds) i (pos 0))))) u →
+      Placed s 268 (268 + 4 * (i + 1)) (parts (thresholdBytes (problemOf p)) 0 (i + 1)) u
+  unfolding thresholdOffset thresholdBytes
+  thresholds-more {s} {t} {u} a e f x y =
+      let next : Placed t (268 + 4 * i) (268 + 4 * (i + 1)) (i32Bytes (getD (p .thresholds) i (pos 0))) u = rw (toZ-ofZ f) at (moved (268 + 4 * i) (268 + 4 * (i + 1)) (omega arith) (omega arith) y) in
+      more-placed (thresholdBytes (problemOf p)) i x (rw threshold-at next)
+
+-- ---- where a loop over the variables ends
+pub fields-end : (f : ℕ → List ℕ) (n i a w : ℕ) {s t : List ℕ} → n ≤ i → i ≤ n → Placed s a (a + w * i) (parts f 0 i) t → Placed s a (a + w * n) (parts f 0 n) t
+fields-end f n i a w l h x = let e : i ≡ n = omega arith in rw e at x
+
+-- ---- the head's block
+module _ (p : Problem) {y z : List ℕ} (few : p .n ≤ maxVariables) (e : y ≡ cleared) (x : Placed y 0 12 (magic ++ (u16Bytes (p .n) ++ (u16Bytes (p .m) ++ u32Bytes (p .budget)))) z) where
+  limits-placed : {s : List ℕ} → Placed z 12 (12 + 8 * p .n) (parts (boundsBytes (problemOf p)) 0 (p .n)) s → Placed cleared 0 (12 + 8 * p .n) (limitsBytes (problemOf p)) s
+  unfolding limitsBytes problemOf
+  limits-placed b = rw (variable-count p, constraint-count p) (rw e at (simp append-assoc at (then x b)))
+
+  pub head-sealed : {s t u : List ℕ} → Placed z 12 (12 + 8 * p .n) (parts (boundsBytes (problemOf p)) 0 (p .n)) s →
+      Placed s 268 (268 + 4 * p .n) (parts (thresholdBytes (problemOf p)) 0 (p .n)) t → u ≡ sealed 0 (take checkOffset t) → u ≡ sealed 0 (headBytes (problemOf p))
+  unfolding headBytes thresholdOffset
+  head-sealed b t f =
+      rw (variable-count p) (sealed-content 0 f (then (padded-placed 268 (limits-placed b) (omega arith) (omega arith)) t) (omega arith) refl)
 
 -- ---- the file
 placed-length : {s b t : List ℕ} {i j : ℕ} → j ≤ length s → Placed s i j b t → length t ≡ length s
@@ -82,10 +115,6 @@ placed-length {s} {b} {t} {i} {j} l p =
     omega (arith, length-append b (drop j s), length-take-le i s (omega (arith, p .width)), length-drop j s, p .width)
 
 module _ (p : Problem) where
-  constraint-count : length (problemOf p .constraints) ≡ p .m
-  unfolding problemOf
-  constraint-count = length-tab (inputAt (p .n) (p .constraints) (p .divisors)) 0 (p .m)
-
   -- the head's part, as it comes back
   pub head-placed : {s part : List ℕ} → blockLength ≤ length s → length part ≡ length (take blockLength s) → part ≡ sealed 0 (headBytes (problemOf p)) →
       (length (putMid 0 blockLength s part) ≡ length s) × Placed s 0 blockLength (blockOf (problemOf p) 0) (putMid 0 blockLength s part)
@@ -133,4 +162,4 @@ module _ (p : Problem) where
   unfolding fileOf fileLength parts
   file-written j l h x y =
       let z : j ≡ p .m = omega arith in
-      then x y .whole ∙ rw (constraint-count, z, add-one (p .m))
+      then x y .whole ∙ rw (constraint-count p, z, add-one (p .m))

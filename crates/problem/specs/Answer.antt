@@ -3,7 +3,7 @@ use Prim.Native.Nat.{ℕ}
 use mathlib.Core.List.{List}
 use Rattle.model.specs.File.{Written}
 use Rattle.problem.specs.declared.Answer.{Answer}
-use Rattle.problem.specs.declared.Answer.the-variants.{Done, Truncated, BadChecksum, BadMagic, SizeRange, DomainRange, CoefficientRange, NonzeroPadding, ShortBuffer, InvalidSearch, DivisorRange}
+use Rattle.problem.specs.declared.Answer.the-variants.{Done, Truncated, BadChecksum, BadMagic, SizeRange, DomainRange, CoefficientRange, NonzeroPadding, ShortBuffer, InvalidSearch, DivisorRange, ThresholdRange}
 
 unfoldable pub number : Answer → ℕ
 number Done = 0
@@ -17,6 +17,7 @@ number NonzeroPadding = 7
 number ShortBuffer = 8
 number InvalidSearch = 9
 number DivisorRange = 10
+number ThresholdRange = 13
 
 -- what writing shows: its answer's number, and the lent buffer's bytes
 unfoldable pub written : Answer → List ℕ → Written

@@ -4,11 +4,12 @@ use mathlib.Core.List.{List}
 use lib.IntN.{ℤ}
 use lib.ListN.{getD, length}
 use Rattle.model.specs.Constraint.{Constraint, lowerAt, upperAt}
+use Rattle.model.specs.Threshold.{thresholdAt}
 use Rattle.model.specs.File.{noConstraint}
 use Rattle.model.specs.Lists.{tab}
 use Rattle.model.specs.Problem as model
 use Rattle.model.specs.Problem.{variables, Result, ok, error}
-use Rattle.layout.specs.Rows.{rowLength, inputAt, boxOf}
+use Rattle.layout.specs.Rows.{rowLength, inputAt, boxOf, thresholdsOf}
 use Rattle.fields.specs.Fields.{room, cells, divisorRoom, zeros, inRow}
 use Rattle.problem.specs.declared.Problem.{Problem}
 use Rattle.problem.specs.declared.Reading.{Reading}
@@ -19,6 +20,7 @@ unfoldable pub problemOf : Problem → model.Problem
 problemOf p =
     record {
       domain = boxOf (p .n) (p .lower) (p .upper);
+      thresholds = thresholdsOf (p .n) (p .thresholds);
       constraints = tab (inputAt (p .n) (p .constraints) (p .divisors)) 0 (p .m);
       budget = p .budget;
     }
@@ -40,6 +42,7 @@ packed p =
       upper = tab (upperAt (p .domain)) 0 room;
       constraints = tab (inRows (p .constraints)) 0 cells;
       divisors = tab (divisorAt (p .constraints)) 0 divisorRoom;
+      thresholds = tab (thresholdAt (p .thresholds)) 0 room;
     }
 
 -- ---- what reading shows: its answer's number, and the problem's arrays
@@ -52,7 +55,7 @@ seenRead r = record { number = number (r .answer); problem = r .problem }
 
 -- what an error shows of the problem
 unfoldable pub empty : Problem
-empty = record { n = 0; m = 0; budget = 0; lower = zeros room; upper = zeros room; constraints = zeros cells; divisors = zeros divisorRoom }
+empty = record { n = 0; m = 0; budget = 0; lower = zeros room; upper = zeros room; constraints = zeros cells; divisors = zeros divisorRoom; thresholds = zeros room }
 
 unfoldable pub readingOf : Result model.Problem → SeenReading
 readingOf (ok p) = record { number = 0; problem = packed p }

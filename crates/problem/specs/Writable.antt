@@ -3,7 +3,7 @@ use Prim.Native.Nat.{ℕ, suc, _*_, _≤_}
 use mathlib.Core.Bool.{true}
 use mathlib.Core.Path.{_≡_}
 use Rattle.model.specs.Bytes.{blockLength}
-use Rattle.model.specs.Problem.{domainInRange, constraintsInRange, divisorsInRange}
+use Rattle.model.specs.Problem.{domainInRange, thresholdsInRange, constraintsInRange, divisorsInRange}
 use Rattle.model.specs.Ranges.{maxVariables, maxConstraints}
 use Rattle.problem.specs.declared.Problem.{Problem}
 use Rattle.problem.specs.View.{problemOf}
@@ -13,6 +13,7 @@ pub record Writable (p : Problem) (space : ℕ) : Type 0 where
   pub few-variables : p .n ≤ maxVariables
   pub few-constraints : p .m ≤ maxConstraints
   pub bounded : domainInRange (problemOf p) ≡ true
+  pub threshold-range : thresholdsInRange (problemOf p) ≡ true
   pub coefficient-range : constraintsInRange (problemOf p) ≡ true
   pub divisor-range : divisorsInRange (problemOf p) ≡ true
   pub long : blockLength * suc (p .m) ≤ space

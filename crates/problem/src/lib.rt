@@ -29,9 +29,11 @@ pub struct Problem {
     pub constraints: [i64; 2112],
     // the divisor of each constraint, 0 for an inequality
     pub divisors: [i64; 64],
+    // the threshold of each variable, 0 for none
+    pub thresholds: [i64; 32],
 }
 
-// Document 01's table with document 02's 10, 0 to 10 in this order; `Done` where none of its conditions holds.
+// Document 01's table with document 02's 10 and 13, 0 to 10 and 13 in this order; `Done` where none of its conditions holds.
 pub enum Answer {
     Done,
     Truncated,
@@ -44,6 +46,7 @@ pub enum Answer {
     ShortBuffer,
     InvalidSearch,
     DivisorRange,
+    ThresholdRange,
 }
 
 // An answer's number in the documents' tables, 0 where there is no error.
@@ -62,6 +65,7 @@ pub fn error_number(answer: Answer) -> usize
         Answer::ShortBuffer => 8,
         Answer::InvalidSearch => 9,
         Answer::DivisorRange => 10,
+        Answer::ThresholdRange => 13,
     }
 }
 
@@ -83,11 +87,12 @@ fn refused(answer: Answer) -> Reading
         upper: [0; 32],
         constraints: [0; 2112],
         divisors: [0; 64],
+        thresholds: [0; 32],
     };
     Reading { answer, problem }
 }
 
-// Reads a problem file: the problem in it, or the first error that applies, in the order 1 to 6, 10, 7.
+// Reads a problem file: the problem in it, or the first error that applies, in the order 1 to 5, 13, 6, 10, 7.
 pub fn read(file: &[u8]) -> Reading
     ensures { λ r. ⌜ seenRead r ≡ readingOf (readFile (now (file .entry))) ⌝ }
 {
@@ -106,6 +111,9 @@ pub fn read(file: &[u8]) -> Reading
     let found = reader::problem_in(file);
     if !range::domain_in_range(found) {
         return refused(Answer::DomainRange);
+    }
+    if !range::thresholds_in_range(found) {
+        return refused(Answer::ThresholdRange);
     }
     if !range::constraints_in_range(found) {
         return refused(Answer::CoefficientRange);
@@ -132,6 +140,9 @@ pub fn write(problem: Problem, buffer: &mut [u8]) -> Answer
     }
     if !range::domain_in_range(problem) {
         return Answer::DomainRange;
+    }
+    if !range::thresholds_in_range(problem) {
+        return Answer::ThresholdRange;
     }
     if !range::constraints_in_range(problem) {
         return Answer::CoefficientRange;

@@ -1,12 +1,13 @@
-// The ranges of documents 01 and 02, tested on a problem: errors 5, 6 and 10, for reading and for writing.
+// The ranges of documents 01 and 02, tested on a problem: errors 5, 13, 6 and 10, for reading and for writing.
 use crate::Problem;
 use layout::range::are_divisors_in_range;
 use layout::range::are_in_range;
 use layout::range::bounds_in_range;
+use threshold::range::all_fit;
 ghost use mathlib.Core.Path.{_≡_};
 ghost use Prim.Native.Nat.{_≤_};
 ghost use Rattle.model.specs.Ranges.{maxVariables, maxConstraints};
-ghost use Rattle.model.specs.Problem.{domainInRange, constraintsInRange, divisorsInRange};
+ghost use Rattle.model.specs.Problem.{domainInRange, thresholdsInRange, constraintsInRange, divisorsInRange};
 ghost use Rattle.problem.specs.View.{problemOf};
 
 // 5, 'limits': whether every variable's bounds are in range, the lower not above the upper.
@@ -23,6 +24,19 @@ pub(crate) fn domain_in_range(problem: Problem) -> bool
         i += 1;
     }
     true
+}
+
+// 13: whether every variable's threshold may stand beside its limits.
+pub(crate) fn thresholds_in_range(problem: Problem) -> bool
+    requires { ⌜ problem .n ≤ maxVariables ⌝ }
+    ensures { λ r. ⌜ r ≡ thresholdsInRange (problemOf problem) ⌝ }
+{
+    all_fit(
+        &problem.thresholds,
+        &problem.lower,
+        &problem.upper,
+        problem.n,
+    )
 }
 
 // 6, 'heavy': whether every constraint is in range.

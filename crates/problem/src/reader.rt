@@ -6,6 +6,7 @@ use fields::reader::budget_in;
 use fields::reader::constraints_in;
 use fields::reader::divisors_in;
 use fields::reader::rows_in;
+use fields::reader::thresholds_in;
 use fields::reader::variables_in;
 ghost use mathlib.Core.Path.{_≡_};
 ghost use Prim.Native.Nat.{_≤_};
@@ -26,6 +27,7 @@ pub(crate) fn problem_in(file: &[u8]) -> Problem
     let upper = bounds_in(file, n, offsets::UPPER);
     let constraints = rows_in(file, n, m);
     let divisors = divisors_in(file, m);
+    let thresholds = thresholds_in(file, n);
     Problem {
         n,
         m,
@@ -34,5 +36,6 @@ pub(crate) fn problem_in(file: &[u8]) -> Problem
         upper,
         constraints,
         divisors,
+        thresholds,
     }
 }

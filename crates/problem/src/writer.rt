@@ -13,8 +13,8 @@ ghost use lib.ListN.{length, drop};
 ghost use Rattle.model.specs.Ranges.{maxVariables};
 ghost use Rattle.model.specs.Lists.{parts};
 ghost use Rattle.model.specs.Bytes.{blockLength, sealed};
-ghost use Rattle.model.specs.Problem.{domainInRange};
-ghost use Rattle.model.specs.File.{boundsBytes, headBytes, fileOf, fileLength};
+ghost use Rattle.model.specs.Problem.{domainInRange, thresholdsInRange};
+ghost use Rattle.model.specs.File.{boundsBytes, thresholdBytes, headBytes, fileOf, fileLength};
 ghost use Rattle.block.specs.Placed.{Placed};
 ghost use Rattle.problem.specs.View.{problemOf};
 ghost use Rattle.problem.specs.Writable.{Writable};
@@ -34,9 +34,25 @@ fn put_bounds(problem: Problem, head: &mut [u8])
     }
 }
 
+// Puts the thresholds of the variables.
+fn put_thresholds(problem: Problem, head: &mut [u8])
+    requires { ⌜ (problem .n ≤ maxVariables) × (domainInRange (problemOf problem) ≡ true) × (length (now head) ≡ blockLength) ⌝ }
+    requires { ⌜ thresholdsInRange (problemOf problem) ≡ true ⌝ }
+    ensures { λ r. ⌜ Placed (now (head .entry)) 268 (268 + 4 * problem .n) (parts (thresholdBytes (problemOf problem)) 0 (problem .n)) (now (head .exit)) ⌝ }
+{
+    let n = problem.n;
+    let mut i: usize = 0;
+    while i < n {
+        let at = offsets::threshold_offset(i);
+        build::put_i32(head, at, problem.thresholds[i]);
+        i += 1;
+    }
+}
+
 // Writes the head's block, whatever stood there.
 fn write_head(problem: Problem, head: &mut [u8])
     requires { ⌜ (problem .n ≤ maxVariables) × (domainInRange (problemOf problem) ≡ true) × (length (now head) ≡ blockLength) ⌝ }
+    requires { ⌜ thresholdsInRange (problemOf problem) ≡ true ⌝ }
     ensures { λ r. ⌜ now (head .exit) ≡ sealed 0 (headBytes (problemOf problem)) ⌝ }
 {
     let n = problem.n;
@@ -45,6 +61,7 @@ fn write_head(problem: Problem, head: &mut [u8])
     build::clear(head);
     put_sizes(n, m, budget, head);
     put_bounds(problem, head);
+    put_thresholds(problem, head);
     build::seal(head, 0);
 }
 

@@ -3,18 +3,20 @@ use Prim.Native.Nat.{ℕ, zero, suc, _+_, _<_}
 use native.Mathlib.Omega.{arith}
 use mathlib.Core.Path.{_≡_, ap, _∙_}
 use lib.IntN.{ℤ}
-use Rattle.model.specs.Search.{Level, Core, constraint, withLevels, withDeepest, kept, dropped, numberAt, raiseLower, lowerUpper}
+use Rattle.model.specs.Search.{Level, Core, constraint, withLevels, withDeepest, kept, dropped, numberAt, holdLower, holdUpper, raiseLower, lowerUpper}
 use Rattle.model.specs.Move.{Move, conflict, newLower, newUpper, decide, finish, nextMove, follow, slack, descend, propagationsBy, propagationsIn}
-use Rattle.validity.proofs.Boxes.{Ordered, set-lower-slack, set-upper-slack}
+use Rattle.validity.proofs.Thresholds.{Outside}
+use Rattle.validity.proofs.Boxes.{Ordered}
 use Rattle.validity.proofs.Moves.{Raises, Lowers, Chosen, next-chosen}
-use Rattle.validity.proofs.States.{CoreFits, deepest-ordered, raise-fits, lower-fits}
+use Rattle.validity.proofs.Shrinking.{raise-shrinks, lower-shrinks}
+use Rattle.validity.proofs.States.{CoreFits, deepest-ordered, deepest-outside, raise-fits, lower-fits}
 use Rattle.validity.proofs.Steps.{descent-next, moves-next}
 use Rattle.propagate.specs.Propagation.{Propagation, propagateBy, propagateFor, propagation}
 use Rattle.propagate.proofs.Fuel.{Stopped, propagation-keeps}
 
 -- propagation at a state's deepest level
 abbrev pub propagated : Core → ℕ → Propagation
-propagated c k = propagation (kept c) (numberAt c) (c .deepest) k
+propagated c k = propagation (c .thresholds) (kept c) (numberAt c) (c .deepest) k
 
 -- the state with another deepest level is valid
 abbrev pub FitsAt : Core → Level → Type 0
@@ -25,11 +27,15 @@ module _ (c : Core) where
   unfolding withDeepest withLevels
   ordered-at l f = deepest-ordered (withDeepest c l) f
 
-  raise-at : (l : Level) (j i : ℕ) (v : ℤ) → FitsAt c l → Raises (kept c) (l .box) j i v → FitsAt c (raiseLower i v (constraint (numberAt c j)) l)
+  outside-at : (l : Level) → FitsAt c l → Outside (c .thresholds) (l .box)
+  unfolding withDeepest withLevels
+  outside-at l f = deepest-outside (withDeepest c l) f
+
+  raise-at : (l : Level) (j i : ℕ) (v : ℤ) → FitsAt c l → Raises (kept c) (l .box) j i v → FitsAt c (raiseLower (c .thresholds) i v (constraint (numberAt c j)) l)
   unfolding withDeepest withLevels kept numberAt dropped
   raise-at l j i v f m = raise-fits (withDeepest c l) j i v f m
 
-  lower-at : (l : Level) (j i : ℕ) (v : ℤ) → FitsAt c l → Lowers (kept c) (l .box) j i v → FitsAt c (lowerUpper i v (constraint (numberAt c j)) l)
+  lower-at : (l : Level) (j i : ℕ) (v : ℤ) → FitsAt c l → Lowers (kept c) (l .box) j i v → FitsAt c (lowerUpper (c .thresholds) i v (constraint (numberAt c j)) l)
   unfolding withDeepest withLevels kept numberAt dropped
   lower-at l j i v f m = lower-fits (withDeepest c l) j i v f m
 
@@ -41,14 +47,14 @@ module _ (c : Core) where
   -- one move of propagation is one of the descent
   by-through : (m : Move) (l : Level) (k : ℕ) (go : Level → ℕ → Propagation) → FitsAt c l → Chosen (kept c) (l .box) m →
       descend (withDeepest c l) ≡ follow m (withDeepest c l) descend → propagationsIn (withDeepest c l) ≡ propagationsBy m (withDeepest c l) propagationsIn →
-      ((d : Level) (e : ℕ) → FitsAt c d → slack (d .box) < slack (l .box) → Through d e (go d e)) → Through l k (propagateBy m (numberAt c) l k go)
-  unfolding propagateBy follow propagationsBy raiseLower lowerUpper withDeepest withLevels numberAt dropped
+      ((d : Level) (e : ℕ) → FitsAt c d → slack (d .box) < slack (l .box) → Through d e (go d e)) → Through l k (propagateBy (c .thresholds) m (numberAt c) l k go)
+  unfolding propagateBy follow propagationsBy raiseLower lowerUpper holdLower holdUpper withDeepest withLevels numberAt dropped
   by-through (conflict j) l k go f m s n next = record { stop = s; count = ap (λ (x : ℕ). k + x) n }
   by-through (newLower j i v) l k go f m s n next =
-      let t = next _ (suc k) (raise-at l j i v f m) (set-lower-slack i v (l .box) (m .variable) (ordered-at l f) (m .better) (m .fits)) in
+      let t = next _ (suc k) (raise-at l j i v f m) (raise-shrinks (c .thresholds) (kept c) (l .box) j i v (ordered-at l f) (outside-at l f) m .less) in
       record { stop = s ∙ t .stop; count = ap (λ (x : ℕ). k + x) n ∙ omega (arith, t .count) }
   by-through (newUpper j i v) l k go f m s n next =
-      let t = next _ (suc k) (lower-at l j i v f m) (set-upper-slack i v (l .box) (m .variable) (ordered-at l f) (m .fits) (m .better)) in
+      let t = next _ (suc k) (lower-at l j i v f m) (lower-shrinks (c .thresholds) (kept c) (l .box) j i v (ordered-at l f) (outside-at l f) m .less) in
       record { stop = s ∙ t .stop; count = ap (λ (x : ℕ). k + x) n ∙ omega (arith, t .count) }
   by-through (decide i) l k go f m s n next = record { stop = s; count = ap (λ (x : ℕ). k + x) n }
   by-through finish l k go f m s n next = record { stop = s; count = ap (λ (x : ℕ). k + x) n }
@@ -61,11 +67,11 @@ module _ (c : Core) where
   unfolding withDeepest withLevels kept
   next-count l f = moves-next (withDeepest c l) f
 
-  for-through : (fuel : ℕ) (l : Level) (k : ℕ) → FitsAt c l → slack (l .box) < fuel → Through l k (propagateFor fuel (kept c) (numberAt c) l k)
+  for-through : (fuel : ℕ) (l : Level) (k : ℕ) → FitsAt c l → slack (l .box) < fuel → Through l k (propagateFor (c .thresholds) fuel (kept c) (numberAt c) l k)
   unfolding propagateFor
   for-through zero l k f h = let z : ⊥ = omega arith in absurd z
   for-through (suc fuel) l k f h =
-      by-through (nextMove (kept c) (l .box)) l k (propagateFor fuel (kept c) (numberAt c)) f (next-chosen (kept c) (l .box) (ordered-at l f)) (next-stop l f) (next-count l f)
+      by-through (nextMove (kept c) (l .box)) l k (propagateFor (c .thresholds) fuel (kept c) (numberAt c)) f (next-chosen (kept c) (l .box) (ordered-at l f)) (next-stop l f) (next-count l f)
       (λ d e q s. for-through fuel d e q (omega arith))
 
   -- a state with its own deepest level
@@ -88,4 +94,4 @@ module _ (c : Core) where
 
   -- where it stops the state is valid, the move is the next one there, and it sets no bound
   pub propagated-stopped : (k : ℕ) → CoreFits c → Stopped (kept c) (λ l e. FitsAt c l) (propagated c k)
-  propagated-stopped k f = propagation-keeps (kept c) (numberAt c) (λ l e. FitsAt c l) (λ l e. ordered-at l) (λ l e. raise-at l) (λ l e. lower-at l) (c .deepest) k (fits-own f)
+  propagated-stopped k f = propagation-keeps (c .thresholds) (kept c) (numberAt c) (λ l e. FitsAt c l) (λ l e. ordered-at l) (λ l e. outside-at l) (λ l e. raise-at l) (λ l e. lower-at l) (c .deepest) k (fits-own f)

@@ -18,7 +18,7 @@ use Rattle.model.specs.Move.{follow, descend, propagationsBy, propagationsIn}
 use Rattle.lists.proofs.Bools.{true-of, T-of, lt-or-le}
 use Rattle.lists.proofs.Tab.{length-tab, getD-tab}
 use Rattle.lists.proofs.AllOf.{allOf-getD, allOf-of, allOf-replicate}
-use Rattle.layout.specs.Rows.{numberIn, rowAt, inputAt, boxOf}
+use Rattle.layout.specs.Rows.{numberIn, rowAt, inputAt, boxOf, thresholdsOf}
 use Rattle.state.specs.View.{levelOf, levelsFrom, keptCuts, coreOver, coreOf, numberFor, view}
 use Rattle.state.specs.Change.{Whole}
 use Rattle.state.specs.declared.Level.{Level}
@@ -30,10 +30,11 @@ use Rattle.validity.proofs.Moves.{Chosen}
 use Rattle.validity.proofs.States.{ConstraintFits, CoreFits, core-fits, sizes-fit, depth-fits}
 use Rattle.propagate.specs.Moves.{stopOf}
 use Rattle.propagate.specs.Propagation.{Propagation, propagation, propagationOf}
-use Rattle.propagate.specs.Ready.{keptRows, Ready}
+use Rattle.propagate.specs.Ready.{keptRows, Ready, GapFree}
 use Rattle.propagate.specs.Divided.{keptOver, coreApart, blankRow, Apart}
 use Rattle.propagate.specs.declared.propagate.Propagated.{Propagated}
 use Rattle.propagate.proofs.Warning.{zero-or, length-over, over-cut}
+use Rattle.validity.proofs.Thresholds.{outside-out}
 use Rattle.propagate.proofs.Fuel.{Stopped}
 use Rattle.propagate.proofs.Descent.{FitsAt, propagated, descent-propagated, count-propagated, propagated-stopped}
 
@@ -42,12 +43,12 @@ blank-range : (n : ℕ) → inRange (blankRow n) ≡ true
 unfolding inRange within
 blank-range n = allOf-replicate (within maxCoefficient) n (pos 0) refl
 
-module _ (n m made : ℕ) (rows lines divisors : List ℤ) (numbers : List ℕ) (l : Level) (ls : List model.Level) (a : Apart n m rows lines divisors)
-    (f : CoreFits (coreApart n m made rows lines divisors numbers (levelOf n l) ls)) where
+module _ (ts : List ℤ) (n m made : ℕ) (rows lines divisors : List ℤ) (numbers : List ℕ) (l : Level) (ls : List model.Level) (a : Apart n m rows lines divisors)
+    (f : CoreFits (coreApart ts n m made rows lines divisors numbers (levelOf n l) ls)) where
   -- the kept constraints are in range, and so are the rows with blanks
   over-range : allOf inRange (keptOver n m made rows lines divisors) ≡ true
   over-range =
-      let c = coreApart n m made rows lines divisors numbers (levelOf n l) ls in
+      let c = coreApart ts n m made rows lines divisors numbers (levelOf n l) ls in
       true-of _ (unfold coreOver model.kept in every-out (ConstraintFits n) inRange (λ k h. h .range) (model.kept c) (f .constraints))
 
   row-range : (j : ℕ) → j < m + keptCuts made → inRange (rowAt n rows j) ≡ true
@@ -72,34 +73,38 @@ module _ (n m made : ℕ) (rows lines divisors : List ℤ) (numbers : List ℕ) 
   pub state-ready : n ≤ maxVariables → m ≤ maxConstraints → made ≤ maxBudget → Whole l → Ready n m made rows l
   state-ready few inputs cuts w = record { few = few; inputs = inputs; cuts = cuts; whole = w; constraints = state-range; bounds = state-bounds }
 
-  module _ (k : Level) (count : ℕ) (found : Propagated) (e : propagationOf n k found ≡ propagation (keptOver n m made rows lines divisors) (numberFor m made) (levelOf n l) count) where
-    state-propagated : propagated (coreApart n m made rows lines divisors numbers (levelOf n l) ls) count ≡ propagationOf n k found
+  pub state-gap-free : length ts ≡ 32 → GapFree n ts (l .lower) (l .upper)
+  unfolding coreOver model.levels levelOf
+  state-gap-free long = record { long = long; outside = outside-out (thresholdsOf n ts) (boxOf n (l .lower) (l .upper)) (f .outside .0) }
+
+  module _ (k : Level) (count : ℕ) (found : Propagated) (e : propagationOf n k found ≡ propagation (thresholdsOf n ts) (keptOver n m made rows lines divisors) (numberFor m made) (levelOf n l) count) where
+    state-propagated : propagated (coreApart ts n m made rows lines divisors numbers (levelOf n l) ls) count ≡ propagationOf n k found
     unfolding coreOver model.kept
     state-propagated =
-        ap (λ (number : ℕ → ℕ). propagation (keptOver n m made rows lines divisors) number (levelOf n l) count)
-        (number-over (tab (inputAt n lines divisors) 0 m) n m made rows numbers (levelOf n l) ls (length-tab (inputAt n lines divisors) 0 m)) ∙ sym e
+        ap (λ (number : ℕ → ℕ). propagation (thresholdsOf n ts) (keptOver n m made rows lines divisors) number (levelOf n l) count)
+        (number-over (thresholdsOf n ts) (tab (inputAt n lines divisors) 0 m) n m made rows numbers (levelOf n l) ls (length-tab (inputAt n lines divisors) 0 m)) ∙ sym e
 
-    pub state-descent : descend (coreApart n m made rows lines divisors numbers (levelOf n l) ls) ≡
-        follow (stopOf (found .found)) (coreApart n m made rows lines divisors numbers (levelOf n k) ls) descend
+    pub state-descent : descend (coreApart ts n m made rows lines divisors numbers (levelOf n l) ls) ≡
+        follow (stopOf (found .found)) (coreApart ts n m made rows lines divisors numbers (levelOf n k) ls) descend
     unfolding coreOver model.withDeepest model.withLevels propagationOf
     state-descent =
-        let c = coreApart n m made rows lines divisors numbers (levelOf n l) ls in
+        let c = coreApart ts n m made rows lines divisors numbers (levelOf n l) ls in
         subst (λ (p : Propagation). descend c ≡ follow (p .move) (model.withDeepest c (p .level)) descend) state-propagated (descent-propagated c count f)
 
-    pub state-count : count + propagationsIn (coreApart n m made rows lines divisors numbers (levelOf n l) ls) ≡
-        found .count + propagationsBy (stopOf (found .found)) (coreApart n m made rows lines divisors numbers (levelOf n k) ls) propagationsIn
+    pub state-count : count + propagationsIn (coreApart ts n m made rows lines divisors numbers (levelOf n l) ls) ≡
+        found .count + propagationsBy (stopOf (found .found)) (coreApart ts n m made rows lines divisors numbers (levelOf n k) ls) propagationsIn
     unfolding coreOver model.withDeepest model.withLevels propagationOf
     state-count =
-        let c = coreApart n m made rows lines divisors numbers (levelOf n l) ls in
+        let c = coreApart ts n m made rows lines divisors numbers (levelOf n l) ls in
         subst (λ (p : Propagation). count + propagationsIn c ≡ p .count + propagationsBy (p .move) (model.withDeepest c (p .level)) propagationsIn) state-propagated (count-propagated c count f)
 
-    state-stopped : Stopped (keptOver n m made rows lines divisors) (λ l₁ d. FitsAt (coreApart n m made rows lines divisors numbers (levelOf n l) ls) l₁) (propagationOf n k found)
+    state-stopped : Stopped (keptOver n m made rows lines divisors) (λ l₁ d. FitsAt (coreApart ts n m made rows lines divisors numbers (levelOf n l) ls) l₁) (propagationOf n k found)
     unfolding coreOver model.kept
     state-stopped =
-        let c = coreApart n m made rows lines divisors numbers (levelOf n l) ls in
+        let c = coreApart ts n m made rows lines divisors numbers (levelOf n l) ls in
         subst (Stopped (keptOver n m made rows lines divisors) (λ l₁ d. FitsAt c l₁)) state-propagated (propagated-stopped c count f)
 
-    pub state-fits : CoreFits (coreApart n m made rows lines divisors numbers (levelOf n k) ls)
+    pub state-fits : CoreFits (coreApart ts n m made rows lines divisors numbers (levelOf n k) ls)
     unfolding coreOver model.withDeepest model.withLevels propagationOf
     state-fits = state-stopped .holds
 

@@ -13,7 +13,7 @@ use Rattle.model.specs.Constraint.{Constraint, falsified, inRange}
 use Rattle.model.specs.File.{noConstraint}
 use Rattle.model.specs.Search.{Level, Core}
 use Rattle.linear.specs.Ranges.{BoxFits, DivisorFits}
-use Rattle.layout.specs.Rows.{rowLength, numberIn, cell, rowAt, inputAt, boxOf, rowsLength}
+use Rattle.layout.specs.Rows.{rowLength, numberIn, cell, rowAt, inputAt, boxOf, rowsLength, thresholdsOf}
 use Rattle.state.specs.View.{keptCuts, coreOver}
 use Rattle.propagate.specs.Masks.{bit}
 use Rattle.propagate.specs.Tracked.{Tracked}
@@ -23,8 +23,8 @@ abbrev pub keptOver : ℕ → ℕ → ℕ → List ℤ → List ℤ → List ℤ
 keptOver n m made rows lines divisors = tab (inputAt n lines divisors) 0 m ++ tab (rowAt n rows) m (keptCuts made)
 
 -- the core that they belong to
-abbrev pub coreApart : ℕ → ℕ → ℕ → List ℤ → List ℤ → List ℤ → List ℕ → Level → List Level → Core
-coreApart n m made rows lines divisors numbers deepest outer = coreOver (tab (inputAt n lines divisors) 0 m) n m made rows numbers deepest outer
+abbrev pub coreApart : List ℤ → ℕ → ℕ → ℕ → List ℤ → List ℤ → List ℤ → List ℕ → Level → List Level → Core
+coreApart ts n m made rows lines divisors numbers deepest outer = coreOver (thresholdsOf n ts) (tab (inputAt n lines divisors) 0 m) n m made rows numbers deepest outer
 
 -- 0 ≤ 0
 abbrev pub blankRow : ℕ → Constraint

@@ -2,6 +2,7 @@
 -- proofs/Descent.
 use Prim.Native.Nat.{ℕ, zero, suc, _^_}
 use mathlib.Core.List.{List}
+use lib.IntN.{ℤ}
 use Rattle.model.specs.Constraint.{Constraint}
 use Rattle.model.specs.Search.{constraint, raiseLower, lowerUpper}
 use Rattle.model.specs.Search as model
@@ -18,20 +19,20 @@ pub record Propagation : Type 0 where
   pub count : ℕ
 
 -- `number` gives the number of the kept constraint at a position
-unfoldable pub propagateBy : Move → (ℕ → ℕ) → model.Level → ℕ → (model.Level → ℕ → Propagation) → Propagation
-propagateBy (conflict j) number l count go = record { level = l; move = conflict j; count = count }
-propagateBy (newLower j i v) number l count go = go (raiseLower i v (constraint (number j)) l) (suc count)
-propagateBy (newUpper j i v) number l count go = go (lowerUpper i v (constraint (number j)) l) (suc count)
-propagateBy (decide i) number l count go = record { level = l; move = decide i; count = count }
-propagateBy finish number l count go = record { level = l; move = finish; count = count }
+unfoldable pub propagateBy : List ℤ → Move → (ℕ → ℕ) → model.Level → ℕ → (model.Level → ℕ → Propagation) → Propagation
+propagateBy ts (conflict j) number l count go = record { level = l; move = conflict j; count = count }
+propagateBy ts (newLower j i v) number l count go = go (raiseLower ts i v (constraint (number j)) l) (suc count)
+propagateBy ts (newUpper j i v) number l count go = go (lowerUpper ts i v (constraint (number j)) l) (suc count)
+propagateBy ts (decide i) number l count go = record { level = l; move = decide i; count = count }
+propagateBy ts finish number l count go = record { level = l; move = finish; count = count }
 
-unfoldable pub propagateFor : ℕ → List Constraint → (ℕ → ℕ) → model.Level → ℕ → Propagation
-propagateFor zero ks number l count = record { level = l; move = finish; count = count }
-propagateFor (suc fuel) ks number l count = propagateBy (nextMove ks (l .box)) number l count (propagateFor fuel ks number)
+unfoldable pub propagateFor : List ℤ → ℕ → List Constraint → (ℕ → ℕ) → model.Level → ℕ → Propagation
+propagateFor ts zero ks number l count = record { level = l; move = finish; count = count }
+propagateFor ts (suc fuel) ks number l count = propagateBy ts (nextMove ks (l .box)) number l count (propagateFor ts fuel ks number)
 
 -- every bound that is set lowers the slack, so this fuel does not run out
-unfoldable pub propagation : List Constraint → (ℕ → ℕ) → model.Level → ℕ → Propagation
-propagation ks number l count = propagateFor (suc (slack (l .box))) ks number l count
+unfoldable pub propagation : List ℤ → List Constraint → (ℕ → ℕ) → model.Level → ℕ → Propagation
+propagation ts ks number l count = propagateFor ts (suc (slack (l .box))) ks number l count
 
 -- a count, and all the bounds that can still be set, are at most this
 abbrev pub mostCounted : ℕ

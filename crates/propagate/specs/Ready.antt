@@ -3,11 +3,14 @@ use Prim.Native.Nat.{ℕ, _+_, _≤_}
 use mathlib.Core.List.{List}
 use lib.Dec.{T}
 use lib.IntN.{ℤ}
-use Rattle.model.specs.Lists.{tab, allOf}
+use lib.ListN.{length}
+use mathlib.Core.Path.{_≡_}
+use Rattle.model.specs.Lists.{tab, allOf, allPairs}
 use Rattle.model.specs.Ranges.{maxVariables, maxConstraints, maxBudget}
 use Rattle.model.specs.Constraint.{Constraint, inRange}
 use Rattle.model.specs.Problem.{boundsInRange}
-use Rattle.layout.specs.Rows.{rowAt, boxOf}
+use Rattle.model.specs.Threshold.{outsideGap}
+use Rattle.layout.specs.Rows.{rowAt, boxOf, thresholdsOf}
 use Rattle.state.specs.View.{keptCuts}
 use Rattle.state.specs.Change.{Whole}
 use Rattle.state.specs.declared.Level.{Level}
@@ -23,3 +26,8 @@ pub record Ready (n m made : ℕ) (rows : List ℤ) (level : Level) : Type 0 whe
   pub whole : Whole level
   pub constraints : T (allOf inRange (keptRows n m made rows))
   pub bounds : T (allOf boundsInRange (boxOf n (level .lower) (level .upper)))
+
+-- no bound lies below its threshold but above 0
+pub record GapFree (n : ℕ) (thresholds lower upper : List ℤ) : Type 0 where
+  pub long : length thresholds ≡ 32
+  pub outside : T (allPairs outsideGap (thresholdsOf n thresholds) (boxOf n lower upper))

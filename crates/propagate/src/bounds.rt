@@ -89,11 +89,3 @@ pub fn lower_upper(
     let fall = set(upper, above, i, v, reason);
     shift(rows, i, 0, fall, kept, activities)
 }
-
-// The value after v: where a flipped decision goes on.
-pub fn next_value(v: i64) -> i64
-    requires { ⌜ Within (2 ^ 62) v ⌝ }
-    ensures { λ r. ⌜ r ≡ v +ℤ pos 1 ⌝ }
-{
-    v + 1
-}

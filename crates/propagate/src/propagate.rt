@@ -8,17 +8,19 @@ use crate::scan::first_improvement;
 use crate::scan::first_open;
 use state::kept::kept_count;
 use state::kept::number_of;
+use threshold::lift;
+use threshold::sink;
 ghost use mathlib.Core.Path.{_≡_};
 ghost use Prim.Native.Nat.{ℕ, _+_, _≤_};
 ghost use Rattle.model.specs.Lists.{withDefault};
 ghost use Rattle.model.specs.Ranges.{maxVariables};
 ghost use Rattle.model.specs.Move.{finish, firstOpen, slack};
-ghost use Rattle.layout.specs.Rows.{boxOf};
+ghost use Rattle.layout.specs.Rows.{boxOf, thresholdsOf};
 ghost use Rattle.state.specs.View.{keptCuts, numberFor, levelOf};
 ghost use Rattle.state.specs.Change.{held};
 ghost use Rattle.propagate.specs.Moves.{stopOf};
 ghost use Rattle.propagate.specs.Propagation.{propagation, propagationOf, mostCounted};
-ghost use Rattle.propagate.specs.Ready.{Ready};
+ghost use Rattle.propagate.specs.Ready.{Ready, GapFree};
 ghost use Rattle.propagate.specs.Tracked.{Tracked};
 ghost use Rattle.propagate.specs.Divided.{keptOver, Apart, Columns, Warned};
 ghost use Rattle.propagate.specs.Masks.{Masked};
@@ -61,6 +63,7 @@ pub fn propagate<'a>(
     made: usize,
     inputs: &'a [usize; 64],
     cuts: &'a [usize; 64],
+    thresholds: &'a [i64; 32],
     told: usize,
     earlier: usize,
     lower: &mut [i64; 32],
@@ -70,12 +73,12 @@ pub fn propagate<'a>(
     activities: &mut [i64; 128],
     reaches: &mut [i64; 128],
 ) -> Propagated
-    requires { ⌜ Ready n m made (now rows) (held (now lower) (now upper) (now below) (now above) 0) ⌝ }
+    requires { ⌜ Ready n m made (now rows) (held (now lower) (now upper) (now below) (now above) 0) × GapFree n (now thresholds) (now lower) (now upper) ⌝ }
     requires { ⌜ Warned (keptOver n m made (now rows) (now lines) (now divisors)) n (now rows) (now lower) (now upper) (now activities) (now reaches) (m + keptCuts made) told × Masked n m (m + keptCuts made) (now rows) (now inputs) (now cuts) ⌝ }
     requires { ⌜ Apart n m (now rows) (now lines) (now divisors) × Columns n m (now lines) (now divisors) (now columns) ⌝ }
     requires { ⌜ earlier + slack (boxOf n (now lower) (now upper)) ≤ mostCounted ⌝ }
-    ensures { λ r. ⌜ ((d : ℕ) → propagationOf n (held (now (lower .exit)) (now (upper .exit)) (now (below .exit)) (now (above .exit)) d) r ≡ propagation (keptOver n m made (now (rows .entry)) (now (lines .entry)) (now (divisors .entry))) (numberFor m made) (levelOf n (held (now (lower .entry)) (now (upper .entry)) (now (below .entry)) (now (above .entry)) d)) earlier) ⌝ }
-    ensures { λ r. ⌜ Ready n m made (now (rows .entry)) (held (now (lower .exit)) (now (upper .exit)) (now (below .exit)) (now (above .exit)) 0) ⌝ }
+    ensures { λ r. ⌜ ((d : ℕ) → propagationOf n (held (now (lower .exit)) (now (upper .exit)) (now (below .exit)) (now (above .exit)) d) r ≡ propagation (thresholdsOf n (now (thresholds .entry))) (keptOver n m made (now (rows .entry)) (now (lines .entry)) (now (divisors .entry))) (numberFor m made) (levelOf n (held (now (lower .entry)) (now (upper .entry)) (now (below .entry)) (now (above .entry)) d)) earlier) ⌝ }
+    ensures { λ r. ⌜ Ready n m made (now (rows .entry)) (held (now (lower .exit)) (now (upper .exit)) (now (below .exit)) (now (above .exit)) 0) × GapFree n (now (thresholds .entry)) (now (lower .exit)) (now (upper .exit)) ⌝ }
     ensures { λ r. ⌜ (Tracked n (now (rows .entry)) (now (lower .exit)) (now (upper .exit)) (now (activities .exit)) (now (reaches .exit)) 0) × ((i : ℕ) → r .found ≡ Found.Decide i → Tracked n (now (rows .entry)) (now (lower .exit)) (now (upper .exit)) (now (activities .exit)) (now (reaches .exit)) (m + keptCuts made)) ⌝ }
 {
     let kept = kept_count(m, made);
@@ -99,14 +102,16 @@ pub fn propagate<'a>(
         match better {
             Move::Lower(j, i, v) => {
                 let number = number_of(m, made, j);
-                let first = raise_lower(rows, i, v, number, kept, lower, below, activities);
+                let raised = lift(thresholds[i], v);
+                let first = raise_lower(rows, i, raised, number, kept, lower, below, activities);
                 let due = columns[i];
                 falsified = first_indivisible(lines, divisors, due, lower, upper, n, m, first);
                 count += 1;
             }
             Move::Upper(j, i, v) => {
                 let number = number_of(m, made, j);
-                let first = lower_upper(rows, i, v, number, kept, upper, above, activities);
+                let lowered = sink(thresholds[i], v);
+                let first = lower_upper(rows, i, lowered, number, kept, upper, above, activities);
                 let due = columns[i];
                 falsified = first_indivisible(lines, divisors, due, lower, upper, n, m, first);
                 count += 1;

@@ -28,6 +28,7 @@ blank =
       made = 0;
       depth = 0;
       status = Undecided;
+      thresholds = zeros 32;
       rows = zeros 4224;
       divisors = zeros 64;
       numbers = replicate 64 0;

@@ -40,6 +40,7 @@ pub fn blank() -> Search
         made: 0,
         depth: 0,
         status: Status::Undecided,
+        thresholds: [0; 32],
         rows: [0; 4224],
         divisors: [0; 64],
         numbers: [0; 64],

@@ -11,15 +11,15 @@ use Rattle.model.specs.Problem.{Problem, variables, ok, resultOf}
 use Rattle.model.specs.File.{problemIn, readFile}
 use Rattle.model.specs.Search.{Search, coreOf, openProblem, openedBy, openFile}
 use Rattle.model.specs.Validity.{constraintShaped, statusValid, admitted}
-use Rattle.model.specs.Points.{Solution}
+use Rattle.model.specs.Points.{Solution, allPoints}
 use Rattle.model.specs.Step.{goOn, Outcome, step, runFor, withoutBlock, run}
 use Rattle.model.specs.Propagations.{boundsSet}
 use Rattle.model.specs.Demand.{stateAfter, answerAt, journal, withBudget, verdictWith, Steps, Accepted, Demand3}
 use Rattle.format.proofs.AcceptedShape as Small
-use Rattle.format.proofs.AcceptedShape.{tests, sizes, accepted-domain, accepted-constraints, accepted-divisors, problem-shaped}
+use Rattle.format.proofs.AcceptedShape.{tests, sizes, accepted-domain, accepted-thresholds, accepted-constraints, accepted-divisors, problem-shaped}
 use Rattle.integer.specs.Tests.{and-left, and-right}
 use Rattle.lists.proofs.Bools.{true-of}
-use Rattle.soundness.proofs.Sizes.{points-size, points-every, points-once}
+use Rattle.soundness.proofs.Sizes.{points-every, points-once}
 use Rattle.validity.proofs.States.{Every, Sizes, fits-shaped, fits-valid}
 use Rattle.validity.specs.Valid.{Valid}
 use Rattle.soundness.proofs.Opened.{meets-inequalities}
@@ -41,6 +41,7 @@ pub fits-of : (f : List ℕ) → Accepted f → ProblemFits (problemIn f)
 fits-of f a =
     record {
       domain = accepted-domain f (a .fine);
+      thresholds = accepted-thresholds f (a .fine);
       constraints = accepted-constraints f (a .fine);
       divisors = accepted-divisors f (a .fine);
       sizes = coefficients (variables (problemIn f)) (problemIn f .constraints) (problem-shaped f);
@@ -110,12 +111,12 @@ module _ (p : Problem) (z : Small.Sizes p) (f : ProblemFits p) where
       let own : run s .verdict ≡ verdictWith p (p .budget) = unfold verdictWith in ap (λ (x : Search). run x .verdict) own-budget in
       let admits : (k : ℕ) → T (admitted (stateAfter k s)) = λ k. rw (state-is k) (opened-fine (afterTurns k s) (valid-after k s v) (reached-after p (Solution p) 0 k s start)) in
       record {
-        listed = record { every = points-every (p .domain); once = points-once (p .domain) };
+        listed = unfold allPoints in record { every = points-every (p .thresholds) (p .domain); once = points-once (p .thresholds) (p .domain) };
         accepted = λ k. true-of _ (admits k);
         taken = λ k. call-taken (stateAfter k s) (admits k);
         counted = λ k. rw (state-is k, journal-is (suc k)) (omega (arith, list-counted p (Solution p) 0 k s v start, opened-conflicts));
         carried = λ k. rw (state-is k, journal-is k) (omega (arith, list-conflicts p (Solution p) 0 k s start, opened-conflicts));
-        bounded = λ k. rw (journal-is k) (omega (arith, list-few p (Solution p) 0 k s start, points-size (p .domain)));
+        bounded = λ k. rw (journal-is k) (omega (arith, list-few p (Solution p) 0 k s start));
         propagated = λ k. rw (state-is k) (step-tells (afterTurns k s) (valid-after k s v) .propagations ∙ ap (λ (x : Search). x .propagations) (sym (state-next k s)) ∙ set-is (suc k));
         tallied = λ k. rw (state-is k) (set-is k);
         creeping = λ k. rw (state-is k) (omega (arith, reached-creeps p (Solution p) 0 (afterTurns k s) (reached-after p (Solution p) 0 k s start)));

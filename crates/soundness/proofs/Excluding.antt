@@ -15,17 +15,17 @@ use Rattle.validity.proofs.Boxes.{Fixed, lowHalf, nested-inside, lowers-inside,
 use Rattle.validity.proofs.States.{CoreFits}
 use Rattle.validity.proofs.Conflicts.{back-fits}
 use Rattle.soundness.proofs.Sizes.{not-before-itself}
-use Rattle.soundness.proofs.Remaining.{Chain, Remains, remaining, chain-ordered, right, remaining-back, chain-back, above-later}
-use Rattle.soundness.proofs.Opened.{Sound, Backed}
+use Rattle.soundness.proofs.Remaining.{Chain, Remains, remaining, chain-ordered, chain-outside, right, remaining-back, chain-back, above-later}
+use Rattle.soundness.proofs.Opened.{Sound, Backed, flipped-sound}
 use Rattle.soundness.proofs.OneStep.{Open, Solved}
 
 -- some point is left
 pub some-room : (p : Problem) (Left : Point → Type 0) (room : ℕ) (c : Core) → Sound p Left room c → 0 < room
 some-room p Left room c s =
-    omega (arith, s .left, remaining-back (p .domain) 0 (c .deepest) (c .deepest) (c .outer) refl (chain-ordered (p .domain) (c .deepest) (c .outer) (s .chain)) (s .chain))
+    omega (arith, s .left, remaining-back p 0 (c .deepest) (c .deepest) (c .outer) refl (chain-ordered p (c .deepest) (c .outer) (s .chain)) (chain-outside p (c .deepest) (c .outer) (s .chain)) (s .chain))
 
 -- going back from the deepest level
-back-one : (c : Core) (o : Level) (ls : List Level) → c .outer ≡ o ∷ ls → backUp (depth c) c ≡ withLevels c (flipAt (c .deepest .decided) o) ls
+back-one : (c : Core) (o : Level) (ls : List Level) → c .outer ≡ o ∷ ls → backUp (depth c) c ≡ withLevels c (flipAt (c .thresholds) (c .deepest .decided) o) ls
 unfolding backUp depth levels
 back-one c o ls e = let z : length (c .outer) - length (c .outer) ≡ 0 = omega arith in rw (z, e) (unfold backFrom in refl)
 
@@ -37,31 +37,33 @@ module _ (p : Problem) (u : Point) (Left Rest : Point → Type 0) (split : (x : 
   unfolding withLevels kept
   strike-sound room c o ls s here f e =
       let l = c .deepest in
-      let chain : Chain (p .domain) l (o ∷ ls) = subst (λ (xs : List Level). Chain (p .domain) l xs) e (s .chain) in
-      let ordered = chain-ordered (p .domain) l (o ∷ ls) chain in
+      let chain : Chain p l (o ∷ ls) = subst (λ (xs : List Level). Chain p l xs) e (s .chain) in
+      let ordered = chain-ordered p l (o ∷ ls) chain in
       let inside : Inside u (l .box) = subst (λ (x : Point). Inside x (l .box)) (sym here) (lowers-inside (l .box) ordered) in
       let low = nested-inside u (l .box) (lowHalf (l .decided) (o .box)) (chain .1) inside in
       let deep : depth c ≡ suc (length ls) = unfold depth in ap length e in
       let fits : CoreFits (backUp (depth c) c) = subst (λ (d : ℕ). CoreFits (backUp d c)) (sym deep) (back-fits (length ls) c (s .fits) (omega arith)) in
       subst (Backed p Rest room) (sym (back-one c o ls e))
       (record {
-        left = remaining (flipAt (l .decided) o) ls;
-        less = omega (arith, s .left, ap (remaining l) e, remaining-back (p .domain) 0 l l (o ∷ ls) refl ordered chain);
-        sound = record {
-          fits = subst CoreFits (back-one c o ls e) fits;
-          variables = s .variables;
-          inputs = s .inputs;
-          implied = s .implied;
-          chain = chain-back (p .domain) 0 l (o ∷ ls) chain;
-          solves = λ x z. s .solves x (rest x z);
-          cover = λ x z.
-              right (subst (λ (xs : List Level). Remains x l xs) e (s .cover x (rest x z)))
-              (λ h. not-before-itself u x (here ∙ sym (fixed-only (l .box) x f h)) (later x z));
-          exact = λ x z r.
-              right (split x (s .exact x z (subst (λ (xs : List Level). Remains x l xs) (sym e) (inr r))))
-              (λ h. not-before-itself u x (sym h) (above-later (p .domain) (l .decided) o ls u x (chain .3) (chain .2) low r));
-          left = omega arith;
-        };
+        left = remaining p (flipAt (p .thresholds) (l .decided) o) ls;
+        less = omega (arith, s .left, ap (remaining p l) e, remaining-back p 0 l l (o ∷ ls) refl ordered (chain-outside p l (o ∷ ls) chain) chain);
+        sound = flipped-sound p Rest (remaining p (flipAt (p .thresholds) (l .decided) o) ls) c (l .decided) o ls (s .thresholds) (subst CoreFits (back-one c o ls e) fits)
+            (λ g. record {
+              fits = g;
+              variables = s .variables;
+              thresholds = s .thresholds;
+              inputs = s .inputs;
+              implied = s .implied;
+              chain = chain-back p 0 l (o ∷ ls) chain;
+              solves = λ x z. s .solves x (rest x z);
+              cover = λ x z.
+                  right (subst (λ (xs : List Level). Remains p x l xs) e (s .cover x (rest x z)))
+                  (λ h. not-before-itself u x (here ∙ sym (fixed-only (l .box) x f h)) (later x z));
+              exact = λ x z r.
+                  right (split x (s .exact x z (subst (λ (xs : List Level). Remains p x l xs) (sym e) (inr r))))
+                  (λ h. not-before-itself u x (sym h) (above-later p (l .decided) o ls u x (chain .3) (chain .2) low r));
+              left = omega arith;
+            });
       })
 
   -- the search goes on, without the mark

@@ -1,4 +1,5 @@
 -- Demand 3, N4 and N5's count: the argument for searches from an opening, from what is left to search up to lists of turns and of all calls.
+pub mod Values
 pub mod Sizes
 pub mod Solutions
 pub mod Remaining

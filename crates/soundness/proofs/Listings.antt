@@ -11,7 +11,7 @@ use Rattle.model.specs.Ranges.{maxVariables}
 use Rattle.model.specs.Problem.{Problem, variables}
 use Rattle.model.specs.File.{problemIn}
 use Rattle.model.specs.Search.{Level, infeasible, Search, openProblem}
-use Rattle.model.specs.Points.{Point, Solution, allSolutions}
+use Rattle.model.specs.Points.{Point, Solution, points, allSolutions}
 use Rattle.model.specs.Step.{Verdict, goOn, noSolution, outOfBudget, solution, step, lowers}
 use Rattle.model.specs.Trace.{advance}
 use Rattle.model.specs.Move.{slack}
@@ -25,7 +25,7 @@ use Rattle.format.proofs.AcceptedShape.{tests, sizes}
 use Rattle.lists.proofs.Bools.{true-of}
 use Rattle.validity.proofs.Boxes.{fixed-only}
 use Rattle.validity.proofs.Steps.{impossible}
-use Rattle.soundness.proofs.Sizes.{size, points-size, not-before-itself, before-each}
+use Rattle.soundness.proofs.Sizes.{not-before-itself, before-each}
 use Rattle.soundness.proofs.Solutions.{solutions-every, solutions-ascending}
 use Rattle.soundness.proofs.Remaining.{Remains}
 use Rattle.soundness.proofs.Opened.{meets-inequalities}
@@ -142,7 +142,7 @@ module _ (p : Problem) (sized : Small.Sizes p) (fits : ProblemFits p) (m : Searc
 
   -- the solutions shown: those struck out and the one that stands
   some-shown : (b : Bool) (cs : List Call) → b ≡ isSolved (walk cs m .status) → Reached p (LeftAfter cs) (length (st cs .gone)) (walk cs m) →
-      (length (take (cond b 1 0) (st cs .left)) ≡ cond b 1 0) × (walk cs m .conflicts + length (st cs .gone) + cond b 1 0 ≤ size (p .domain))
+      (length (take (cond b 1 0) (st cs .left)) ≡ cond b 1 0) × (walk cs m .conflicts + length (st cs .gone) + cond b 1 0 ≤ points p)
   unfolding isSolved
   some-shown false cs e r = (refl, omega (arith, reached-few p (LeftAfter cs) (length (st cs .gone)) (walk cs m) r))
   some-shown true cs e (still o) = impossible (let f = e ∙ ap isSolved (o .status) in cc)
@@ -207,7 +207,7 @@ module _ (p : Problem) (sized : Small.Sizes p) (fits : ProblemFits p) (m : Searc
       let order = subst Ascending (h .is) (left-order p few (w .gone) (w .left) (w .split)) in
       let alone : (y : Point) → In y (h .rest) → ⊥ = λ y n.
       let r = d .at .sound .cover y (subst (In y) (sym (h .is)) (inr n)) in
-      let i = fixed-only (c .deepest .box) y (d .finishes .fixed) (subst (λ (ls : List Level). Remains y (c .deepest) ls) e r) in
+      let i = fixed-only (c .deepest .box) y (d .finishes .fixed) (subst (λ (ls : List Level). Remains p y (c .deepest) ls) e r) in
       not-before-itself (lowers (c .deepest .box)) y (sym i) (before-each (lowers (c .deepest .box)) (h .rest) (order .0) y n) in
       h .is ∙ ap (λ (us : List Point). lowers (c .deepest .box) ∷ us) (none-in (h .rest) alone)
 
@@ -255,7 +255,7 @@ module _ (p : Problem) (sized : Small.Sizes p) (fits : ProblemFits p) (m : Searc
 
   -- ---- a list kept up
   kept-few : (cs : List Call) (n : ℕ) → n ≤ 2 * (walk cs m .conflicts + length (st cs .gone)) + cond (stands cs m) 1 0 → ¬ (walk cs m .status ≡ infeasible) →
-      Reached p (LeftAfter cs) (length (st cs .gone)) (walk cs m) → n < 2 * size (p .domain)
+      Reached p (LeftAfter cs) (length (st cs .gone)) (walk cs m) → n < 2 * points p
   kept-few cs n h i (still o) = omega (arith, h, o .total, some-room p (LeftAfter cs) (o .room) (walk cs m .core) (o .sound), bit (stands cs m))
   kept-few cs n h i (found d) = omega (arith, h, d .at .total, some-room p (LeftAfter cs) (d .at .room) (walk cs m .core) (d .at .sound), bit (stands cs m))
   kept-few cs n h i (over o) = absurd (i (o .status))
@@ -289,7 +289,7 @@ module _ (p : Problem) (sized : Small.Sizes p) (fits : ProblemFits p) (m : Searc
 
   -- with so much budget there are no more strikes than points
   few-strikes : (cs : List Call) → Modest p cs m → strikes cs m < 2 ^ 32
-  few-strikes cs (inl h) = let w = st cs in omega (arith, w .many, points-size (p .domain), sized .small-budget, reached-few p (LeftAfter cs) (length (w .gone)) (walk cs m) (w .reached))
+  few-strikes cs (inl h) = let w = st cs in omega (arith, w .many, sized .small-budget, reached-few p (LeftAfter cs) (length (w .gone)) (walk cs m) (w .reached))
   few-strikes cs (inr h) = h
 
   accepted : (cs : List Call) → Modest p cs m → admitted (walk cs m) ≡ true
@@ -297,7 +297,6 @@ module _ (p : Problem) (sized : Small.Sizes p) (fits : ProblemFits p) (m : Searc
 
   pub enumerates : Enumerates p m
   enumerates =
-      let total = points-size (p .domain) in
       record {
         every = solutions-every p;
         ordered = solutions-ascending p;
@@ -308,15 +307,15 @@ module _ (p : Problem) (sized : Small.Sizes p) (fits : ProblemFits p) (m : Searc
         no-form = no-form;
         counted = λ c cs h. unfold walk in counts c cs h .count;
         carried = λ cs h. st cs .carried h;
-        bounded = λ cs. let w = st cs in omega (arith, total, shown-length cs, some-shown (stands cs m) cs (w .mark) (w .reached) .1);
+        bounded = λ cs. let w = st cs in omega (arith, shown-length cs, some-shown (stands cs m) cs (w .mark) (w .reached) .1);
         propagated = λ c cs h. unfold walk in counts c cs h .propagations;
         tallied = tallied;
         creeping = creeping;
         cuts = λ cs x z. st cs .cuts x (meets-inequalities x (p .constraints) (z .meets));
         again = again;
         complete = complete;
-        ends = λ cs k. let w = st cs in let q = w .kept k in omega (arith, total, kept-few cs (length cs) (q .0) (q .1) (w .reached));
-        enough = λ h c cs e. omega (arith, total, last-said c cs outOfBudget e (λ n. impossible (cc)) .leaves .1);
+        ends = λ cs k. let w = st cs in let q = w .kept k in omega (arith, kept-few cs (length cs) (q .0) (q .1) (w .reached));
+        enough = λ h c cs e. omega (arith, last-said c cs outOfBudget e (λ n. impossible (cc)) .leaves .1);
       }
 
 -- ---- from a fresh opening

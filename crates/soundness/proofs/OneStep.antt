@@ -11,11 +11,10 @@ use Rattle.model.specs.Problem.{Problem, variables}
 use Rattle.model.specs.Search.{Core, Status, undecided, infeasible, solved, Search, kept}
 use Rattle.model.specs.Move.{slack, descend}
 use Rattle.model.specs.Conflict.{atConflict}
-use Rattle.model.specs.Points.{Point, Meets, FirstOf}
+use Rattle.model.specs.Points.{Point, points, Meets, FirstOf}
 use Rattle.model.specs.Step.{Verdict, goOn, noSolution, outOfBudget, solution, Outcome, blockIn, lowers, propagated, solvedBy, budgetSpent, recordOf, verdictAt, statusAt, counted, endedAt, ended, stepBy, step}
 use Rattle.model.specs.Demand.{MeetsCuts}
 use Rattle.format.proofs.RecordCut.{cut-in-record}
-use Rattle.soundness.proofs.Sizes.{size}
 use Rattle.validity.proofs.Moves.{Falsifies, Finishes}
 use Rattle.validity.proofs.Constraints.{inequality-divisor}
 use Rattle.validity.proofs.Conflicts.{MeetsInequalities}
@@ -36,7 +35,7 @@ ending solved = 1
 pub record Marked (mark : Status) (p : Problem) (Left : Point → Type 0) (struck : ℕ) (s : Search) : Type 0 where
   pub room : ℕ
   pub sound : Sound p Left room (s .core)
-  pub total : s .conflicts + struck + room ≤ size (p .domain)
+  pub total : s .conflicts + struck + room ≤ points p
   pub budget : s .budget ≡ p .budget
   pub afford : s .conflicts ≤ s .budget
   pub creeps : s .propagations ≤ (ending mark + s .conflicts + struck) * slack (p .domain)
@@ -54,7 +53,7 @@ pub record Solved (p : Problem) (Left : Point → Type 0) (struck : ℕ) (s : Se
 -- one that is marked 'none': no solution is left
 pub record Over (p : Problem) (Left : Point → Type 0) (struck : ℕ) (s : Search) : Type 0 where
   pub none-left : (x : Point) → Left x → ⊥
-  pub total : s .conflicts + struck ≤ size (p .domain)
+  pub total : s .conflicts + struck ≤ points p
   pub creeps : s .propagations ≤ (s .conflicts + struck) * slack (p .domain)
   pub status : s .status ≡ infeasible
   pub variables : s .core .variables ≡ variables p
@@ -63,7 +62,7 @@ pub record Over (p : Problem) (Left : Point → Type 0) (struck : ℕ) (s : Sear
 abbrev pub Says : (p : Problem) (Left : Point → Type 0) (struck : ℕ) → Search → Outcome → Verdict → Type 0
 Says p Left struck s o goOn = Open p Left struck (o .state) × (o .state .conflicts ≡ suc (s .conflicts))
 Says p Left struck s o noSolution = Over p Left struck (o .state)
-Says p Left struck s o outOfBudget = (o .state ≡ s) × (p .budget < size (p .domain))
+Says p Left struck s o outOfBudget = (o .state ≡ s) × (p .budget < points p)
 Says p Left struck s o (solution x) = Solved p Left struck (o .state) × (x ≡ lowers (o .state .core .deepest .box))
 
 pub record StepSays (p : Problem) (Left : Point → Type 0) (struck : ℕ) (s : Search) (o : Outcome) : Type 0 where
@@ -80,7 +79,7 @@ module _ (p : Problem) (Left : Point → Type 0) (struck : ℕ) where
   pub shown-first : (s : Search) (x : Point) → Solved p Left struck s × (x ≡ lowers (s .core .deepest .box)) → FirstOf Left x
   shown-first s x h = subst (FirstOf Left) (sym (h .1)) (finish-first p Left (h .0 .at .room) (s .core) (h .0 .at .sound) (h .0 .finishes))
 
-  solved-says : (s : Search) (c : Core) (room : ℕ) → Sound p Left room c → s .conflicts + struck + room ≤ size (p .domain) → s .budget ≡ p .budget → s .conflicts ≤ s .budget →
+  solved-says : (s : Search) (c : Core) (room : ℕ) → Sound p Left room c → s .conflicts + struck + room ≤ points p → s .budget ≡ p .budget → s .conflicts ≤ s .budget →
       Creeps s (propagated s) → Finishes (kept c) (c .deepest .box) → StepSays p Left struck s (solvedBy s c)
   unfolding solvedBy blockIn
   solved-says s c room d t b h w f =
@@ -92,7 +91,7 @@ module _ (p : Problem) (Left : Point → Type 0) (struck : ℕ) where
 
   -- a counted conflict, by its backjump level
   after-says : (d : ℕ) (s : Search) (o : Outcome) (room : ℕ) → After p Left room d (o .state .core) → o .state .conflicts ≡ suc (s .conflicts) → o .state .budget ≡ s .budget → o .state .status ≡ statusAt d →
-      Creeps s (o .state .propagations) → s .conflicts + struck + room ≤ size (p .domain) → s .budget ≡ p .budget → s .conflicts < s .budget → Says p Left struck s o (verdictAt d)
+      Creeps s (o .state .propagations) → s .conflicts + struck + room ≤ points p → s .budget ≡ p .budget → s .conflicts < s .budget → Says p Left struck s o (verdictAt d)
   unfolding verdictAt statusAt
   after-says zero s o room a c b m w t e h = record { none-left = a .0; total = omega (arith, a .1); creeps = rw c (omega (arith, w)); status = m; variables = a .2 }
   after-says (suc d) s o room a c b m w t e h =
@@ -102,7 +101,7 @@ module _ (p : Problem) (Left : Point → Type 0) (struck : ℕ) where
   after-room zero room c a = a .1
   after-room (suc d) room c a = omega (arith, a .less)
 
-  counted-says : (s : Search) (c : Core) (j room : ℕ) → Sound p Left room c → s .conflicts + struck + room ≤ size (p .domain) → s .budget ≡ p .budget → s .conflicts < s .budget →
+  counted-says : (s : Search) (c : Core) (j room : ℕ) → Sound p Left room c → s .conflicts + struck + room ≤ points p → s .budget ≡ p .budget → s .conflicts < s .budget →
       Creeps s (propagated s) → Falsifies (kept c) (c .deepest .box) j → StepSays p Left struck s (counted s (atConflict c j))
   unfolding counted blockIn
   counted-says s c j room d t b h w f =
@@ -122,14 +121,14 @@ module _ (p : Problem) (Left : Point → Type 0) (struck : ℕ) where
       }
 
   -- out of budget: as many conflicts as the budget are counted, and there is room for one more
-  spent-says : (s : Search) (c : Core) (j room : ℕ) → Sound p Left room c → s .conflicts + struck + room ≤ size (p .domain) → s .budget ≡ p .budget → s .conflicts ≡ s .budget →
+  spent-says : (s : Search) (c : Core) (j room : ℕ) → Sound p Left room c → s .conflicts + struck + room ≤ points p → s .budget ≡ p .budget → s .conflicts ≡ s .budget →
       Falsifies (kept c) (c .deepest .box) j → StepSays p Left struck s (budgetSpent s)
   unfolding budgetSpent blockIn
   spent-says s c j room d t b h f =
       let m = after-room (atConflict c j .back) room (atConflict c j .core) (conflict-after p Left room c j d f (conflict-settled c j (d .fits) f)) in
       record { blocks = omega arith; cuts = λ h x z. tt; says = (refl, omega arith) }
 
-  ended-says : (s : Search) (c : Core) (e : Option ℕ) (room : ℕ) → Sound p Left room c → EndsAt c e → s .conflicts + struck + room ≤ size (p .domain) → s .budget ≡ p .budget → s .conflicts ≤ s .budget →
+  ended-says : (s : Search) (c : Core) (e : Option ℕ) (room : ℕ) → Sound p Left room c → EndsAt c e → s .conflicts + struck + room ≤ points p → s .budget ≡ p .budget → s .conflicts ≤ s .budget →
       Creeps s (propagated s) → StepSays p Left struck s (endedAt s c e)
   unfolding endedAt
   ended-says s c none room d f t b h w = solved-says s c room d t b h w f
@@ -142,7 +141,7 @@ module _ (p : Problem) (Left : Point → Type 0) (struck : ℕ) where
   creeps-more s o =
       let c = s .core in
       let chain = o .sound .chain in
-      omega (arith, o .creeps, moves-few c (o .sound .fits), slack-nested (c .deepest .box) (p .domain) (chain-ordered (p .domain) (c .deepest) (c .outer) chain) (chain-domain (p .domain) (c .deepest) (c .outer) chain))
+      omega (arith, o .creeps, moves-few c (o .sound .fits), slack-nested (c .deepest .box) (p .domain) (chain-ordered p (c .deepest) (c .outer) chain) (chain-domain p (c .deepest) (c .outer) chain))
 
   -- a turn
   pub step-says : (s : Search) → Open p Left struck s → StepSays p Left struck s (step s)
@@ -161,6 +160,7 @@ open-same p Left Same struck s f o =
       sound = record {
         fits = d .fits;
         variables = d .variables;
+        thresholds = d .thresholds;
         inputs = d .inputs;
         implied = d .implied;
         chain = d .chain;

@@ -8,15 +8,16 @@ use lib.IntN.{natAbs}
 use lib.ListN.{length, replicate, length-replicate}
 use Rattle.model.specs.Lists.{tab, allOf}
 use Rattle.model.specs.Constraint.{Constraint, modulus, inRange, divisorInRange, rounded}
-use Rattle.model.specs.Problem.{Problem, variables, domainInRange, constraintsInRange, divisorsInRange}
+use Rattle.model.specs.Problem.{Problem, variables, domainInRange, thresholdsInRange, constraintsInRange, divisorsInRange}
 use Rattle.model.specs.Search.{noReasons, Search, kept, levels, levelOf, coreOf, openProblem}
 use Rattle.model.specs.Validity.{reasonValid, reasonsValid}
-use Rattle.model.specs.Points.{Point, Solution, First}
+use Rattle.model.specs.Points.{Point, points, Solution, First}
 use Rattle.model.specs.Step.{Verdict, goOn, noSolution, outOfBudget, solution, Outcome, step, continue, runFor, withoutBlock, run}
 use Rattle.integer.specs.Tests.{and-left, and-right}
 use Rattle.validity.proofs.Boxes.{nested-refl}
-use Rattle.soundness.proofs.Sizes.{size}
+use Rattle.soundness.proofs.Sizes.{points-size}
 use Rattle.validity.proofs.Constraints.{Inequality, rounded-meets, rounded-divisor, rounded-length, rounded-in-range}
+use Rattle.validity.proofs.Limits.{fits-outside}
 use Rattle.validity.proofs.States.{Every, ConstraintFits, CoreFits, level-ordered}
 use Rattle.validity.proofs.Conflicts.{MeetsInequalities}
 use Rattle.soundness.proofs.Opened.{Implied}
@@ -25,6 +26,7 @@ use Rattle.soundness.proofs.OneStep.{Open, Says, step-says, shown-first
 -- ---- opening: a problem with its limits and constraints in range, each constraint of n coefficients
 pub record ProblemFits (p : Problem) : Type 0 where
   pub domain : T (domainInRange p)
+  pub thresholds : T (thresholdsInRange p)
   pub constraints : T (constraintsInRange p)
   pub divisors : T (divisorsInRange p)
   pub sizes : Every (λ (k : Constraint). length (k .coefficients) ≡ variables p) (p .constraints)
@@ -56,8 +58,9 @@ rounded-implied p (k ∷ ks) f =
     (λ e x m. rounded-meets k x .1 (f x m .0 (ap natAbs (sym (rounded-divisor k)) ∙ e)), rounded-implied p ks (λ x m. f x m .1))
 
 pub opened-fits : (p : Problem) → ProblemFits p → CoreFits (coreOf p)
-unfolding coreOf levelOf kept levels tab variables domainInRange constraintsInRange divisorsInRange
+unfolding coreOf levelOf kept levels tab variables domainInRange thresholdsInRange constraintsInRange divisorsInRange
 opened-fits p f =
+    let t = fits-outside (p .thresholds) (p .domain) (f .thresholds) (f .domain) in
     record {
       constraints = rounded-fit (length (p .domain)) (p .constraints) (f .constraints) (f .sizes);
       divisors = rw (rounded-divisors (p .constraints)) (f .divisors);
@@ -65,6 +68,8 @@ opened-fits p f =
       cuts = omega arith;
       numbers = refl;
       levels = (record { box = refl; reasons = length-replicate (length (p .domain)) noReasons; range = f .domain; valid-reasons = no-valid-reasons (length (map rounded (p .constraints)) + 0) (length (p .domain)) }, tt);
+      thresholds = t .0;
+      outside = (t .1, tt);
       stacked = tt;
     }
 
@@ -74,17 +79,18 @@ unfolding openProblem levels
 opened-open p f =
     let c = opened-fits p f in
     record {
-      room = size (p .domain);
+      room = points p;
       sound = unfold coreOf levelOf kept in record {
         fits = c;
         variables = refl;
+        thresholds = refl;
         inputs = refl;
         implied = rounded-implied p (p .constraints) (λ x m. m);
-        chain = (level-ordered _ _ (levelOf p) (c .levels .0), nested-refl (p .domain));
+        chain = (level-ordered _ _ (levelOf p) (c .levels .0), nested-refl (p .domain), c .outside .0);
         solves = λ x z. z;
         cover = λ x z. z .inside;
         exact = λ x z r. z;
-        left = omega arith;
+        left = omega (arith, points-size p);
       };
       total = omega arith;
       budget = refl;
@@ -97,7 +103,7 @@ opened-open p f =
 abbrev pub Right : Problem → Verdict → Type 0
 Right p goOn = ⊥
 Right p noSolution = (x : Point) → Solution p x → ⊥
-Right p outOfBudget = p .budget < size (p .domain)
+Right p outOfBudget = p .budget < points p
 Right p (solution x) = First p x
 
 continue-right : (p : Problem) (s : Search) (o : Outcome) (v : Verdict) (go : Search → Outcome) → o .verdict ≡ v → Says p (Solution p) 0 s o v →

@@ -1,79 +1,81 @@
--- The number of points in a box is the product of its variables' numbers of values, and `allPoints` lists each point once, in dictionary order.
-use Prim.Native.Nat.{ℕ, zero, suc, _+_, _-_, _*_, _≤_, _<_}
+-- The number of points in a box is the product of its variables' numbers of values, and `pointsIn` lists each point once, in dictionary order.
+use Prim.Native.Nat.{ℕ, zero, suc, _+_, _*_, _≤_, _<_}
 use native.Mathlib.Nat.{mul-le-mul}
 use native.Mathlib.Omega.{arith}
-use mathlib.Core.Bool.{Bool, true, false, not, cond}
+use mathlib.Core.Bool.{Bool, true, false, cond}
 use mathlib.Core.List.{List, [], _∷_, _++_, map, nil≢cons, cons≢nil}
 use mathlib.Core.Logic.{_⊎_, inl, inr, ⊎-elim, _↔_}
-use mathlib.Core.Path.{_≡_, refl, sym, ap, subst}
+use mathlib.Core.Path.{_≡_, refl, sym, ap, subst, _∙_}
 use lib.Dec.{T}
-use lib.IntN.{ℤ, natAbs, _-ℤ_}
-use lib.Signed.{leZ}
+use lib.IntN.{ℤ, sucℤ}
 use lib.ListN.{length, length-append, length-map}
-use Rattle.model.specs.Constraint.{Box, lowerAt, upperAt, setLower, setUpper, nextValue}
-use Rattle.model.specs.Points.{Point, Inside, valuesBetween, valuesFrom, values, prefixed, allPoints, points, Before}
+use Rattle.model.specs.Lists.{filter}
+use Rattle.model.specs.Constraint.{Box, lowerAt, upperAt, setLower, setUpper}
+use Rattle.model.specs.Threshold.{thresholdAt, allowed, nextValue}
+use Rattle.model.specs.Problem.{Problem}
+use Rattle.model.specs.Points.{Point, Inside, Allowed, numbersFrom, values, prefixed, pointsIn, allPoints, points, Before}
 use Rattle.model.specs.Demand.{In, NoRepeats}
 use Rattle.model.specs.Enumeration.{BeforeAll, Ascending}
-use Rattle.integer.specs.Parts.{up, down, _⊑_, _⊏_, le-in, le-out, lt-in, lt-out, nle-in, eq-in, eq-out}
+use Rattle.integer.specs.Parts.{up, down, _⊑_, _⊏_, suc-parts, le-in, le-out, lt-in, lt-out, eq-in, eq-out}
 use Rattle.integer.specs.Order.{≤-or-<}
-use Rattle.validity.proofs.Boxes.{Ordered, Nested, OpenAt, gap-parts, next-parts, lowHalf, highHalf}
+use Rattle.lists.proofs.Bools.{true-of, T-of}
+use Rattle.validity.proofs.Boxes.{Ordered, Nested, OpenAt, lowHalf, highHalf}
+use Rattle.validity.proofs.Thresholds.{Outside}
+use Rattle.soundness.proofs.Values.{whole-parts, valuesBetween, values-next, values-alone, values-nested}
 
-unfoldable pub size : Box → ℕ
-size [] = 1
-size (b ∷ box) = valuesBetween (b .lower) (b .upper) * size box
+unfoldable pub size : List ℤ → Box → ℕ
+size [] [] = 1
+size [] (b ∷ box) = 0
+size (t ∷ ts) [] = 0
+size (t ∷ ts) (b ∷ box) = valuesBetween t (b .lower) (b .upper) * size ts box
 
--- the number of values, at the parts
-values-parts : (l u : ℤ) → valuesBetween l u ≡ suc (up u + down l) - (up l + down u)
-unfolding valuesBetween
-values-parts l u = go (leZ l u) (le-in l u) (nle-in l u)
-  where
-    go : (t : Bool) → (T t → l ⊑ u) → (T (not t) → u ⊏ l) → cond t (suc (natAbs (u -ℤ l))) 0 ≡ suc (up u + down l) - (up l + down u)
-    go true f g = let h = f tt in omega (arith, gap-parts l u h)
-    go false f g = let h = g tt in omega arith
-
--- the values from L to U are L and those from the next one on
-pub values-next : (l u : ℤ) → l ⊑ u → valuesBetween l u ≡ suc (valuesBetween (nextValue l) u)
-values-next l u h = omega (arith, values-parts l u, values-parts (nextValue l) u, next-parts l)
-
-pub size-positive : (box : Box) → Ordered box → 1 ≤ size box
+pub size-positive : (ts : List ℤ) (box : Box) → Ordered box → Outside ts box → 1 ≤ size ts box
 unfolding size
-size-positive [] o = omega arith
-size-positive (b ∷ box) o = mul-le-mul {n₁ = 1} {m₁ = 1} (omega (arith, values-parts (b .lower) (b .upper))) (size-positive box (o .1))
+size-positive [] [] o a = omega arith
+size-positive [] (b ∷ box) o a = absurd a
+size-positive (t ∷ ts) [] o a = absurd a
+size-positive (t ∷ ts) (b ∷ box) o a =
+    mul-le-mul {n₁ = 1} {m₁ = 1} (omega (arith, values-next t (b .lower) (b .upper) (a .0) (o .0))) (size-positive ts box (o .1) (a .2))
 
-pub size-nested : (box outer : Box) → Ordered box → Nested box outer → size box ≤ size outer
+pub size-nested : (ts : List ℤ) (box outer : Box) → Ordered box → Nested box outer → size ts box ≤ size ts outer
 unfolding size
-size-nested [] [] o n = omega arith
-size-nested [] (c ∷ outer) o n = absurd n
-size-nested (b ∷ box) [] o n = absurd n
-size-nested (b ∷ box) (c ∷ outer) o n =
-    mul-le-mul (omega (arith, values-parts (b .lower) (b .upper), values-parts (c .lower) (c .upper))) (size-nested box outer (o .1) (n .2))
+size-nested [] [] [] o n = omega arith
+size-nested [] (b ∷ box) (c ∷ outer) o n = omega arith
+size-nested (t ∷ ts) [] [] o n = omega arith
+size-nested ts [] (c ∷ outer) o n = absurd n
+size-nested ts (b ∷ box) [] o n = absurd n
+size-nested (t ∷ ts) (b ∷ box) (c ∷ outer) o n =
+    mul-le-mul (values-nested t (b .lower) (b .upper) (c .lower) (c .upper) (n .0) (o .0) (n .1)) (size-nested ts box outer (o .1) (n .2))
 
-pub halves-size : (i : ℕ) (box : Box) → Ordered box → OpenAt box i → size (lowHalf i box) + size (highHalf i box) ≡ size box
-unfolding size lowHalf highHalf setLower setUpper lowerAt upperAt
-halves-size i [] o w = let z : ⊥ = omega arith in absurd z
-halves-size zero (b ∷ box) o w =
-    let e : valuesBetween (b .lower) (b .lower) + valuesBetween (nextValue (b .lower)) (b .upper) ≡ valuesBetween (b .lower) (b .upper)
-    = omega (arith, values-next (b .lower) (b .upper) (o .0), values-parts (b .lower) (b .lower)) in
-    omega (arith, ap (λ (n : ℕ). n * size box) e)
-halves-size (suc i) (b ∷ box) o w =
-    let e = halves-size i box (o .1) (record { at = omega arith; wide = w .wide }) in
-    omega (arith, ap (λ (n : ℕ). valuesBetween (b .lower) (b .upper) * n) e)
+pub halves-size : (ts : List ℤ) (i : ℕ) (box : Box) → Ordered box → Outside ts box → OpenAt box i →
+    size ts (lowHalf i box) + size ts (highHalf (thresholdAt ts i) i box) ≡ size ts box
+unfolding size lowHalf highHalf setLower setUpper lowerAt upperAt thresholdAt
+halves-size ts i [] o a w = let z : ⊥ = omega arith in absurd z
+halves-size [] i (b ∷ box) o a w = absurd a
+halves-size (t ∷ ts) zero (b ∷ box) o a w =
+    let e : valuesBetween t (b .lower) (b .lower) + valuesBetween t (nextValue t (b .lower)) (b .upper) ≡ valuesBetween t (b .lower) (b .upper)
+    = omega (arith, values-next t (b .lower) (b .upper) (a .0) (o .0), values-alone t (b .lower) (a .0)) in
+    omega (arith, ap (λ (n : ℕ). n * size ts box) e)
+halves-size (t ∷ ts) (suc i) (b ∷ box) o a w =
+    let e = halves-size ts i box (o .1) (a .2) (record { at = omega arith; wide = w .wide }) in
+    omega (arith, ap (λ (n : ℕ). valuesBetween t (b .lower) (b .upper) * n) e)
 
 -- ---- and the list
-values-length : (n : ℕ) (l : ℤ) → length (valuesFrom n l) ≡ n
-unfolding valuesFrom
-values-length zero l = refl
-values-length (suc n) l = ap suc (values-length n (nextValue l))
-
 prefixed-length : (xs : List ℤ) (vs : List Point) → length (prefixed xs vs) ≡ length xs * length vs
 unfolding prefixed
 prefixed-length [] vs = omega arith
 prefixed-length (x ∷ xs) vs = simp (length-append, length-map, prefixed-length xs vs) (omega arith)
 
-pub points-size : (box : Box) → points box ≡ size box
-unfolding points allPoints size values
-points-size [] = refl
-points-size (b ∷ box) = rw (prefixed-length, values-length, points-size box)
+points-in : (ts : List ℤ) (box : Box) → length (pointsIn ts box) ≡ size ts box
+unfolding pointsIn size valuesBetween
+points-in [] [] = refl
+points-in [] (b ∷ box) = refl
+points-in (t ∷ ts) [] = refl
+points-in (t ∷ ts) (b ∷ box) = rw (prefixed-length, points-in ts box)
+
+pub points-size : (p : Problem) → points p ≡ size (p .thresholds) (p .domain)
+unfolding points allPoints
+points-size p = points-in (p .thresholds) (p .domain)
 
 -- ---- every point is in the list
 append-left : (w : Point) (us vs : List Point) → In w us → In w (us ++ vs)
@@ -115,40 +117,76 @@ behind-out l (v ∷ vs) [] (inr m) = behind-out l vs [] m
 behind-out l (v ∷ vs) (x ∷ w) (inl e) = (cc, inl (cc))
 behind-out l (v ∷ vs) (x ∷ w) (inr m) = let r = behind-out l vs (x ∷ w) m in (r .0, inr (r .1))
 
--- x is one of the n values from l on
-abbrev Among : ℕ → ℤ → ℤ → Type 0
-Among n l x = (l ⊑ x) × (up x + down l < n + (up l + down x))
+-- x is one of those of the n numbers from l on that the variable may have
+abbrev Among : ℤ → ℕ → ℤ → ℤ → Type 0
+Among t n l x = (l ⊑ x) × (up x + down l < n + (up l + down x)) × T (allowed t x)
 
-prefixed-in : (n : ℕ) (l : ℤ) (vs : List Point) (x : ℤ) (w : Point) → Among n l x → In w vs → In (x ∷ w) (prefixed (valuesFrom n l) vs)
-unfolding prefixed valuesFrom
-prefixed-in zero l vs x w a m = let z : ⊥ = omega arith in absurd z
-prefixed-in (suc n) l vs x w a m =
-    let rest = prefixed (valuesFrom n (nextValue l)) vs in
-    ⊎-elim
-    (λ h. append-left (x ∷ w) (behind l vs) rest (behind-in l vs x w (eq-out x l (omega (arith, le-in))) m))
-    (λ h. append-right (x ∷ w) (behind l vs) rest (prefixed-in n (nextValue l) vs x w (omega (arith, lt-in, next-parts l)) m))
-    (≤-or-< x l)
+-- those numbers
+unfoldable among : ℤ → ℕ → ℤ → List ℤ
+among t n l = filter (allowed t) (numbersFrom n l)
 
-prefixed-out : (n : ℕ) (l : ℤ) (vs : List Point) (w : Point) → In w (prefixed (valuesFrom n l) vs) → Led (Among n l) vs w
-unfolding prefixed valuesFrom
-prefixed-out zero l vs w m = absurd m
-prefixed-out (suc n) l vs w m =
-    ⊎-elim
-    (λ k. led-map (λ x. x ≡ l) (Among (suc n) l) vs w (λ x e. omega (arith, eq-in x l e)) (behind-out l vs w k))
-    (λ k. led-map (Among n (nextValue l)) (Among (suc n) l) vs w (λ x a. omega (arith, next-parts l)) (prefixed-out n (nextValue l) vs w k))
-    (append-out w (behind l vs) (prefixed (valuesFrom n (nextValue l)) vs) m)
+among-suc : (t : ℤ) (n : ℕ) (l : ℤ) → among t (suc n) l ≡ cond (allowed t l) (l ∷ among t n (sucℤ l)) (among t n (sucℤ l))
+unfolding among filter numbersFrom
+among-suc t n l = refl
 
-pub points-every : (box : Box) (v : Point) → Inside v box ↔ In v (allPoints box)
-unfolding allPoints values
-points-every [] [] = (λ h. inl refl, λ m. tt)
-points-every [] (x ∷ v) = (λ h. absurd h, ⊎-elim cons≢nil (λ m. m))
-points-every (b ∷ box) [] = (λ h. absurd h, λ m. prefixed-out _ (b .lower) (allPoints box) [] m)
-points-every (b ∷ box) (x ∷ v) = (
-  λ h. prefixed-in _ (b .lower) (allPoints box) x v (omega (arith, le-in, values-parts (b .lower) (b .upper))) (points-every box v .0 (h .2)),
+prefixed-in : (t : ℤ) (n : ℕ) (l : ℤ) (vs : List Point) (x : ℤ) (w : Point) → Among t n l x → In w vs → In (x ∷ w) (prefixed (among t n l) vs)
+unfolding prefixed
+prefixed-in t zero l vs x w a m = let z : ⊥ = omega arith in absurd z
+prefixed-in t (suc n) l vs x w a m = rw among-suc (go (allowed t l) refl (λ b. prefixed-in t n (sucℤ l) vs x w b m))
+  where
+    later : l ⊏ x → Among t n (sucℤ l) x
+    later h = let s = suc-parts l in (omega arith, omega arith, a .2)
+
+    go : (b : Bool) → allowed t l ≡ b → (Among t n (sucℤ l) x → In (x ∷ w) (prefixed (among t n (sucℤ l)) vs)) → In (x ∷ w) (prefixed (cond b (l ∷ among t n (sucℤ l)) (among t n (sucℤ l))) vs)
+    go true e f =
+        let rest = prefixed (among t n (sucℤ l)) vs in
+        ⊎-elim
+        (λ h. append-left (x ∷ w) (behind l vs) rest (behind-in l vs x w (eq-out x l (omega (arith, le-in))) m))
+        (λ h. append-right (x ∷ w) (behind l vs) rest (f (later (lt-in l x (h .lt)))))
+        (≤-or-< x l)
+    go false e f =
+        ⊎-elim
+        (λ h. let here : x ≡ l = eq-out x l (omega (arith, le-in)) in absurd (subst T (ap (allowed t) here ∙ e) (a .2)))
+        (λ h. f (later (lt-in l x (h .lt))))
+        (≤-or-< x l)
+
+prefixed-out : (t : ℤ) (n : ℕ) (l : ℤ) (vs : List Point) (w : Point) → In w (prefixed (among t n l) vs) → Led (Among t n l) vs w
+unfolding prefixed
+prefixed-out t zero l vs w m = absurd (unfold among filter numbersFrom in m)
+prefixed-out t (suc n) l vs w m = go (allowed t l) refl (prefixed-out t n (sucℤ l) vs w) (rw among-suc at m)
+  where
+    later : Led (Among t n (sucℤ l)) vs w → Led (Among t (suc n) l) vs w
+    later = led-map (Among t n (sucℤ l)) (Among t (suc n) l) vs w (λ x a. let s = suc-parts l in (omega arith, omega arith, a .2))
+
+    here : allowed t l ≡ true → (x : ℤ) → x ≡ l → Among t (suc n) l x
+    here e x k = let z = eq-in x l k in (omega arith, omega arith, T-of (ap (allowed t) k ∙ e))
+
+    go : (b : Bool) → allowed t l ≡ b → (In w (prefixed (among t n (sucℤ l)) vs) → Led (Among t n (sucℤ l)) vs w) → In w (prefixed (cond b (l ∷ among t n (sucℤ l)) (among t n (sucℤ l))) vs) → Led (Among t (suc n) l) vs w
+    go true e f k =
+        ⊎-elim (λ h. led-map (λ x. x ≡ l) (Among t (suc n) l) vs w (here e) (behind-out l vs w h)) (λ h. later (f h)) (append-out w (behind l vs) (prefixed (among t n (sucℤ l)) vs) k)
+    go false e f k = later (f k)
+
+pub points-every : (ts : List ℤ) (box : Box) (v : Point) → (Inside v box × Allowed ts v) ↔ In v (pointsIn ts box)
+unfolding pointsIn values among
+points-every [] [] [] = (λ h. inl refl, λ m. (tt, tt))
+points-every [] [] (x ∷ v) = (λ h. absurd (h .0), λ m. absurd (⊎-elim cons≢nil (λ k. k) m))
+points-every [] (b ∷ box) [] = (λ h. absurd (h .0), λ m. absurd m)
+points-every [] (b ∷ box) (x ∷ v) = (λ h. absurd (h .1), λ m. absurd m)
+points-every (t ∷ ts) [] v = (λ h. absurd (uneven v (h .0) (h .1)), λ m. absurd m)
+  where
+    uneven : (v : Point) → Inside v [] → Allowed (t ∷ ts) v → ⊥
+    uneven [] i a = a
+    uneven (x ∷ v) i a = i
+points-every (t ∷ ts) (b ∷ box) [] = (λ h. absurd (h .0), λ m. absurd (prefixed-out t _ (b .lower) (pointsIn ts box) [] m))
+points-every (t ∷ ts) (b ∷ box) (x ∷ v) = (
+  λ h.
+      prefixed-in t _ (b .lower) (pointsIn ts box) x v
+      (omega (arith, le-in), omega (arith, le-in, whole-parts (b .lower) (b .upper)), T-of (h .1 .0)) (points-every ts box v .0 (h .0 .2, h .1 .1)),
   λ m.
-      let r = prefixed-out _ (b .lower) (allPoints box) (x ∷ v) m in
-      let e = values-parts (b .lower) (b .upper) in
-      (omega (arith, le-out), omega (arith, le-out), points-every box v .1 (r .1)),
+      let r = prefixed-out t _ (b .lower) (pointsIn ts box) (x ∷ v) m in
+      let e = whole-parts (b .lower) (b .upper) in
+      let rest = points-every ts box v .1 (r .1) in
+      ((omega (arith, le-out), omega (arith, le-out), rest .0), (true-of _ (r .0 .2), rest .1)),
 )
 
 -- ---- in dictionary order, and so each once
@@ -187,26 +225,32 @@ behind-ascending l (v ∷ vs) a = (each vs (a .0), behind-ascending l vs (a .1))
     each [] h = tt
     each (u ∷ us) h = (inr (refl, h .0), each us (h .1))
 
-led-before : (n : ℕ) (l : ℤ) (vs : List Point) (u w : Point) → Led (λ x. x ≡ l) vs u → Led (Among n (nextValue l)) vs w → Before u w
-led-before n l vs [] w h k = absurd h
-led-before n l vs (x ∷ u) [] h k = absurd k
-led-before n l vs (x ∷ u) (y ∷ w) h k = inl (record { lt = lt-out x y (omega (arith, eq-in x l (h .0), next-parts l)) })
+led-before : (t : ℤ) (n : ℕ) (l : ℤ) (vs : List Point) (u w : Point) → Led (λ x. x ≡ l) vs u → Led (Among t n (sucℤ l)) vs w → Before u w
+led-before t n l vs [] w h k = absurd h
+led-before t n l vs (x ∷ u) [] h k = absurd k
+led-before t n l vs (x ∷ u) (y ∷ w) h k = inl (record { lt = lt-out x y (omega (arith, eq-in x l (h .0), suc-parts l)) })
 
-prefixed-ascending : (n : ℕ) (l : ℤ) (vs : List Point) → Ascending vs → Ascending (prefixed (valuesFrom n l) vs)
-unfolding prefixed valuesFrom
-prefixed-ascending zero l vs a = tt
-prefixed-ascending (suc n) l vs a =
-    append-ascending (behind l vs) (prefixed (valuesFrom n (nextValue l)) vs) (behind-ascending l vs a) (prefixed-ascending n (nextValue l) vs a)
-    (λ u w m k. led-before n l vs u w (behind-out l vs u m) (prefixed-out n (nextValue l) vs w k))
+prefixed-ascending : (t : ℤ) (n : ℕ) (l : ℤ) (vs : List Point) → Ascending vs → Ascending (prefixed (among t n l) vs)
+unfolding prefixed
+prefixed-ascending t zero l vs a = unfold among filter numbersFrom in tt
+prefixed-ascending t (suc n) l vs a = rw among-suc (go (allowed t l) (prefixed-ascending t n (sucℤ l) vs a))
+  where
+    go : (b : Bool) → Ascending (prefixed (among t n (sucℤ l)) vs) → Ascending (prefixed (cond b (l ∷ among t n (sucℤ l)) (among t n (sucℤ l))) vs)
+    go true h =
+        append-ascending (behind l vs) (prefixed (among t n (sucℤ l)) vs) (behind-ascending l vs a) h
+        (λ u w m k. led-before t n l vs u w (behind-out l vs u m) (prefixed-out t n (sucℤ l) vs w k))
+    go false h = h
 
-pub points-ascending : (box : Box) → Ascending (allPoints box)
-unfolding allPoints values
-points-ascending [] = (tt, tt)
-points-ascending (b ∷ box) = prefixed-ascending _ (b .lower) (allPoints box) (points-ascending box)
+pub points-ascending : (ts : List ℤ) (box : Box) → Ascending (pointsIn ts box)
+unfolding pointsIn values among
+points-ascending [] [] = (tt, tt)
+points-ascending [] (b ∷ box) = tt
+points-ascending (t ∷ ts) [] = tt
+points-ascending (t ∷ ts) (b ∷ box) = prefixed-ascending t _ (b .lower) (pointsIn ts box) (points-ascending ts box)
 
 ascending-once : (vs : List Point) → Ascending vs → NoRepeats vs
 ascending-once [] a = tt
 ascending-once (v ∷ vs) a = (λ m. not-before-itself v v refl (before-each v vs (a .0) v m), ascending-once vs (a .1))
 
-pub points-once : (box : Box) → NoRepeats (allPoints box)
-points-once box = ascending-once (allPoints box) (points-ascending box)
+pub points-once : (ts : List ℤ) (box : Box) → NoRepeats (pointsIn ts box)
+points-once ts box = ascending-once (pointsIn ts box) (points-ascending ts box)

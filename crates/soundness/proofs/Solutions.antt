@@ -8,7 +8,7 @@ use lib.Dec.{T}
 use Rattle.model.specs.Lists.{allOf, filter}
 use Rattle.model.specs.Constraint.{Constraint, modulus}
 use Rattle.model.specs.Problem.{Problem}
-use Rattle.model.specs.Points.{Point, allPoints, MeetsBy, MeetsAll, Solution, isMetBy, isMet, isSolution, allSolutions}
+use Rattle.model.specs.Points.{Point, pointsIn, allPoints, MeetsBy, MeetsAll, Solution, isMetBy, isMet, isSolution, allSolutions}
 use Rattle.model.specs.Demand.{In}
 use Rattle.model.specs.Enumeration.{BeforeAll, Ascending}
 use Rattle.integer.specs.Tests.{and-left, and-right, and-in}
@@ -63,12 +63,15 @@ met-all x (k ∷ ks) = (
 )
 
 pub solutions-every : (p : Problem) (x : Point) → Solution p x ↔ In x (allSolutions p)
-unfolding allSolutions isSolution
+unfolding allSolutions isSolution allPoints
 solutions-every p x = (
-  λ z. filter-in (isSolution p) x (allPoints (p .domain)) (unfold isSolution in met-all x (p .constraints) .1 (z .meets)) (points-every (p .domain) x .0 (z .inside)),
-  λ m. let r = filter-out (isSolution p) x (allPoints (p .domain)) m in record { inside = points-every (p .domain) x .1 (r .1); meets = met-all x (p .constraints) .0 (r .0) },
+  λ z. filter-in (isSolution p) x (pointsIn (p .thresholds) (p .domain)) (unfold isSolution in met-all x (p .constraints) .1 (z .meets)) (points-every (p .thresholds) (p .domain) x .0 (z .inside, z .allowed)),
+  λ m.
+      let r = filter-out (isSolution p) x (pointsIn (p .thresholds) (p .domain)) m in
+      let q = points-every (p .thresholds) (p .domain) x .1 (r .1) in
+      record { inside = q .0; allowed = q .1; meets = met-all x (p .constraints) .0 (r .0) },
 )
 
 pub solutions-ascending : (p : Problem) → Ascending (allSolutions p)
-unfolding allSolutions
-solutions-ascending p = filter-ascending (isSolution p) (allPoints (p .domain)) (points-ascending (p .domain))
+unfolding allSolutions allPoints
+solutions-ascending p = filter-ascending (isSolution p) (pointsIn (p .thresholds) (p .domain)) (points-ascending (p .thresholds) (p .domain))

@@ -9,10 +9,9 @@ use Rattle.model.specs.Ranges.{maxVariables}
 use Rattle.model.specs.Problem.{Problem, variables}
 use Rattle.model.specs.Search.{Status, infeasible, solved, Search}
 use Rattle.model.specs.Move.{slack}
-use Rattle.model.specs.Points.{Point}
+use Rattle.model.specs.Points.{Point, points}
 use Rattle.model.specs.Step.{Verdict, goOn, noSolution, outOfBudget, solution, Outcome, blockIn, lowers, again, stepBy, step, continue, runFor}
 use Rattle.model.specs.Demand.{MeetsCuts}
-use Rattle.soundness.proofs.Sizes.{size}
 use Rattle.validity.specs.Valid.{Valid}
 use Rattle.validity.proofs.States.{sizes-fit}
 use Rattle.validity.proofs.Conflicts.{MeetsInequalities}
@@ -112,7 +111,7 @@ module _ (p : Problem) (Left : Point → Type 0) (struck : ℕ) where
   repeats-reached s (found d) n = again-stays s _ (solved-again s d)
   repeats-reached s (over d) n = again-stays s _ (over-again s d)
 
-  pub reached-few : (s : Search) → Reached s → s .conflicts + struck ≤ size (p .domain)
+  pub reached-few : (s : Search) → Reached s → s .conflicts + struck ≤ points p
   reached-few s (still o) = omega (arith, o .total)
   reached-few s (found d) = omega (arith, d .at .total)
   reached-few s (over d) = d .total
@@ -169,7 +168,7 @@ module _ (p : Problem) (Left : Point → Type 0) (struck : ℕ) where
   pub list-counted : (k : ℕ) (s : Search) → Valid s → Reached p Left struck s → step (afterTurns k s) .count ≡ length (turnBlocks (suc k) s) + s .conflicts
   list-counted k s v r = step-tells (afterTurns k s) (valid-after k s v) .count ∙ ap (λ (x : Search). x .conflicts) (sym (state-next k s)) ∙ list-conflicts (suc k) s r
 
-  pub list-few : (k : ℕ) (s : Search) → Reached p Left struck s → length (turnBlocks k s) + s .conflicts + struck ≤ size (p .domain)
+  pub list-few : (k : ℕ) (s : Search) → Reached p Left struck s → length (turnBlocks k s) + s .conflicts + struck ≤ points p
   list-few k s r = omega (arith, list-conflicts k s r, reached-few p Left struck (afterTurns k s) (reached-after k s r))
 
 pub cuts-append : (n : ℕ) (x : Point) (a b : List (List ℕ)) → MeetsCuts n x a → MeetsCuts n x b → MeetsCuts n x (a ++ b)

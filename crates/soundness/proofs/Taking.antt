@@ -6,7 +6,7 @@ use mathlib.Core.Path.{_≡_, refl, sym, ap, subst, _∙_}
 use Rattle.model.specs.Ranges.{maxVariables}
 use Rattle.model.specs.Problem.{Problem, variables}
 use Rattle.model.specs.Search.{Search}
-use Rattle.model.specs.Points.{Point}
+use Rattle.model.specs.Points.{Point, points}
 use Rattle.model.specs.Step.{Verdict, goOn, noSolution, outOfBudget, solution, Outcome, blockIn, lowers, again, step, withoutBlock, run}
 use Rattle.model.specs.Trace.{Trace, lastStep, advance}
 use Rattle.model.specs.Demand.{MeetsCuts}
@@ -14,7 +14,6 @@ use Rattle.model.specs.Enumeration.{Call, oneTurn, allTurns, strike, turns, ver
 use Rattle.validity.specs.Valid.{Valid}
 use Rattle.validity.proofs.Conflicts.{MeetsInequalities}
 use Rattle.validity.proofs.Repeating.{run-same}
-use Rattle.soundness.proofs.Sizes.{size}
 use Rattle.soundness.proofs.OneStep.{Open, Solved, Over, Says, step-says}
 use Rattle.soundness.proofs.StepLists.{afterTurns, turnBlocks, solved-again, over-again, Reached, still, found, over, list-cuts}
 use Rattle.soundness.proofs.Together.{turnsTogether, together, one-together}
@@ -74,7 +73,7 @@ module _ (p : Problem) (few : variables p ≤ maxVariables) (Left : Point → Ty
   abbrev pub Leaves : Verdict → Search → Search → Type 0
   Leaves goOn s y = Open p Left struck y × (y .conflicts ≡ suc (s .conflicts))
   Leaves noSolution s y = Over p Left struck y
-  Leaves outOfBudget s y = Open p Left struck y × (p .budget < size (p .domain))
+  Leaves outOfBudget s y = Open p Left struck y × (p .budget < points p)
   Leaves (solution x) s y = Solved p Left struck y × (x ≡ lowers (y .core .deepest .box))
 
   says-leaves : (s : Search) (v : Verdict) → Open p Left struck s → Says p Left struck s (step s) v → Leaves v s (step s .state)

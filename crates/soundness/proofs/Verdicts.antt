@@ -3,11 +3,11 @@ use Prim.Native.Nat.{ℕ, _≤_}
 use native.Mathlib.Omega.{arith}
 use mathlib.Core.Logic.{_⊎_, inl, inr, _↔_}
 use mathlib.Core.Path.{_≡_, refl, sym, ap}
-use Rattle.model.specs.Problem.{Problem, variables, domainInRange, constraintsInRange, divisorsInRange}
-use Rattle.model.specs.Points.{Point, Solution, Before, First, points}
+use Rattle.model.specs.Problem.{Problem, variables, domainInRange, thresholdsInRange, constraintsInRange, divisorsInRange}
+use Rattle.model.specs.Points.{Point, Solution, Before, First, allPoints, points}
 use Rattle.model.specs.Step.{Verdict, goOn, noSolution, outOfBudget, solution}
 use Rattle.model.specs.Demand.{withBudget, verdictWith, Decides, Agree, SameSolutions}
-use Rattle.soundness.proofs.Sizes.{size, points-size, before-asym}
+use Rattle.soundness.proofs.Sizes.{before-asym}
 use Rattle.validity.proofs.Steps.{impossible}
 use Rattle.soundness.proofs.Runs.{ProblemFits, Right, run-right}
 
@@ -23,7 +23,7 @@ module _ (p q : Problem) (same : (x : Point) → Solution p x ↔ Solution q x) 
   first-same x f = record { solves = same x .0 (f .solves); first = λ v z. f .first v (same v .1 z) }
 
   -- a right verdict of p, with enough budget, decides q
-  right-decides : (v : Verdict) → Right p v → size (p .domain) ≤ p .budget → Decides q v
+  right-decides : (v : Verdict) → Right p v → points p ≤ p .budget → Decides q v
   right-decides goOn h k = absurd h
   right-decides noSolution h k = record { none-iff = (λ e x z. h x (same x .1 z), λ n. refl); else-first = λ n. absurd (n refl) }
   right-decides outOfBudget h k = let z : ⊥ = omega arith in absurd z
@@ -46,21 +46,21 @@ module _ (p q : Problem) (same : (x : Point) → Solution p x ↔ Solution q x) 
 -- ---- budgets
 budget-same : (p : Problem) (b : ℕ) (x : Point) → Solution (withBudget p b) x ↔ Solution p x
 unfolding withBudget
-budget-same p b x = (λ z. record { inside = z .inside; meets = z .meets }, λ z. record { inside = z .inside; meets = z .meets })
+budget-same p b x = (λ z. record { inside = z .inside; allowed = z .allowed; meets = z .meets }, λ z. record { inside = z .inside; allowed = z .allowed; meets = z .meets })
 
 budget-fits : (p : Problem) (b : ℕ) → ProblemFits p → ProblemFits (withBudget p b)
-unfolding withBudget domainInRange constraintsInRange divisorsInRange variables
-budget-fits p b f = record { domain = f .domain; constraints = f .constraints; divisors = f .divisors; sizes = f .sizes }
+unfolding withBudget domainInRange thresholdsInRange constraintsInRange divisorsInRange variables
+budget-fits p b f = record { domain = f .domain; thresholds = f .thresholds; constraints = f .constraints; divisors = f .divisors; sizes = f .sizes }
 
 budget-right : (p : Problem) (b : ℕ) → ProblemFits p → Right (withBudget p b) (verdictWith p b)
 unfolding verdictWith
 budget-right p b f = run-right (withBudget p b) (budget-fits p b f)
 
-enough : (p : Problem) (b : ℕ) → points (p .domain) ≤ b → size (withBudget p b .domain) ≤ withBudget p b .budget
-unfolding withBudget
-enough p b h = omega (arith, points-size (p .domain))
+enough : (p : Problem) (b : ℕ) → points p ≤ b → points (withBudget p b) ≤ withBudget p b .budget
+unfolding withBudget points allPoints
+enough p b h = h
 
-pub decides-with : (p : Problem) (b : ℕ) → ProblemFits p → points (p .domain) ≤ b → Decides p (verdictWith p b)
+pub decides-with : (p : Problem) (b : ℕ) → ProblemFits p → points p ≤ b → Decides p (verdictWith p b)
 decides-with p b f h = right-decides (withBudget p b) p (budget-same p b) (verdictWith p b) (budget-right p b f) (enough p b h)
 
 pub same-verdict : (p q : Problem) (b c : ℕ) → ProblemFits p → ProblemFits q → SameSolutions p q → Agree (verdictWith p b) (verdictWith q c)

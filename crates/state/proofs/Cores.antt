@@ -26,14 +26,14 @@ unfolding model.kept coreOver
 kept-rows n m made rows numbers l ls = let e : 0 + m ≡ m = omega arith in sym (tab-append (rowAt n rows) 0 m (keptCuts made) ∙ rw e)
 
 -- the numbers of the kept constraints are the model's
-pub number-over : (inputs : List Constraint) (n m made : ℕ) (rows : List ℤ) (numbers : List ℕ) (l : model.Level) (ls : List model.Level) → length inputs ≡ m →
-    model.numberAt (coreOver inputs n m made rows numbers l ls) ≡ numberFor m made
+pub number-over : (ts : List ℤ) (inputs : List Constraint) (n m made : ℕ) (rows : List ℤ) (numbers : List ℕ) (l : model.Level) (ls : List model.Level) → length inputs ≡ m →
+    model.numberAt (coreOver ts inputs n m made rows numbers l ls) ≡ numberFor m made
 unfolding model.numberAt model.dropped coreOver numberFor
-number-over inputs n m made rows numbers l ls e = fun-ext (λ p. rw e)
+number-over ts inputs n m made rows numbers l ls e = fun-ext (λ p. rw e)
 
 pub number-at : (n m made : ℕ) (rows : List ℤ) (numbers : List ℕ) (l : model.Level) (ls : List model.Level) →
     model.numberAt (coreWith n m made rows numbers l ls) ≡ numberFor m made
-number-at n m made rows numbers l ls = number-over (tab (rowAt n rows) 0 m) n m made rows numbers l ls (length-tab (rowAt n rows) 0 m)
+number-at n m made rows numbers l ls = number-over [] (tab (rowAt n rows) 0 m) n m made rows numbers l ls (length-tab (rowAt n rows) 0 m)
 
 -- ---- the kept constraints of inputs with their divisors
 input-kept : (n m : ℕ) (rows divisors : List ℤ) (j : ℕ) → j < m → inputAt n rows divisors j ≡ keptAt n m rows divisors j
@@ -44,10 +44,10 @@ pub cut-kept : (n m : ℕ) (rows divisors : List ℤ) (j : ℕ) → m ≤ j → 
 unfolding rowAt constraintAt dividedAt keptAt divisorFor
 cut-kept n m rows divisors j h = rw (le-ltb j m h)
 
-pub kept-over : (n m made : ℕ) (rows divisors : List ℤ) (numbers : List ℕ) (l : model.Level) (ls : List model.Level) →
-    model.kept (coreOver (tab (inputAt n rows divisors) 0 m) n m made rows numbers l ls) ≡ tab (keptAt n m rows divisors) 0 (m + keptCuts made)
+pub kept-over : (ts : List ℤ) (n m made : ℕ) (rows divisors : List ℤ) (numbers : List ℕ) (l : model.Level) (ls : List model.Level) →
+    model.kept (coreOver ts (tab (inputAt n rows divisors) 0 m) n m made rows numbers l ls) ≡ tab (keptAt n m rows divisors) 0 (m + keptCuts made)
 unfolding model.kept coreOver
-kept-over n m made rows divisors numbers l ls =
+kept-over ts n m made rows divisors numbers l ls =
     let e : 0 + m ≡ m = omega arith in
     ap₂ _++_ (tab-ext-0 (inputAt n rows divisors) (keptAt n m rows divisors) m (λ j h. input-kept n m rows divisors j h))
     (tab-ext (rowAt n rows) (keptAt n m rows divisors) m (keptCuts made) (λ j h l. cut-kept n m rows divisors j h)) ∙
@@ -85,9 +85,9 @@ levels-dropped n levels d e h = go (d - e) d (omega arith)
     go (suc k) (suc d) q = go k d (omega arith)
 
 -- going back to level e + 1: level e with the decision of level e + 1 flipped
-pub backed-up : (inputs : List Constraint) (n m made : ℕ) (rows : List ℤ) (numbers : List ℕ) (levels : List Level) (d e : ℕ) → suc e ≤ d →
-    backUp (suc e) (coreOver inputs n m made rows numbers (levelAt n levels d) (levelsFrom n levels d)) ≡
-    coreOver inputs n m made rows numbers (model.flipAt (levelAt n levels (suc e) .decided) (levelAt n levels e)) (levelsFrom n levels e)
+pub backed-up : (ts : List ℤ) (inputs : List Constraint) (n m made : ℕ) (rows : List ℤ) (numbers : List ℕ) (levels : List Level) (d e : ℕ) → suc e ≤ d →
+    backUp (suc e) (coreOver ts inputs n m made rows numbers (levelAt n levels d) (levelsFrom n levels d)) ≡
+    coreOver ts inputs n m made rows numbers (model.flipAt ts (levelAt n levels (suc e) .decided) (levelAt n levels e)) (levelsFrom n levels e)
 unfolding backUp coreOver model.levels model.depth
-backed-up inputs n m made rows numbers levels d e h =
+backed-up ts inputs n m made rows numbers levels d e h =
     rw (length-levels n levels d, levels-dropped n levels d (suc e) h) (unfold levelsFrom backFrom model.withLevels in refl)

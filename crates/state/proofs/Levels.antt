@@ -3,14 +3,15 @@ use Prim.Native.Nat.{ℕ, zero, suc, _+_, _-_, _≤_, _<_}
 use native.Mathlib.Omega.{arith}
 use mathlib.Core.List.{List, [], _∷_, _++_}
 use mathlib.Core.Path.{_≡_, refl, sym, ap, ap₂, _∙_}
-use lib.IntN.{ℤ, pos, _+ℤ_, +ℤ-one}
+use lib.IntN.{ℤ, pos}
 use lib.ListN.{getD, set, length}
 use lib.Seq.{getD-set-same, getD-set-other}
 use Rattle.model.specs.Lists.{tab}
-use Rattle.model.specs.Constraint.{Box, nextValue, lowerAt}
+use Rattle.model.specs.Constraint.{Box, lowerAt}
+use Rattle.model.specs.Threshold.{thresholdAt, nextValue}
 use Rattle.model.specs.Search as model
 use Rattle.lists.proofs.Tab.{getD-tab, set-tab}
-use Rattle.layout.specs.Rows.{boxOf, numberIn}
+use Rattle.layout.specs.Rows.{boxOf, numberIn, thresholdsOf}
 use Rattle.layout.proofs.Rows.{lower-at, box-lower, box-upper}
 use Rattle.state.specs.View.{reasonOf, reasonsIn, decisionReason, flippedReason, levelOf}
 use Rattle.state.specs.Change.{Whole, raised, lowered, decidedAt}
@@ -39,16 +40,21 @@ reasons-upper n below above i k h l =
     (unfold reasonsIn in ap (λ (z : ℕ). record { lower = reasonOf (getD below i 0); upper = reasonOf z }) (getD-set-same above i k 0 l))
     (λ j e. unfold reasonsIn in ap (λ (z : ℕ). record { lower = reasonOf (getD below j 0); upper = reasonOf z }) (getD-set-other above i j k 0 e))))
 
+-- ---- a threshold
+pub threshold-at : (n : ℕ) (thresholds : List ℤ) (i : ℕ) → i < n → thresholdAt (thresholdsOf n thresholds) i ≡ numberIn thresholds i
+unfolding thresholdAt thresholdsOf
+threshold-at n thresholds i h = getD-tab (numberIn thresholds) n i (pos 0) h
+
 -- ---- levels
 module _ (n : ℕ) (l : Level) (w : Whole l) (few : n ≤ 32) where
-  pub level-raised : (i : ℕ) (v : ℤ) (k : ℕ) → i < n → levelOf n (raised l i v k) ≡ model.raiseLower i v (reasonOf k) (levelOf n l)
-  unfolding levelOf model.raiseLower
+  pub level-raised : (i : ℕ) (v : ℤ) (k : ℕ) → i < n → levelOf n (raised l i v k) ≡ model.holdLower i v (reasonOf k) (levelOf n l)
+  unfolding levelOf model.holdLower
   level-raised i v k h =
       ap₂ (λ (b : Box) (rs : List model.Reasons). record { box = b; reasons = rs; decided = l .decided })
       (box-lower n (l .lower) (l .upper) i v h (omega (arith, w .lower))) (reasons-lower n (l .below) (l .above) i k h (omega (arith, w .below)))
 
-  pub level-lowered : (i : ℕ) (v : ℤ) (k : ℕ) → i < n → levelOf n (lowered l i v k) ≡ model.lowerUpper i v (reasonOf k) (levelOf n l)
-  unfolding levelOf model.lowerUpper
+  pub level-lowered : (i : ℕ) (v : ℤ) (k : ℕ) → i < n → levelOf n (lowered l i v k) ≡ model.holdUpper i v (reasonOf k) (levelOf n l)
+  unfolding levelOf model.holdUpper
   level-lowered i v k h =
       ap₂ (λ (b : Box) (rs : List model.Reasons). record { box = b; reasons = rs; decided = l .decided })
       (box-upper n (l .lower) (l .upper) i v h (omega (arith, w .upper))) (reasons-upper n (l .below) (l .above) i k h (omega (arith, w .above)))
@@ -66,8 +72,9 @@ module _ (n : ℕ) (l : Level) (w : Whole l) (few : n ≤ 32) where
   level-lower i h = lower-at n (l .lower) (l .upper) i h
 
   -- a decision that is flipped
-  pub level-flipped : (i : ℕ) → i < n → levelOf n (raised l i (numberIn (l .lower) i +ℤ pos 1) flippedReason) ≡ model.flipAt i (levelOf n l)
-  unfolding model.flipAt nextValue
-  level-flipped i h =
-      level-raised i (numberIn (l .lower) i +ℤ pos 1) flippedReason h ∙
-      (unfold reasonOf in rw (level-lower i h, +ℤ-one))
+  pub level-flipped : (thresholds : List ℤ) (i : ℕ) → i < n →
+      levelOf n (raised l i (nextValue (numberIn thresholds i) (numberIn (l .lower) i)) flippedReason) ≡ model.flipAt (thresholdsOf n thresholds) i (levelOf n l)
+  unfolding model.flipAt
+  level-flipped thresholds i h =
+      level-raised i (nextValue (numberIn thresholds i) (numberIn (l .lower) i)) flippedReason h ∙
+      (unfold reasonOf in rw (level-lower i h, threshold-at n thresholds i h))

@@ -10,7 +10,7 @@ use Rattle.model.specs.Lists.{tab}
 use Rattle.model.specs.Ranges.{maxCuts}
 use Rattle.model.specs.Constraint.{Constraint}
 use Rattle.model.specs.Search as model
-use Rattle.layout.specs.Rows.{rowLength, numberIn, rowAt, dividedAt, inputAt, boxOf}
+use Rattle.layout.specs.Rows.{rowLength, numberIn, rowAt, dividedAt, inputAt, boxOf, thresholdsOf}
 use Rattle.state.specs.declared.Level.{Level}
 use Rattle.state.specs.declared.Search.{Search}
 use Rattle.state.specs.declared.Status.{Status}
@@ -75,11 +75,12 @@ keptAt n m rows divisors p = dividedAt n rows (rowLength * p) (divisorFor m divi
 unfoldable pub storedNumber : List ℕ → ℕ → ℕ
 storedNumber numbers p = getD numbers p 0
 
--- a state's core from its parts: the inputs, sizes, the rows of the cuts, stored numbers, the deepest level and those above it
-unfoldable pub coreOver : List Constraint → ℕ → ℕ → ℕ → List ℤ → List ℕ → model.Level → List model.Level → model.Core
-coreOver inputs n m made rows numbers deepest outer =
+-- a state's core from its parts: the thresholds, the inputs, sizes, the rows of the cuts, stored numbers, the deepest level and those above it
+unfoldable pub coreOver : List ℤ → List Constraint → ℕ → ℕ → ℕ → List ℤ → List ℕ → model.Level → List model.Level → model.Core
+coreOver thresholds inputs n m made rows numbers deepest outer =
     record {
       variables = n;
+      thresholds = thresholds;
       inputs = inputs;
       cuts = tab (rowAt n rows) m (keptCuts made);
       numbers = tab (storedNumber numbers) 0 (keptCuts made);
@@ -88,15 +89,15 @@ coreOver inputs n m made rows numbers deepest outer =
       outer = outer;
     }
 
--- where no input carries a divisor
+-- where no input carries a divisor, and thresholds do not matter
 abbrev pub coreWith : ℕ → ℕ → ℕ → List ℤ → List ℕ → model.Level → List model.Level → model.Core
-coreWith n m made rows numbers deepest outer = coreOver (tab (rowAt n rows) 0 m) n m made rows numbers deepest outer
+coreWith n m made rows numbers deepest outer = coreOver [] (tab (rowAt n rows) 0 m) n m made rows numbers deepest outer
 
 unfoldable pub inputsOf : Search → List Constraint
 inputsOf s = tab (inputAt (s .n) (s .rows) (s .divisors)) 0 (s .m)
 
 unfoldable pub coreOf : Search → model.Core
-coreOf s = coreOver (inputsOf s) (s .n) (s .m) (s .made) (s .rows) (s .numbers) (levelAt (s .n) (s .levels) (s .depth)) (levelsFrom (s .n) (s .levels) (s .depth))
+coreOf s = coreOver (thresholdsOf (s .n) (s .thresholds)) (inputsOf s) (s .n) (s .m) (s .made) (s .rows) (s .numbers) (levelAt (s .n) (s .levels) (s .depth)) (levelsFrom (s .n) (s .levels) (s .depth))
 
 unfoldable pub view : Search → model.Search
 view s =

@@ -28,7 +28,8 @@ pub enum Status {
 }
 
 // The search state. A row of `rows` is 33 numbers, the constant first; rows 0 to m - 1 are the input constraints, whose divisors stand in `divisors`, 0
-// for an inequality; the kept cuts follow, oldest first, with their numbers in `numbers`. `propagations` counts the bounds that constraints set (N5). What
+// for an inequality; the kept cuts follow, oldest first, with their numbers in `numbers`. `propagations` counts the bounds that constraints set (N5), and
+// `thresholds` has a variable's least value above 0, 0 for none (N6). What
 // stands past n, m, the kept cuts and the depth is not read.
 pub struct Search {
     pub n: usize,
@@ -39,6 +40,7 @@ pub struct Search {
     pub made: usize,
     pub depth: usize,
     pub status: Status,
+    pub thresholds: [i64; 32],
     pub rows: [i64; 4224],
     pub divisors: [i64; 64],
     pub numbers: [usize; 64],

@@ -99,6 +99,9 @@ pub fn states_same(a: Search, b: Search) -> bool {
     if !numbers_same(&a.divisors, &b.divisors, 64) {
         return false;
     }
+    if !numbers_same(&a.thresholds, &b.thresholds, 32) {
+        return false;
+    }
     if !counts_same(&a.numbers, &b.numbers, 64) {
         return false;
     }

@@ -11,7 +11,9 @@ pub struct Family {
     pub equations: usize,
     // So many of the last constraints have one of the divisors below.
     pub divided: usize,
-    // Each variable has one of the first so many boxes below.
+    // So many of the first variables have one of the last seven boxes below: limits from 0, most with a threshold.
+    pub gaps: usize,
+    // Each other variable has one of the first so many boxes.
     pub boxes: usize,
     // Coefficients and constants lie from minus this number, at most 3, to it.
     pub coefficient: usize,
@@ -22,9 +24,11 @@ pub struct Family {
     pub problems: usize,
 }
 
-const LOWER: [i64; 7] = [0, -1, 0, -1, -1, 0, -1];
+const LOWER: [i64; 14] = [0, -1, 0, -1, -1, 0, -1, 0, 0, 0, 0, 0, 0, 0];
 
-const UPPER: [i64; 7] = [1, 1, 2, 0, 2, 0, -1];
+const UPPER: [i64; 14] = [1, 1, 2, 0, 2, 0, -1, 4, 4, 4, 4, 2, 5, 5];
+
+const THRESHOLDS: [i64; 14] = [0, 0, 0, 0, 0, 0, 0, 0, 2, 3, 4, 2, 3, 5];
 
 const NUMBERS: [i64; 7] = [-3, -2, -1, 0, 1, 2, 3];
 
@@ -35,6 +39,7 @@ pub fn of(
     m: usize,
     equations: usize,
     divided: usize,
+    gaps: usize,
     boxes: usize,
     coefficient: usize,
     constant: usize,
@@ -46,6 +51,7 @@ pub fn of(
         m,
         equations,
         divided,
+        gaps,
         boxes,
         coefficient,
         constant,
@@ -182,20 +188,38 @@ fn divisors_of(f: Family, k: usize) -> Divided {
     }
 }
 
+// The place of variable i's box, and the digits after it.
+fn draw_box(f: Family, i: usize, left: usize) -> Digit {
+    if i < f.gaps {
+        let d = digit_of(left, 7);
+        return Digit {
+            value: 7 + d.value % 7,
+            rest: d.rest,
+        };
+    }
+    let d = digit_of(left, f.boxes);
+    Digit {
+        value: d.value % 7,
+        rest: d.rest,
+    }
+}
+
 // Problem k of a family.
 pub fn problem_of(f: Family, k: usize) -> Problem {
     let mut lower = [0i64; 32];
     let mut upper = [0i64; 32];
+    let mut thresholds = [0i64; 32];
     let mut left = k;
     let mut i: usize = 0;
     while i < 6 {
         if f.n <= i {
             break;
         }
-        let d = digit_of(left, f.boxes);
-        let b = d.value % 7;
+        let d = draw_box(f, i, left);
+        let b = d.value % 14;
         lower[i] = LOWER[b];
         upper[i] = UPPER[b];
+        thresholds[i] = THRESHOLDS[b];
         left = d.rest;
         i += 1;
     }
@@ -210,5 +234,6 @@ pub fn problem_of(f: Family, k: usize) -> Problem {
         upper,
         constraints,
         divisors,
+        thresholds,
     }
 }

@@ -1,4 +1,4 @@
-// Plain enumeration of the points of a box of up to six variables, in lexicographic order.
+// Plain enumeration of the points of a box of up to six variables, in lexicographic order. A value from 1 to t − 1 is none of a variable with threshold t.
 use crate::number::added;
 use crate::number::plus;
 use integer::magnitude;
@@ -69,13 +69,28 @@ pub fn slack(p: Problem) -> usize {
     sum
 }
 
+// The value after v of a variable with threshold t.
+pub fn value_after(v: i64, t: i64) -> i64 {
+    if v == 0 {
+        if 0 < t {
+            return t;
+        }
+    }
+    added(v, 1, 1)
+}
+
 // Goes on to the next point, if x is not the last.
-pub fn goes_on(x: &mut [i64; 32], lower: &[i64; 32], upper: &[i64; 32]) -> bool {
+pub fn goes_on(
+    x: &mut [i64; 32],
+    lower: &[i64; 32],
+    upper: &[i64; 32],
+    thresholds: &[i64; 32],
+) -> bool {
     let mut i: usize = 6;
     while 0 < i {
         i -= 1;
         if x[i] < upper[i] {
-            x[i] = added(x[i], 1, 1);
+            x[i] = value_after(x[i], thresholds[i]);
             return true;
         }
         x[i] = lower[i];
@@ -110,11 +125,12 @@ pub fn enumerate(p: Problem, cut: &[i64; 33]) -> Enumerated {
     };
     let lower = p.lower;
     let upper = p.upper;
+    let thresholds = p.thresholds;
     let mut x = p.lower;
     let mut i: usize = 0;
     while i < 128 {
         e = counted(e, p, cut, x);
-        if !goes_on(&mut x, &lower, &upper) {
+        if !goes_on(&mut x, &lower, &upper, &thresholds) {
             return e;
         }
         i += 1;

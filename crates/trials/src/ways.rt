@@ -39,11 +39,12 @@ pub struct Outcome {
 }
 
 // The state of a problem of at most six constraints, written with a budget and opened; one without variables if it is refused. A divisor past the
-// constraints is not looked at.
+// constraints is not looked at, nor is a threshold past the variables.
 pub fn open(p: Problem, budget: usize) -> Search {
     let mut q = p;
     q.budget = budget;
     q.divisors[63] = -1;
+    q.thresholds[31] = -1;
     let mut file = [0u8; 3584];
     problem::write(q, &mut file);
     let end = 512 * (p.m % 7 + 1);

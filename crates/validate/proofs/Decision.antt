@@ -1,8 +1,8 @@
 -- The tests of a level's decision in the level above it, whose bounds are bottom and top.
 use Prim.Native.Nat.{ℕ, _<_, _≤_}
-use mathlib.Core.Bool.{Bool, true, false, and-true as and-one}
+use mathlib.Core.Bool.{true, false, and-true as and-one}
 use mathlib.Core.List.{List, [], _∷_}
-use mathlib.Core.Path.{_≡_, refl, sym, ap}
+use mathlib.Core.Path.{_≡_}
 use lib.Dec.{eqb}
 use lib.IntN.{ℤ, pos}
 use lib.Signed.{_≤ℤ_, _<ℤ_, leZ, ltZ}
@@ -10,29 +10,15 @@ use lib.ListN.{getD}
 use mir.Syntax.{w64}
 use mir.Val.{SFits, ofZ}
 use mir.Facts.{toZ-ofZ}
-use borrow.Author.Tests.{lt-ltb, le-ltb, eqb-true, eqb-false}
+use borrow.Author.Tests.{lt-ltb, le-ltb}
 use Rattle.model.specs.Lists.{all}
 use Rattle.model.specs.Constraint.{equalℤ}
 use Rattle.model.specs.Validity.{decisionValid}
-use Rattle.integer.specs.Tests.{same, leZ-true, leZ-false, lt-ltZ, le-ltZ}
+use Rattle.integer.specs.Tests.{leZ-true, leZ-false, lt-ltZ, le-ltZ}
 use Rattle.layout.specs.Rows.{numberIn, boxOf}
 use Rattle.layout.proofs.Rows.{lower-at, upper-at}
-use Rattle.layout.proofs.Tests.{equal-refl, equal-not}
 use Rattle.layout.proofs.Elements.{back}
-
--- what `==` of two signed numbers tells
-equal : {a b : ℤ} → SFits w64 a → SFits w64 b → ofZ w64 a ≡ ofZ w64 b → equalℤ a b ≡ true
-equal {a} {b} f g e = let z : a ≡ b = same f g e in rw z (equal-refl b)
-
-unequal : (a b : ℤ) → (ofZ w64 a ≡ ofZ w64 b → ⊥) → equalℤ a b ≡ false
-unequal a b h = equal-not a b (λ e. h (ap (ofZ w64) e))
-
-equal-bits : {a b : ℤ} → SFits w64 a → SFits w64 b → eqb (ofZ w64 a) (ofZ w64 b) ≡ equalℤ a b
-equal-bits {a} {b} f g = go (eqb (ofZ w64 a) (ofZ w64 b)) refl
-  where
-    go : (t : Bool) → eqb (ofZ w64 a) (ofZ w64 b) ≡ t → t ≡ equalℤ a b
-    go true e = sym (equal f g (eqb-true _ _ e))
-    go false e = sym (unequal a b (eqb-false _ _ e))
+use Rattle.threshold.proofs.Equal.{equal, unequal, equal-bits}
 
 module _ (n i : ℕ) (lower upper bottom top : List ℤ) where
   pub decided-past : n ≤ i → false ≡ decisionValid n i (boxOf n lower upper) (boxOf n bottom top)

@@ -2,29 +2,31 @@
 use Prim.Native.Nat.{ℕ, _+_, _-_, _≤_, _<_}
 use native.Mathlib.Omega.{arith}
 use mathlib.Core.Bool.{Bool, true, false, not, _&&_, and-false, and-true as and-one}
-use mathlib.Core.Path.{_≡_, sym}
+use mathlib.Core.Path.{_≡_, refl, sym, ap}
 use lib.Dec.{leb}
 use lib.ListN.{getD}
 use borrow.Author.Tests.{not-true, not-false}
 use Rattle.model.specs.Lists.{tab, all, allOf}
 use Rattle.model.specs.Ranges.{maxCuts, maxPropagations}
 use Rattle.model.specs.Constraint.{inRange, divisorInRange}
-use Rattle.model.specs.Validity.{levelValid, statusValid, valid, withinLimit, admitted}
+use Rattle.model.specs.Threshold.{isThreshold}
+use Rattle.model.specs.Search.{levels}
+use Rattle.model.specs.Validity.{levelsValid, levelAllowed, statusValid, valid, withinLimit, admitted}
 use Rattle.lists.proofs.Bools.{said-yes}
-use Rattle.layout.specs.Rows.{rowAt, boxOf}
+use Rattle.layout.specs.Rows.{rowAt, boxOf, thresholdsOf}
 use Rattle.linear.specs.Ranges.{BoxFits}
 use Rattle.state.specs.Change.{Whole}
 use Rattle.state.specs.View.{levelOf, noLevel, keptCuts, keptAt, statusOf, inputsOf, coreOf, view}
 use Rattle.state.specs.declared.Level.{Level}
 use Rattle.state.specs.declared.Search.{Search}
 use Rattle.validate.specs.Sizes.{sizesValid}
-use Rattle.validate.specs.Nested.{nestedIn}
+use Rattle.validate.specs.Nested.{levelPasses, nestedIn}
 use Rattle.validate.specs.Marks.{markValid}
 use Rattle.validate.proofs.Sizes.{Sized, sized}
 use Rattle.validate.proofs.Numbers.{numbersTo}
 use Rattle.validate.proofs.LevelLoops.{level-fits, levelsTo, levels-none, levels-more, levels-fail, nestedTo, nested-none, nested-more, nested-fail}
 use Rattle.validate.proofs.Marks.{mark-view}
-use Rattle.validate.proofs.Views.{sizes-view, constraints-view, divisors-view, numbers-view, levels-view, nested-view}
+use Rattle.validate.proofs.Views.{sizes-view, constraints-view, divisors-view, numbers-view, thresholds-view, levels-view, nested-view}
 
 sizesOf : Search → Bool
 sizesOf s = sizesValid (s .n) (s .m) (s .budget) (s .conflicts) (s .made) (s .depth)
@@ -32,18 +34,31 @@ sizesOf s = sizesValid (s .n) (s .m) (s .budget) (s .conflicts) (s .made) (s .de
 -- the levels and the mark, which come last
 unfoldable pub levelTests : Search → Bool
 levelTests s =
-    levelsTo (s .n) (s .m + s .made) (s .levels) (s .depth + 1) && (nestedTo (s .n) (s .levels) (s .depth) && statusValid (coreOf s) (statusOf (s .status)))
+    levelsTo (s .n) (s .m + s .made) (thresholdsOf (s .n) (s .thresholds)) (s .levels) (s .depth + 1) && (nestedTo (s .n) (s .levels) (s .depth) && statusValid (coreOf s) (statusOf (s .status)))
 
 tests : Search → Bool
 tests s =
     sizesOf s &&
     (allOf inRange (tab (rowAt (s .n) (s .rows)) 0 (s .m + keptCuts (s .made))) &&
-    (allOf divisorInRange (inputsOf s) && (numbersTo (s .numbers) (s .m + (s .made - maxCuts) + 1) (keptCuts (s .made)) && levelTests s)))
+    (allOf divisorInRange (inputsOf s) &&
+    (allOf isThreshold (thresholdsOf (s .n) (s .thresholds)) && (numbersTo (s .numbers) (s .m + (s .made - maxCuts) + 1) (keptCuts (s .made)) && levelTests s))))
+
+-- the thresholds are tested early, and the gaps of a level with its bounds
+regrouped : (t k l i m g : Bool) → (k && (l && (i && (m && ((t && g) && true))))) ≡ (t && (k && ((l && g) && (i && m))))
+regrouped false k l i m g = rw (and-false m, and-false i, and-false l, and-false k)
+regrouped true false l i m g = refl
+regrouped true true false i m g = refl
+regrouped true true true i m true = rw (and-one m)
+regrouped true true true i m false = rw (and-false m, and-false i)
 
 tests-view : (s : Search) → valid (view s) ≡ tests s
 unfolding valid all view tests sizesOf levelTests
 tests-view s =
-    rw (sizes-view s, constraints-view s, divisors-view s, numbers-view s, levels-view s, nested-view s, and-one (statusValid (coreOf s) (statusOf (s .status))))
+    let ts = thresholdsOf (s .n) (s .thresholds) in
+    rw (sizes-view s, constraints-view s, divisors-view s, thresholds-view s, ← levels-view s, numbers-view s, nested-view s)
+    (ap (λ (b : Bool). sizesOf s && (allOf inRange (tab (rowAt (s .n) (s .rows)) 0 (s .m + keptCuts (s .made))) && (allOf divisorInRange (inputsOf s) && b)))
+    (regrouped (allOf isThreshold ts) (numbersTo (s .numbers) (s .m + (s .made - maxCuts) + 1) (keptCuts (s .made))) (levelsValid (coreOf s)) (nestedTo (s .n) (s .levels) (s .depth))
+    (statusValid (coreOf s) (statusOf (s .status))) (allOf (levelAllowed ts) (levels (coreOf s)))))
 
 module _ (s : Search) (r₁ : Bool) (t₁ : r₁ ≡ sizesValid (s .n) (s .m) (s .budget) (s .conflicts) (s .made) (s .depth)) where
   pub refuse-sizes : not r₁ ≡ true → false ≡ valid (view s)
@@ -64,14 +79,15 @@ module _ (s : Search) (r₁ : Bool) (t₁ : r₁ ≡ sizesValid (s .n) (s .m) (s
         unfolding tests sizesOf
         refuse-divisors h = rw (tests-view s, ← t₁, not-false r₁ h₁, ← e, ← t₂, not-false r₂ h₂, ← t₃, not-true r₃ h)
 
-        module _ (h₃ : not r₃ ≡ false) (d : ℕ) (f : d ≡ s .made - maxCuts) (r₄ : Bool) (t₄ : r₄ ≡ numbersTo (s .numbers) (s .m + d + 1) k) where
-          pub refuse-numbers : not r₄ ≡ true → false ≡ valid (view s)
+        module _ (h₃ : not r₃ ≡ false) (r₄ : Bool) (t₄ : r₄ ≡ allOf isThreshold (thresholdsOf (s .n) (s .thresholds))) where
+          pub refuse-thresholds : not r₄ ≡ true → false ≡ valid (view s)
           unfolding tests sizesOf
-          refuse-numbers h = rw (tests-view s, ← t₁, not-false r₁ h₁, ← e, ← t₂, not-false r₂ h₂, ← t₃, not-false r₃ h₃, ← f, ← t₄, not-true r₄ h)
+          refuse-thresholds h = rw (tests-view s, ← t₁, not-false r₁ h₁, ← e, ← t₂, not-false r₂ h₂, ← t₃, not-false r₃ h₃, ← t₄, not-true r₄ h)
 
-          pub rows-passed : not r₄ ≡ false → valid (view s) ≡ levelTests s
-          unfolding tests sizesOf
-          rows-passed h = rw (tests-view s, ← t₁, not-false r₁ h₁, ← e, ← t₂, not-false r₂ h₂, ← t₃, not-false r₃ h₃, ← f, ← t₄, not-false r₄ h)
+          module _ (h₄ : not r₄ ≡ false) (d : ℕ) (f : d ≡ s .made - maxCuts) (r₅ : Bool) (t₅ : r₅ ≡ numbersTo (s .numbers) (s .m + d + 1) k) where
+            pub rows-left : valid (view s) ≡ (r₅ && levelTests s)
+            unfolding tests sizesOf
+            rows-left = rw (tests-view s, ← t₁, not-false r₁ h₁, ← e, ← t₂, not-false r₂ h₂, ← t₃, not-false r₃ h₃, ← t₄, not-false r₄ h₄, ← f, ← t₅)
 
 -- ---- the levels down to d have passed, and what came before them
 pub record Reached (s : Search) (deepest : Level) (d : ℕ) : Type 0 where
@@ -79,17 +95,17 @@ pub record Reached (s : Search) (deepest : Level) (d : ℕ) : Type 0 where
   pub left : valid (view s) ≡ levelTests s
   pub inside : d ≤ s .depth
   pub here : deepest ≡ getD (s .levels) d noLevel
-  pub levels : levelsTo (s .n) (s .m + s .made) (s .levels) (d + 1) ≡ true
+  pub levels : levelsTo (s .n) (s .m + s .made) (thresholdsOf (s .n) (s .thresholds)) (s .levels) (d + 1) ≡ true
   pub nested : nestedTo (s .n) (s .levels) d ≡ true
   pub fits : BoxFits (s .n) (deepest .lower) (deepest .upper)
 
-refuse-levels : (s : Search) → valid (view s) ≡ levelTests s → false ≡ levelsTo (s .n) (s .m + s .made) (s .levels) (s .depth + 1) → false ≡ valid (view s)
+refuse-levels : (s : Search) → valid (view s) ≡ levelTests s → false ≡ levelsTo (s .n) (s .m + s .made) (thresholdsOf (s .n) (s .thresholds)) (s .levels) (s .depth + 1) → false ≡ valid (view s)
 unfolding levelTests
 refuse-levels s left h = rw (left, ← h)
 
-module _ (s : Search) (o : Level) (w : o ≡ getD (s .levels) 0 noLevel) (r : Bool) (t : r ≡ levelValid (s .m + s .made) (levelOf (s .n) o)) (left : valid (view s) ≡ levelTests s) where
+module _ (s : Search) (o : Level) (w : o ≡ getD (s .levels) 0 noLevel) (r : Bool) (t : r ≡ levelPasses (s .m + s .made) (thresholdsOf (s .n) (s .thresholds)) (levelOf (s .n) o)) (left : valid (view s) ≡ levelTests s) where
   pub refuse-first : not r ≡ true → false ≡ valid (view s)
-  refuse-first h = refuse-levels s left (levels-fail (s .n) (s .m + s .made) (s .levels) 0 o w r t (s .depth) (omega arith) h)
+  refuse-first h = refuse-levels s left (levels-fail (s .n) (s .m + s .made) _ (s .levels) 0 o w r t (s .depth) (omega arith) h)
 
   pub first-reached : not r ≡ false → Sized s → Whole (getD (s .levels) 0 noLevel) → Reached s o 0
   first-reached h z v =
@@ -98,22 +114,22 @@ module _ (s : Search) (o : Level) (w : o ≡ getD (s .levels) 0 noLevel) (r : Bo
         left = left;
         inside = omega arith;
         here = w;
-        levels = levels-more (s .n) (s .m + s .made) (s .levels) 0 o w r t (levels-none (s .n) (s .m + s .made) (s .levels)) h;
+        levels = levels-more (s .n) (s .m + s .made) _ (s .levels) 0 o w r t (levels-none (s .n) (s .m + s .made) _ (s .levels)) h;
         nested = nested-none (s .n) (s .levels);
-        fits = level-fits (s .n) (s .m + s .made) o _ w v (z .variables) r t h;
+        fits = level-fits (s .n) (s .m + s .made) _ o _ w v (z .variables) r t h;
       }
 
 module _ (s : Search) (o : Level) (d : ℕ) (at : Reached s o d) (below : d < s .depth) (l : Level) (w : l ≡ getD (s .levels) (d + 1) noLevel) (r : Bool)
-    (t : r ≡ levelValid (s .m + s .made) (levelOf (s .n) l)) where
+    (t : r ≡ levelPasses (s .m + s .made) (thresholdsOf (s .n) (s .thresholds)) (levelOf (s .n) l)) where
   pub refuse-level : not r ≡ true → false ≡ valid (view s)
-  refuse-level h = refuse-levels s (at .left) (levels-fail (s .n) (s .m + s .made) (s .levels) (d + 1) l w r t (s .depth) (omega arith) h)
+  refuse-level h = refuse-levels s (at .left) (levels-fail (s .n) (s .m + s .made) _ (s .levels) (d + 1) l w r t (s .depth) (omega arith) h)
 
   module _ (q : Bool) (u : q ≡ nestedIn (s .n) (levelOf (s .n) l) (levelOf (s .n) o)) where
     pub refuse-nested : not q ≡ true → false ≡ valid (view s)
     unfolding levelTests
     refuse-nested h =
         rw (at .left, ← nested-fail (s .n) (s .levels) d o (at .here) l w q u (s .depth) below h)
-        (sym (and-false (levelsTo (s .n) (s .m + s .made) (s .levels) (s .depth + 1))))
+        (sym (and-false (levelsTo (s .n) (s .m + s .made) (thresholdsOf (s .n) (s .thresholds)) (s .levels) (s .depth + 1))))
 
     pub next-reached : not r ≡ false → not q ≡ false → Whole (getD (s .levels) (d + 1) noLevel) → Reached s l (d + 1)
     next-reached h k v =
@@ -122,9 +138,9 @@ module _ (s : Search) (o : Level) (d : ℕ) (at : Reached s o d) (below : d < s 
           left = at .left;
           inside = omega arith;
           here = w;
-          levels = levels-more (s .n) (s .m + s .made) (s .levels) (d + 1) l w r t (at .levels) h;
+          levels = levels-more (s .n) (s .m + s .made) _ (s .levels) (d + 1) l w r t (at .levels) h;
           nested = nested-more (s .n) (s .levels) d o (at .here) l w q u (at .nested) k;
-          fits = level-fits (s .n) (s .m + s .made) l _ w v (at .sizes .variables) r t h;
+          fits = level-fits (s .n) (s .m + s .made) _ l _ w v (at .sizes .variables) r t h;
         }
 
 -- all levels have passed, and the mark is left

@@ -1,25 +1,27 @@
 -- The model's tests of a state's view, in the terms of its arrays.
-use Prim.Native.Nat.{ℕ, _+_, _-_}
+use Prim.Native.Nat.{ℕ, suc, _+_, _-_}
 use native.Mathlib.Omega.{arith}
 use native.Mathlib.Numerals.{add-one}
-use mathlib.Core.Bool.{Bool, true, false, _&&_}
+use mathlib.Core.Bool.{Bool, true, false, _&&_, and-false}
 use mathlib.Core.Path.{_≡_, refl, sym, ap, ap₂, _∙_}
-use mathlib.Core.List.{[], _∷_}
+use mathlib.Core.List.{List, [], _∷_}
 use lib.Dec.{leb, eqb}
 use lib.ListN.{length}
 use Rattle.model.specs.Lists.{tab, all, allOf, allPairs}
 use Rattle.model.specs.Ranges.{maxVariables, maxConstraints, maxCuts, maxBudget}
 use Rattle.model.specs.Constraint.{inRange, divisorInRange}
+use Rattle.model.specs.Threshold.{isThreshold}
 use Rattle.model.specs.Search as model
-use Rattle.model.specs.Validity.{scalarsValid, constraintsValid, divisorsValid, cutNumber, numbersValid, levelsValid, nestedValid}
+use Rattle.model.specs.Validity.{scalarsValid, constraintsValid, divisorsValid, cutNumber, numbersValid, levelValid, levelsValid, nestedValid, levelAllowed, thresholdsValid}
 use Rattle.lists.proofs.Tab.{length-tab, tab-ext-0}
 use Rattle.lists.proofs.AllOf.{allOf-tab}
-use Rattle.layout.specs.Rows.{constraintAt, dividedAt, rowAt, inputAt}
+use Rattle.layout.specs.Rows.{constraintAt, dividedAt, rowAt, inputAt, thresholdsOf}
 use Rattle.layout.specs.Sizes.{sizesFit}
 use Rattle.state.specs.View.{levelsFrom, keptCuts, keptAt, storedNumber, coreOver, inputsOf, coreOf, view}
 use Rattle.state.specs.declared.Search.{Search}
 use Rattle.state.proofs.Cores.{kept-over, length-levels}
 use Rattle.validate.specs.Sizes.{sizesValid, numberFrom}
+use Rattle.validate.specs.Nested.{levelPasses}
 use Rattle.validate.proofs.Numbers.{numbersTo}
 use Rattle.validate.proofs.LevelLoops.{levelsTo, nestedTo}
 
@@ -29,6 +31,17 @@ regrouped true false c d e = refl
 regrouped true true false d e = refl
 regrouped true true true false e = refl
 regrouped true true true true e = refl
+
+-- two tests at every element are one
+both-of : {A : Type 0} (t u : A → Bool) (xs : List A) → (allOf t xs && allOf u xs) ≡ allOf (λ x. t x && u x) xs
+unfolding allOf
+both-of t u [] = refl
+both-of t u (x ∷ xs) = rw (← both-of t u xs) (apart (t x) (u x) (allOf t xs) (allOf u xs))
+  where
+    apart : (a b c d : Bool) → ((a && c) && (b && d)) ≡ ((a && b) && (c && d))
+    apart false b c d = refl
+    apart true true c d = refl
+    apart true false c d = and-false c
 
 module _ (s : Search) where
   cuts-length : length (coreOf s .cuts) ≡ keptCuts (s .made)
@@ -42,7 +55,7 @@ module _ (s : Search) where
   -- the kept constraints with their divisors
   pub kept-view : model.kept (coreOf s) ≡ tab (keptAt (s .n) (s .m) (s .rows) (s .divisors)) 0 (s .m + keptCuts (s .made))
   unfolding coreOf inputsOf
-  kept-view = kept-over _ _ _ _ _ _ _ _
+  kept-view = kept-over _ _ _ _ _ _ _ _ _
 
   stored : coreOf s .numbers ≡ tab (storedNumber (s .numbers)) 0 (keptCuts (s .made))
   unfolding coreOf coreOver
@@ -74,9 +87,15 @@ module _ (s : Search) where
       ap₂ (allPairs eqb) stored
       (ap (tab (cutNumber (coreOf s)) 0) cuts-length ∙ tab-ext-0 (cutNumber (coreOf s)) _ (keptCuts (s .made)) (λ p h. number-here p))
 
-  pub levels-view : levelsValid (coreOf s) ≡ levelsTo (s .n) (s .m + s .made) (s .levels) (s .depth + 1)
-  unfolding levelsValid levelsTo model.levels levelsFrom coreOf coreOver
-  levels-view = rw (inputs-length, add-one (s .depth))
+  pub thresholds-view : thresholdsValid (coreOf s) ≡
+      (allOf isThreshold (thresholdsOf (s .n) (s .thresholds)) && allOf (levelAllowed (thresholdsOf (s .n) (s .thresholds))) (model.levels (coreOf s)))
+  unfolding thresholdsValid coreOf coreOver
+  thresholds-view = refl
+
+  pub levels-view : (levelsValid (coreOf s) && allOf (levelAllowed (thresholdsOf (s .n) (s .thresholds))) (model.levels (coreOf s))) ≡
+      levelsTo (s .n) (s .m + s .made) (thresholdsOf (s .n) (s .thresholds)) (s .levels) (s .depth + 1)
+  unfolding levelsValid levelsTo levelPasses model.levels levelsFrom coreOf coreOver
+  levels-view = rw (inputs-length, add-one (s .depth)) (both-of (levelValid (s .m + s .made)) (levelAllowed (thresholdsOf (s .n) (s .thresholds))) (levelsFrom (s .n) (s .levels) (suc (s .depth))))
 
   pub nested-view : nestedValid (coreOf s .variables) (coreOf s .deepest) (coreOf s .outer) ≡ nestedTo (s .n) (s .levels) (s .depth)
   unfolding nestedTo coreOf coreOver

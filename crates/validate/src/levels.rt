@@ -1,15 +1,16 @@
 // The levels of a search state: bounds, reasons, nesting and decisions.
 use layout::range::bounds_in_range;
 use state::Level;
+use threshold::range::are_outside;
 ghost use mathlib.Core.Path.{_≡_};
 ghost use Prim.Native.Nat.{_≤_};
 ghost use lib.ListN.{length};
 ghost use Rattle.model.specs.Lists.{tab, allOf};
 ghost use Rattle.model.specs.Problem.{boundsInRange};
-ghost use Rattle.model.specs.Validity.{reasonValid, reasonsValid, levelValid, inside, boxInside, decisionValid};
-ghost use Rattle.layout.specs.Rows.{boxOf};
+ghost use Rattle.model.specs.Validity.{reasonValid, reasonsValid, inside, boxInside, decisionValid};
+ghost use Rattle.layout.specs.Rows.{boxOf, thresholdsOf};
 ghost use Rattle.state.specs.View.{reasonOf, reasonsIn, levelOf};
-ghost use Rattle.validate.specs.Nested.{nestedIn};
+ghost use Rattle.validate.specs.Nested.{levelPasses, nestedIn};
 
 fn is_box_in_range<'a>(lower: &'a [i64], upper: &'a [i64], n: usize) -> bool
     requires { ⌜ (n ≤ length (now lower)) × (n ≤ length (now upper)) ⌝ }
@@ -59,14 +60,17 @@ fn are_reasons_valid<'a>(below: &'a [usize], above: &'a [usize], n: usize, last:
 }
 
 // Whether a level by itself is valid; `last` is the largest number of a constraint.
-pub fn is_level_valid(l: Level, n: usize, last: usize) -> bool
+pub fn is_level_valid(l: Level, thresholds: &[i64; 32], n: usize, last: usize) -> bool
     requires { ⌜ n ≤ 32 ⌝ }
-    ensures { λ r. ⌜ r ≡ levelValid last (levelOf n l) ⌝ }
+    ensures { λ r. ⌜ r ≡ levelPasses last (thresholdsOf n (now (thresholds .entry))) (levelOf n l) ⌝ }
 {
     if !is_box_in_range(&l.lower, &l.upper, n) {
         return false;
     }
-    are_reasons_valid(&l.below, &l.above, n, last)
+    if !are_reasons_valid(&l.below, &l.above, n, last) {
+        return false;
+    }
+    are_outside(thresholds, &l.lower, &l.upper, n)
 }
 
 // Whether the bounds of a variable lie inside those above, bottom and top.

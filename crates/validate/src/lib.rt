@@ -8,6 +8,7 @@ use layout::range::are_in_range;
 use state::Search;
 use state::kept::dropped;
 use state::kept::kept_cuts;
+use threshold::range::are_thresholds;
 
 pub mod constraints;
 pub mod levels;
@@ -31,20 +32,23 @@ pub fn is_admitted(s: Search) -> bool
     if !are_divisors_in_range(&s.divisors, s.m) {
         return false;
     }
+    if !are_thresholds(&s.thresholds, n) {
+        return false;
+    }
     let first = s.m + dropped(s.made) + 1;
     if !scalars::are_numbers_valid(&s.numbers, first, kept) {
         return false;
     }
     let last = s.m + s.made;
     let outermost = state::whole(s.levels[0]);
-    if !levels::is_level_valid(outermost, n, last) {
+    if !levels::is_level_valid(outermost, &s.thresholds, n, last) {
         return false;
     }
     let mut deepest = outermost;
     let mut d: usize = 0;
     while d < s.depth {
         let l = state::whole(s.levels[d + 1]);
-        if !levels::is_level_valid(l, n, last) {
+        if !levels::is_level_valid(l, &s.thresholds, n, last) {
             return false;
         }
         if !levels::is_nested(l, deepest, n) {

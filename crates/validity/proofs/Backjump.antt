@@ -7,23 +7,23 @@ use mathlib.Core.Logic.{_≢_}
 use mathlib.Core.Option.{Option, none, some}
 use mathlib.Core.Path.{_≡_, refl, sym, ap, _∙_}
 use lib.Dec.{T}
-use lib.IntN.{ℤ, pos, negℤ, sucℤ}
-use lib.Signed.{leZ}
+use lib.IntN.{ℤ}
 use lib.ListN.{getD, length, drop, length-set}
 use lib.Seq.{getD-set-other}
-use Rattle.model.specs.Lists.{all, allOf, orElse, withDefault}
-use Rattle.model.specs.Ranges.{maxBound, within}
-use Rattle.model.specs.Constraint.{Constraint, Bounds, Box, noBounds, lowerAt, upperAt, setLower, nextValue, falsified}
-use Rattle.model.specs.Problem.{boundsInRange}
-use Rattle.model.specs.Search.{flipped, Reasons, noReasons, Level, reasonsAt, setLowerReason, raiseLower, flipAt, Core, levels, withLevels, kept, dropped}
+use Rattle.model.specs.Lists.{allOf, orElse, withDefault}
+use Rattle.model.specs.Constraint.{Constraint, Bounds, Box, noBounds, lowerAt, upperAt, setLower, falsified}
+use Rattle.model.specs.Threshold.{thresholdAt, nextValue}
+use Rattle.model.specs.Search.{flipped, Reasons, noReasons, Level, reasonsAt, setLowerReason, holdLower, flipAt, Core, levels, withLevels, kept, dropped}
 use Rattle.model.specs.Conflict.{leastFalsified, backFrom}
 use Rattle.model.specs.Validity.{cutNumber, reasonValid, reasonsValid, outermost}
-use Rattle.integer.specs.Parts.{_⊏_, suc-parts, le-in, le-out, eq-in}
-use Rattle.integer.specs.Tests.{and-in, and-left, and-right}
+use Rattle.integer.specs.Parts.{_⊏_, eq-in}
+use Rattle.integer.specs.Tests.{and-right}
 use Rattle.lists.proofs.Bools.{true-of, T-of}
 use Rattle.lists.proofs.AllOf.{allOf-getD, allOf-set}
-use Rattle.validity.proofs.Boxes.{OpenAt, highHalf, nested-trans, set-lower-length, high-nested}
-use Rattle.validity.proofs.States.{Every, LevelFits, Under, Stacked, CoreFits}
+use Rattle.validity.proofs.Thresholds.{Outside}
+use Rattle.validity.proofs.Boxes.{OpenAt, highHalf, nested-trans, set-lower-length, high-nested, high-ordered, high-outside}
+use Rattle.validity.proofs.Tests.{range-ordered, range-nested}
+use Rattle.validity.proofs.States.{Every, LevelFits, LevelOutside, Under, Stacked, CoreFits}
 use Rattle.validity.proofs.Elements.{Holds, holds-cond}
 
 -- ---- the least depth, the levels given from the deepest out
@@ -70,31 +70,6 @@ drop-outer l [] = refl
 drop-outer l (o ∷ ls) = drop-outer o ls
 
 -- ---- a decision flipped in a level where it is open
-within-next : (m : ℕ) (l u : ℤ) → l ⊏ u → T (within m l) → T (within m u) → T (within m (nextValue l))
-unfolding within nextValue
-within-next m l u h a b =
-    let low = le-in (negℤ (pos m)) l (and-left (leZ (negℤ (pos m)) l) (leZ l (pos m)) a) in
-    let high = le-in u (pos m) (and-right (leZ (negℤ (pos m)) u) (leZ u (pos m)) b) in
-    let next = suc-parts l in
-    and-in (leZ (negℤ (pos m)) (sucℤ l)) (leZ (sucℤ l) (pos m)) (le-out (negℤ (pos m)) (sucℤ l) (omega arith)) (le-out (sucℤ l) (pos m) (omega arith))
-
-flip-bounds : (b : Bounds) → b .lower ⊏ b .upper → T (boundsInRange b) → T (boundsInRange (record { lower = nextValue (b .lower); upper = b .upper }))
-unfolding boundsInRange all nextValue
-flip-bounds b h t =
-    let l = b .lower in
-    let u = b .upper in
-    let low = and-left (within maxBound l) _ t in
-    let high = and-left (within maxBound u) _ (and-right (within maxBound l) _ t) in
-    let next = suc-parts l in
-    and-in (within maxBound (sucℤ l)) _ (within-next maxBound l u h low high)
-    (and-in (within maxBound u) _ high (and-in (leZ (sucℤ l) u) _ (le-out (sucℤ l) u (omega arith)) tt))
-
-flip-range : (i : ℕ) (box : Box) → OpenAt box i → T (allOf boundsInRange box) → T (allOf boundsInRange (highHalf i box))
-unfolding highHalf setLower lowerAt upperAt
-flip-range i box o t =
-    let e = true-of (allOf boundsInRange box) t in
-    T-of (allOf-set boundsInRange box i _ e (true-of _ (flip-bounds (getD box i noBounds) (o .wide) (T-of (allOf-getD boundsInRange box i noBounds e (o .at))))))
-
 flip-valid-reasons : (last i : ℕ) (rs : List Reasons) → i < length rs → T (allOf (reasonsValid last) rs) → T (allOf (reasonsValid last) (setLowerReason i flipped rs))
 unfolding setLowerReason reasonsAt reasonsValid reasonValid
 flip-valid-reasons last i rs b t =
@@ -103,26 +78,27 @@ flip-valid-reasons last i rs b t =
     let old = T-of (allOf-getD (reasonsValid last) rs i noReasons e b) in
     T-of (allOf-set (reasonsValid last) rs i _ e (true-of _ (and-right (reasonValid last (r .lower)) (reasonValid last (r .upper)) old)))
 
-flip-fits : (n last i : ℕ) (l : Level) → LevelFits n last l → OpenAt (l .box) i → LevelFits n last (flipAt i l)
-unfolding flipAt raiseLower setLowerReason highHalf
-flip-fits n last i l h o =
-    let a = o .at in
+flip-fits : (ts : List ℤ) (n last i : ℕ) (l : Level) → LevelFits n last l → Outside ts (l .box) → OpenAt (l .box) i → LevelFits n last (flipAt ts i l)
+unfolding flipAt holdLower setLowerReason highHalf
+flip-fits ts n last i l h a o =
+    let at = o .at in
     let b = h .box in
     let r = h .reasons in
+    let box = highHalf (thresholdAt ts i) i (l .box) in
     record {
-      box = set-lower-length i (nextValue (lowerAt (l .box) i)) (l .box) ∙ b;
+      box = set-lower-length i _ (l .box) ∙ b;
       reasons = length-set (l .reasons) i _ ∙ r;
-      range = flip-range i (l .box) o (h .range);
+      range = range-nested box (l .box) (high-ordered ts i (l .box) (range-ordered (l .box) (h .range)) a o) (high-nested (thresholdAt ts i) i (l .box)) (h .range);
       valid-reasons = flip-valid-reasons last i (l .reasons) (omega arith) (h .valid-reasons);
     }
 
 -- the level's own decision is fixed there, so it is another variable's
-flip-under : (n i : ℕ) (l o : Level) → OpenAt (l .box) i → Under n l o → Under n (flipAt i l) o
-unfolding flipAt raiseLower highHalf setLower lowerAt upperAt
-flip-under n i l o w h =
-    let other = getD-set-other (l .box) i (l .decided) (record { lower = nextValue (lowerAt (l .box) i); upper = upperAt (l .box) i }) noBounds apart in
+flip-under : (ts : List ℤ) (n i : ℕ) (l o : Level) → OpenAt (l .box) i → Under n l o → Under n (flipAt ts i l) o
+unfolding flipAt holdLower highHalf setLower lowerAt upperAt
+flip-under ts n i l o w h =
+    let other = getD-set-other (l .box) i (l .decided) (record { lower = nextValue (thresholdAt ts i) (lowerAt (l .box) i); upper = upperAt (l .box) i }) noBounds apart in
     record {
-      inside = nested-trans (highHalf i (l .box)) (l .box) (o .box) (high-nested i (l .box)) (h .inside);
+      inside = nested-trans (highHalf (thresholdAt ts i) i (l .box)) (l .box) (o .box) (high-nested (thresholdAt ts i) i (l .box)) (h .inside);
       variable = h .variable;
       wide = h .wide;
       lower = ap (λ (b : Bounds). b .lower) other ∙ h .lower;
@@ -135,17 +111,21 @@ flip-under n i l o w h =
         let fixed = eq-in (upperAt (l .box) (l .decided)) (lowerAt (l .box) (l .decided)) (h .upper ∙ sym (h .lower)) in
         omega arith
 
-flip-stacked : (n i : ℕ) (l : Level) (ls : List Level) → OpenAt (l .box) i → Stacked n l ls → Stacked n (flipAt i l) ls
-flip-stacked n i l [] w h = tt
-flip-stacked n i l (o ∷ ls) w h = (flip-under n i l o w (h .0), h .1)
+flip-stacked : (ts : List ℤ) (n i : ℕ) (l : Level) (ls : List Level) → OpenAt (l .box) i → Stacked n l ls → Stacked n (flipAt ts i l) ls
+flip-stacked ts n i l [] w h = tt
+flip-stacked ts n i l (o ∷ ls) w h = (flip-under ts n i l o w (h .0), h .1)
+
+flip-outside : (ts : List ℤ) (i : ℕ) (l : Level) → Outside ts (l .box) → Outside ts (flipAt ts i l .box)
+unfolding flipAt holdLower
+flip-outside ts i l o = unfold highHalf in high-outside ts i (l .box) o
 
 -- ---- going back from the levels l ∷ ls, less the j deepest
 module _ (c : Core) (fits : CoreFits c) where
   pub back-from : (j : ℕ) (l : Level) (ls : List Level) → j < length ls → Every (LevelFits (c .variables) (length (c .inputs) + c .made)) (l ∷ ls) →
-      Stacked (c .variables) l ls → CoreFits (backFrom (drop j (l ∷ ls)) c)
+      Every (LevelOutside (c .thresholds)) (l ∷ ls) → Stacked (c .variables) l ls → CoreFits (backFrom (drop j (l ∷ ls)) c)
   unfolding backFrom withLevels levels kept cutNumber dropped
-  back-from j l [] b h s = absurd (omega arith)
-  back-from zero l (o ∷ ls) b h s =
+  back-from j l [] b h a s = absurd (omega arith)
+  back-from zero l (o ∷ ls) b h a s =
       let under = s .0 in
       let variable = under .variable in
       let size = h .1 .0 .box in
@@ -156,7 +136,9 @@ module _ (c : Core) (fits : CoreFits c) where
         inequalities = fits .inequalities;
         cuts = fits .cuts;
         numbers = fits .numbers;
-        levels = (flip-fits (c .variables) (length (c .inputs) + c .made) (l .decided) o (h .1 .0) w, h .1 .1);
-        stacked = flip-stacked (c .variables) (l .decided) o ls w (s .1);
+        levels = (flip-fits (c .thresholds) (c .variables) (length (c .inputs) + c .made) (l .decided) o (h .1 .0) (a .1 .0) w, h .1 .1);
+        thresholds = fits .thresholds;
+        outside = (flip-outside (c .thresholds) (l .decided) o (a .1 .0), a .1 .1);
+        stacked = flip-stacked (c .thresholds) (c .variables) (l .decided) o ls w (s .1);
       }
-  back-from (suc j) l (o ∷ ls) b h s = back-from j o ls (omega arith) (h .1) (s .1)
+  back-from (suc j) l (o ∷ ls) b h a s = back-from j o ls (omega arith) (h .1) (a .1) (s .1)

@@ -129,9 +129,9 @@ equal-blanked cut box e f p [] (r ∷ rs) cuts b = absurd b
 equal-blanked cut box e f p (k ∷ ks) [] cuts b = absurd b
 equal-blanked cut box e f p (k ∷ ks) (r ∷ rs) cuts b = rw (equal-of cut k r box e f (b .0), equal-blanked cut box e f (suc p) ks rs cuts (b .1))
 
--- ---- a core with other inputs
-abbrev pub withInputs : List Constraint → Core → Core
-withInputs ks c = record { variables = c .variables; inputs = ks; cuts = c .cuts; numbers = c .numbers; made = c .made; deepest = c .deepest; outer = c .outer }
+-- ---- a core with other thresholds and inputs
+abbrev pub withInputs : List ℤ → List Constraint → Core → Core
+withInputs ts ks c = record { variables = c .variables; thresholds = ts; inputs = ks; cuts = c .cuts; numbers = c .numbers; made = c .made; deepest = c .deepest; outer = c .outer }
 
 -- resolving with a divisor constraint and with a blank are the same: neither is done
 not-opposite : (a : ℤ) → opposite a (pos 0) ≡ false
@@ -159,13 +159,13 @@ resolve-elem box i f n (k ∷ ks) [] p b = absurd b
 resolve-elem box i f n (k ∷ ks) (r ∷ rs) zero b = resolve-of box i f n k r (b .0)
 resolve-elem box i f n (k ∷ ks) (r ∷ rs) (suc p) b = resolve-elem box i f n ks rs p (b .1)
 
--- ---- a core whose inputs stand for ks
-module _ (c : Core) (ks : List Constraint) (b : Blanked ks (c .inputs)) where
-  pub number-blanked : (p : ℕ) → numberAt (withInputs ks c) p ≡ numberAt c p
+-- ---- a core whose inputs stand for ks; its thresholds do not matter
+module _ (c : Core) (ts : List ℤ) (ks : List Constraint) (b : Blanked ks (c .inputs)) where
+  pub number-blanked : (p : ℕ) → numberAt (withInputs ts ks c) p ≡ numberAt c p
   unfolding numberAt dropped
   number-blanked p = rw (blanked-length ks (c .inputs) b)
 
-  resolve-number : (box : Box) (i : ℕ) (f : Constraint) (n k : ℕ) → resolveKept box i f n (keptNumber (withInputs ks c) k) ≡ resolveKept box i f n (keptNumber c k)
+  resolve-number : (box : Box) (i : ℕ) (f : Constraint) (n k : ℕ) → resolveKept box i f n (keptNumber (withInputs ts ks c) k) ≡ resolveKept box i f n (keptNumber c k)
   unfolding keptNumber dropped
   resolve-number box i f n zero = refl
   resolve-number box i f n (suc k) = rw (blanked-length ks (c .inputs) b) (either (ltb k (length (c .inputs))) _)
@@ -174,47 +174,47 @@ module _ (c : Core) (ks : List Constraint) (b : Blanked ks (c .inputs)) where
       either true o = resolve-elem box i f n ks (c .inputs) k b
       either false o = refl
 
-  resolve-by : (i : ℕ) (f : Constraint) (r : Reason) → resolveBy (withInputs ks c) i f r ≡ resolveBy c i f r
+  resolve-by : (i : ℕ) (f : Constraint) (r : Reason) → resolveBy (withInputs ts ks c) i f r ≡ resolveBy c i f r
   unfolding resolveBy
   resolve-by i f domain = refl
   resolve-by i f decision = refl
   resolve-by i f flipped = refl
   resolve-by i f (constraint k) = resolve-number (c .deepest .box) i f k k
 
-  analyze-from : (i : ℕ) (f : Constraint) (used : List ℕ) → analyzeFrom (withInputs ks c) i f used ≡ analyzeFrom c i f used
+  analyze-from : (i : ℕ) (f : Constraint) (used : List ℕ) → analyzeFrom (withInputs ts ks c) i f used ≡ analyzeFrom c i f used
   unfolding analyzeFrom resolveAt
   analyze-from zero f used = refl
   analyze-from (suc i) f used =
       let r = usedReason (coefficientAt f i) (reasonsAt (c .deepest .reasons) i) in
-      ap (λ (s : Resolved). analyzeFrom (withInputs ks c) i (s .cut) (s .used ∷ used)) (resolve-by i f r) ∙
+      ap (λ (s : Resolved). analyzeFrom (withInputs ts ks c) i (s .cut) (s .used ∷ used)) (resolve-by i f r) ∙
       analyze-from i (resolveBy c i f r .cut) (resolveBy c i f r .used ∷ used)
 
   -- the same cut is found
-  pub analyze-blanked : (f : Constraint) → analyze (withInputs ks c) f ≡ analyze c f
+  pub analyze-blanked : (f : Constraint) → analyze (withInputs ts ks c) f ≡ analyze c f
   unfolding analyze
   analyze-blanked f = analyze-from (c .variables) f []
 
-  numbered-by : (cut : Constraint) (o : Option ℕ) → numberedBy (withInputs ks c) cut o ≡ record { number = numberedBy c cut o .number; core = withInputs ks (numberedBy c cut o .core) }
+  numbered-by : (cut : Constraint) (o : Option ℕ) → numberedBy (withInputs ts ks c) cut o ≡ record { number = numberedBy c cut o .number; core = withInputs ts ks (numberedBy c cut o .core) }
   unfolding numberedBy nextNumber keep
   numbered-by cut none = rw (blanked-length ks (c .inputs) b)
   numbered-by cut (some p) = rw (number-blanked p)
 
   -- it has the same number, and the core that keeps it has the other inputs
   pub numbered-blanked : (cut : Constraint) (box : Box) → cut .divisor ≡ pos 0 → T (falsified cut box) → (number : ℕ) (d : Core) →
-      numbered c cut ≡ record { number = number; core = d } → numbered (withInputs ks c) cut ≡ record { number = number; core = withInputs ks d }
+      numbered c cut ≡ record { number = number; core = d } → numbered (withInputs ts ks c) cut ≡ record { number = number; core = withInputs ts ks d }
   unfolding numbered kept
   numbered-blanked cut box e f number d h =
-      ap (numberedBy (withInputs ks c) cut) (equal-blanked cut box e f 0 ks (c .inputs) (c .cuts) b) ∙ numbered-by cut (firstEqual 0 (c .inputs ++ c .cuts) cut) ∙
-      ap (λ (n : Numbered). record { number = n .number; core = withInputs ks (n .core) }) h
+      ap (numberedBy (withInputs ts ks c) cut) (equal-blanked cut box e f 0 ks (c .inputs) (c .cuts) b) ∙ numbered-by cut (firstEqual 0 (c .inputs ++ c .cuts) cut) ∙
+      ap (λ (n : Numbered). record { number = n .number; core = withInputs ts ks (n .core) }) h
 
 -- ---- going back does not see the inputs
-back-inputs : (ks : List Constraint) (c : Core) (ls : List Level) → backFrom ls (withInputs ks c) ≡ withInputs ks (backFrom ls c)
+back-inputs : (ks : List Constraint) (c : Core) (ls : List Level) → backFrom ls (withInputs (c .thresholds) ks c) ≡ withInputs (c .thresholds) ks (backFrom ls c)
 unfolding backFrom withLevels
 back-inputs ks c [] = refl
 back-inputs ks c (l ∷ []) = refl
 back-inputs ks c (l ∷ o ∷ ls) = refl
 
-pub settled-inputs : (ks : List Constraint) (c : Core) (d : ℕ) → settled d (withInputs ks c) ≡ withInputs ks (settled d c)
+pub settled-inputs : (ks : List Constraint) (c : Core) (d : ℕ) → settled d (withInputs (c .thresholds) ks c) ≡ withInputs (c .thresholds) ks (settled d c)
 unfolding settled backUp depth levels
 settled-inputs ks c zero = refl
 settled-inputs ks c (suc d) = back-inputs ks c _

@@ -1,17 +1,21 @@
 -- Boxes: L ≤ U in each variable, one box inside another, and what a changed bound does to the points inside.
 use Prim.Native.Nat.{ℕ, zero, suc, _+_, _<_}
 use native.Mathlib.Omega.{arith}
-use mathlib.Core.List.{[], _∷_, map}
+use mathlib.Core.List.{List, [], _∷_, map}
 use mathlib.Core.Logic.{_⊎_, inl, inr, ⊎-map}
 use mathlib.Core.Path.{_≡_, refl, ap, ap₂}
+use lib.Dec.{T}
 use lib.IntN.{ℤ, pos, natAbs, _-ℤ_}
 use lib.ListN.{getD, set, length, length-set}
-use Rattle.model.specs.Constraint.{Bounds, Box, lowerAt, upperAt, setLower, setUpper, nextValue}
+use Rattle.model.specs.Constraint.{Bounds, Box, lowerAt, upperAt, setLower, setUpper}
+use Rattle.model.specs.Threshold.{thresholdAt, allowed, nextValue}
 use Rattle.model.specs.Move.{slack}
 use Rattle.model.specs.Step.{lowers}
-use Rattle.model.specs.Points.{Point, Inside, Before}
-use Rattle.integer.specs.Parts.{up, down, _⊑_, _⊏_, sub-parts, suc-parts, abs-of, le-in, le-out, lt-in, lt-out, eq-out}
+use Rattle.model.specs.Points.{Point, Inside, Allowed, Before}
+use Rattle.integer.specs.Parts.{up, down, _⊑_, _⊏_, sub-parts, abs-of, le-in, le-out, lt-in, lt-out, eq-out}
 use Rattle.integer.specs.Order.{≤-or-<}
+use Rattle.integer.specs.Tests.{is-true}
+use Rattle.validity.proofs.Thresholds.{follows, Outside, outside-at, outside-set}
 
 abbrev pub Ordered : Box → Type 0
 Ordered [] = Unit {0}
@@ -74,7 +78,7 @@ nested-inside (y ∷ x) (b ∷ box) [] n h = absurd n
 nested-inside (y ∷ x) (b ∷ box) (o ∷ outer) n h = (omega (arith, le-in, le-out), omega (arith, le-in, le-out), nested-inside x box outer (n .2) (h .2))
 
 -- ---- at variable i
-ordered-at : (i : ℕ) (box : Box) → Ordered box → lowerAt box i ⊑ upperAt box i
+pub ordered-at : (i : ℕ) (box : Box) → Ordered box → lowerAt box i ⊑ upperAt box i
 unfolding lowerAt upperAt
 ordered-at i [] o = omega arith
 ordered-at zero (b ∷ box) o = o .0
@@ -166,12 +170,8 @@ set-upper-slack i v box l o h k =
 unfoldable pub lowHalf : ℕ → Box → Box
 lowHalf i box = setUpper i (lowerAt box i) box
 
-unfoldable pub highHalf : ℕ → Box → Box
-highHalf i box = setLower i (nextValue (lowerAt box i)) box
-
-pub next-parts : (v : ℤ) → up (nextValue v) + down v ≡ down (nextValue v) + suc (up v)
-unfolding nextValue
-next-parts = suc-parts
+unfoldable pub highHalf : ℤ → ℕ → Box → Box
+highHalf t i box = setLower i (nextValue t (lowerAt box i)) box
 
 pub low-nested : (i : ℕ) (box : Box) → Ordered box → Nested (lowHalf i box) box
 unfolding lowHalf
@@ -185,39 +185,54 @@ pub low-slack : (i : ℕ) (box : Box) → Ordered box → OpenAt box i → slack
 unfolding lowHalf
 low-slack i box o w = set-upper-slack i _ box (w .at) o (omega arith) (w .wide)
 
-pub high-nested : (i : ℕ) (box : Box) → Nested (highHalf i box) box
-unfolding highHalf
-high-nested i box = set-lower-nested i _ box (omega (arith, next-parts (lowerAt box i)))
+pub low-outside : (i : ℕ) (ts : List ℤ) (box : Box) → Outside ts box → Outside ts (lowHalf i box)
+unfolding lowHalf setUpper
+low-outside i ts box o = let a = outside-at i ts box o in outside-set i _ ts box o (a .0) (a .0)
 
-pub high-ordered : (i : ℕ) (box : Box) → Ordered box → OpenAt box i → Ordered (highHalf i box)
+pub high-nested : (t : ℤ) (i : ℕ) (box : Box) → Nested (highHalf t i box) box
 unfolding highHalf
-high-ordered i box o w = set-lower-ordered i _ box o (omega (arith, next-parts (lowerAt box i)))
+high-nested t i box = set-lower-nested i _ box (omega (arith, follows t (lowerAt box i) .above))
 
-pub halves-inside : (i : ℕ) (box : Box) (x : Point) → Inside x box → Inside x (lowHalf i box) ⊎ Inside x (highHalf i box)
+pub high-ordered : (ts : List ℤ) (i : ℕ) (box : Box) → Ordered box → Outside ts box → OpenAt box i → Ordered (highHalf (thresholdAt ts i) i box)
+unfolding highHalf
+high-ordered ts i box o a w = set-lower-ordered i _ box o (follows (thresholdAt ts i) (lowerAt box i) .least (upperAt box i) (outside-at i ts box a .1) (w .wide))
+
+pub high-outside : (ts : List ℤ) (i : ℕ) (box : Box) → Outside ts box → Outside ts (highHalf (thresholdAt ts i) i box)
+unfolding highHalf setLower
+high-outside ts i box o = outside-set i _ ts box o (follows (thresholdAt ts i) (lowerAt box i) .allowed) (outside-at i ts box o .1)
+
+pub halves-inside : (t : ℤ) (i : ℕ) (box : Box) (x : Point) → T (allowed t (getD x i (pos 0))) → Inside x box → Inside x (lowHalf i box) ⊎ Inside x (highHalf t i box)
 unfolding lowHalf highHalf
-halves-inside i box x h =
+halves-inside t i box x a h =
     ⊎-map
     (λ l. set-upper-inside i _ box x h (omega (arith, le-in)))
-    (λ l. set-lower-inside i _ box x h (omega (arith, lt-in, next-parts (lowerAt box i))))
+    (λ l. set-lower-inside i _ box x h (follows t (lowerAt box i) .least (getD x i (pos 0)) a (omega (arith, lt-in))))
     (≤-or-< (getD x i (pos 0)) (lowerAt box i))
 
 -- a point of the one comes before each point of the other
-pub halves-before : (i : ℕ) (box : Box) (u v : Point) → FirstOpen i box → Inside u (lowHalf i box) → Inside v (highHalf i box) → Before u v
+pub halves-before : (t : ℤ) (i : ℕ) (box : Box) (u v : Point) → FirstOpen i box → Inside u (lowHalf i box) → Inside v (highHalf t i box) → Before u v
 unfolding lowHalf highHalf setLower setUpper lowerAt upperAt
-halves-before i [] u v f h k = absurd f
-halves-before zero (b ∷ box) [] v f h k = absurd h
-halves-before zero (b ∷ box) (x ∷ u) [] f h k = absurd k
-halves-before zero (b ∷ box) (x ∷ u) (y ∷ v) f h k = inl (omega (arith, le-in, lt-out, next-parts (b .lower)))
-halves-before (suc i) (b ∷ box) [] v f h k = absurd h
-halves-before (suc i) (b ∷ box) (x ∷ u) [] f h k = absurd k
-halves-before (suc i) (b ∷ box) (x ∷ u) (y ∷ v) f h k =
-    inr (eq-out x y (omega (arith, le-in)), halves-before i box u v (f .1) (h .2) (k .2))
+halves-before t i [] u v f h k = absurd f
+halves-before t zero (b ∷ box) [] v f h k = absurd h
+halves-before t zero (b ∷ box) (x ∷ u) [] f h k = absurd k
+halves-before t zero (b ∷ box) (x ∷ u) (y ∷ v) f h k = inl (omega (arith, le-in, lt-out, follows t (b .lower) .above))
+halves-before t (suc i) (b ∷ box) [] v f h k = absurd h
+halves-before t (suc i) (b ∷ box) (x ∷ u) [] f h k = absurd k
+halves-before t (suc i) (b ∷ box) (x ∷ u) (y ∷ v) f h k =
+    inr (eq-out x y (omega (arith, le-in)), halves-before t i box u v (f .1) (h .2) (k .2))
 
 -- ---- the point of the lower bounds
 pub lowers-inside : (box : Box) → Ordered box → Inside (lowers box) box
 unfolding lowers
 lowers-inside [] o = tt
 lowers-inside (b ∷ box) o = (omega (arith, le-out), omega (arith, le-out), lowers-inside box (o .1))
+
+pub lowers-allowed : (ts : List ℤ) (box : Box) → Outside ts box → Allowed ts (lowers box)
+unfolding lowers
+lowers-allowed [] [] o = tt
+lowers-allowed [] (b ∷ box) o = absurd o
+lowers-allowed (t ∷ ts) [] o = absurd o
+lowers-allowed (t ∷ ts) (b ∷ box) o = (is-true (allowed t (b .lower)) (o .0), lowers-allowed ts box (o .2))
 
 pub fixed-only : (box : Box) (x : Point) → Fixed box → Inside x box → x ≡ lowers box
 unfolding lowers

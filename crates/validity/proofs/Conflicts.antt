@@ -92,20 +92,21 @@ analyze-meets c j x h l own m =
 -- what numbering leaves as it was
 pub record Keeps (c d : Core) : Type 0 where
   pub variables : d .variables ≡ c .variables
+  pub thresholds : d .thresholds ≡ c .thresholds
   pub inputs : d .inputs ≡ c .inputs
   pub deepest : d .deepest ≡ c .deepest
   pub outer : d .outer ≡ c .outer
   pub made : d .made ≤ suc (c .made)
 
 pub keeps-all : (c : Core) → Keeps c c
-keeps-all c = record { variables = refl; inputs = refl; deepest = refl; outer = refl; made = omega arith }
+keeps-all c = record { variables = refl; thresholds = refl; inputs = refl; deepest = refl; outer = refl; made = omega arith }
 
 pub numbered-keeps : (c : Core) (k : Constraint) → Keeps c (numbered c k .core)
 unfolding numbered numberedBy keep
 numbered-keeps c k = go (firstEqual 0 (kept c) k)
   where
     go : (o : Option ℕ) → Keeps c (numberedBy c k o .core)
-    go none = record { variables = refl; inputs = refl; deepest = refl; outer = refl; made = omega arith }
+    go none = record { variables = refl; thresholds = refl; inputs = refl; deepest = refl; outer = refl; made = omega arith }
     go (some i) = keeps-all c
 
 pub numbered-fits : (c : Core) (k : Constraint) → CoreFits c → ConstraintFits (c .variables) k → Inequality k → CoreFits (numbered c k .core)
@@ -163,4 +164,4 @@ back-outermost k c b =
 -- ---- going back to any level
 pub back-fits : (d : ℕ) (c : Core) → CoreFits c → d < depth c → CoreFits (backUp (suc d) c)
 unfolding backUp depth levels
-back-fits d c h b = back-from c h (depth c - suc d) (c .deepest) (c .outer) (omega arith) (h .levels) (h .stacked)
+back-fits d c h b = back-from c h (depth c - suc d) (c .deepest) (c .outer) (omega arith) (h .levels) (h .outside) (h .stacked)

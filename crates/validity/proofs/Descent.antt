@@ -5,10 +5,12 @@ use mathlib.Core.List.{[]}
 use mathlib.Core.Option.{Option, none, some}
 use mathlib.Core.Path.{_≡_, refl, sym, ap, _∙_}
 use lib.IntN.{ℤ}
-use Rattle.model.specs.Search.{constraint, Core, levels, withLevels, withDeepest, kept, numberAt, raiseLower, lowerUpper, decideAt}
+use Rattle.model.specs.Search.{constraint, Core, levels, withLevels, withDeepest, kept, numberAt, holdLower, holdUpper, raiseLower, lowerUpper, decideAt}
 use Rattle.model.specs.Move.{Move, conflict, newLower, newUpper, decide, finish, nextMove, Stop, moved, follow, slack, descendFor, descend, propagationsBy, propagationsFor, propagationsIn}
-use Rattle.validity.proofs.Boxes.{Ordered, first-open, lowHalf, low-slack, set-lower-slack, set-upper-slack}
+use Rattle.validity.proofs.Thresholds.{Outside}
+use Rattle.validity.proofs.Boxes.{Ordered, first-open, lowHalf, low-slack}
 use Rattle.validity.proofs.Moves.{Falsifies, Raises, Lowers, Decides, Finishes, Chosen, next-chosen}
+use Rattle.validity.proofs.Shrinking.{raise-shrinks, lower-shrinks}
 
 -- where the moves end
 abbrev pub EndsAt : Core → Option ℕ → Type 0
@@ -51,16 +53,19 @@ decided-slack c i o d = unfold lowHalf in low-slack i (c .deepest .box) o (first
 module _
     (p : Core → Type 0)
     (ordered : (c : Core) → p c → Ordered (c .deepest .box))
-    (raise : (c : Core) (j i : ℕ) (v : ℤ) → p c → Raises (kept c) (c .deepest .box) j i v → p (withDeepest c (raiseLower i v (constraint (numberAt c j)) (c .deepest))))
-    (lower : (c : Core) (j i : ℕ) (v : ℤ) → p c → Lowers (kept c) (c .deepest .box) j i v → p (withDeepest c (lowerUpper i v (constraint (numberAt c j)) (c .deepest))))
+    (outside : (c : Core) → p c → Outside (c .thresholds) (c .deepest .box))
+    (raise : (c : Core) (j i : ℕ) (v : ℤ) → p c → Raises (kept c) (c .deepest .box) j i v → p (withDeepest c (raiseLower (c .thresholds) i v (constraint (numberAt c j)) (c .deepest))))
+    (lower : (c : Core) (j i : ℕ) (v : ℤ) → p c → Lowers (kept c) (c .deepest .box) j i v → p (withDeepest c (lowerUpper (c .thresholds) i v (constraint (numberAt c j)) (c .deepest))))
     (deeper : (c : Core) (i : ℕ) → p c → Decides (kept c) (c .deepest .box) i → p (withLevels c (decideAt i (c .deepest)) (levels c)))
   where
     -- a move that goes on leaves a state of less slack
     onward : (m : Move) (c : Core) → p c → Chosen (kept c) (c .deepest .box) m → Goes m → p (moved m c) × (slack (moved m c .deepest .box) < slack (c .deepest .box))
-    unfolding withDeepest withLevels raiseLower lowerUpper decideAt
+    unfolding withDeepest withLevels raiseLower lowerUpper holdLower holdUpper decideAt
     onward (conflict j) c h m g = absurd g
-    onward (newLower j i v) c h m g = (raise c j i v h m, set-lower-slack i v (c .deepest .box) (m .variable) (ordered c h) (m .better) (m .fits))
-    onward (newUpper j i v) c h m g = (lower c j i v h m, set-upper-slack i v (c .deepest .box) (m .variable) (ordered c h) (m .fits) (m .better))
+    onward (newLower j i v) c h m g =
+        (raise c j i v h m, raise-shrinks (c .thresholds) (kept c) (c .deepest .box) j i v (ordered c h) (outside c h) m .less)
+    onward (newUpper j i v) c h m g =
+        (lower c j i v h m, lower-shrinks (c .thresholds) (kept c) (c .deepest .box) j i v (ordered c h) (outside c h) m .less)
     onward (decide i) c h m g = (deeper c i h m, decided-slack c i (ordered c h) m)
     onward finish c h m g = absurd g
 

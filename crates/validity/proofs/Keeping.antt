@@ -88,6 +88,8 @@ keep-fits c k h g i =
       inequalities = unfold keep in cuts-every Inequality c k (h .inequalities) i;
       cuts = keep-cuts c k h;
       numbers = keep-numbers c k h;
+      thresholds = h .thresholds;
+      outside = h .outside;
       levels = rw e (every-map (LevelFits n last) (LevelFits n (suc last)) (levels c) (level-more n last) (h .levels));
       stacked = h .stacked;
     }

@@ -1,11 +1,14 @@
 -- Every move and every step keeps validity, on every valid state, made-up ones too; and what a move and a conflict say of boxes and constraints.
+pub mod Thresholds
 pub mod Boxes
 pub mod Slack
 pub mod Divisors
 pub mod Constraints
 pub mod Moves
+pub mod Shrinking
 pub mod Every
 pub mod Tests
+pub mod Limits
 pub mod Blank
 pub mod Depth
 pub mod States

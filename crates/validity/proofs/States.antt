@@ -11,16 +11,19 @@ use lib.Seq.{getD-set-same}
 use mir.Facts.{and-yes, yes-and}
 use Rattle.model.specs.Lists.{tab, allOf}
 use Rattle.model.specs.Ranges.{maxVariables, maxConstraints, maxCuts, maxBudget}
-use Rattle.model.specs.Constraint.{Constraint, Bounds, Box, noBounds, lowerAt, upperAt, setLower, setUpper, isInequality, inRange, divisorInRange}
+use Rattle.model.specs.Constraint.{Constraint, Bounds, Box, noBounds, lowerAt, upperAt, setUpper, isInequality, inRange, divisorInRange}
+use Rattle.model.specs.Threshold.{isThreshold}
 use Rattle.model.specs.Problem.{boundsInRange}
-use Rattle.model.specs.Search.{constraint, Reasons, Level, Core, Search, reasonsAt, setLowerReason, setUpperReason, depth, levels, withLevels, withDeepest, kept, dropped, numberAt, raiseLower, lowerUpper, decideAt}
-use Rattle.model.specs.Validity.{scalarsValid, constraintsValid, divisorsValid, cutNumber, numbersValid, reasonValid, reasonsValid, levelValid, levelsValid, boxInside, decisionValid, nestedValid, statusValid, valid, levelShaped, constraintShaped, shaped}
+use Rattle.model.specs.Search.{constraint, Reasons, Level, Core, Search, reasonsAt, setLowerReason, setUpperReason, depth, levels, withLevels, withDeepest, kept, dropped, numberAt, holdLower, holdUpper, raiseLower, lowerUpper, decideAt}
+use Rattle.model.specs.Validity.{scalarsValid, constraintsValid, divisorsValid, cutNumber, numbersValid, reasonValid, reasonsValid, levelValid, levelsValid, boxInside, decisionValid, nestedValid, statusValid, levelAllowed, thresholdsValid, valid, levelShaped, constraintShaped, shaped}
 use Rattle.integer.specs.Parts.{_⊏_, lt-in, lt-out, eq-in}
 use Rattle.lists.proofs.Bools.{true-of, T-of}
 use Rattle.lists.proofs.AllOf.{allOf-set}
-use Rattle.validity.proofs.Boxes.{Ordered, Nested, first-open, nested-length, nested-trans, set-lower-nested, set-lower-ordered, set-upper-nested, set-upper-ordered, lowHalf, low-nested, low-ordered}
+use Rattle.validity.proofs.Boxes.{Ordered, Nested, first-open, nested-length, nested-trans, lowHalf, low-nested, low-ordered, low-outside}
+use Rattle.validity.proofs.Thresholds.{Outside, outside-in, outside-out}
 use Rattle.validity.proofs.Constraints.{Inequality, inequality-in, inequality-out}
 use Rattle.validity.proofs.Moves.{Raises, Lowers, Decides}
+use Rattle.validity.proofs.Shrinking.{raise-shrinks, lower-shrinks}
 use Rattle.validity.proofs.Every.{_&_, all-in, all-out, every-of, every-in, every-out}
 use Rattle.validity.proofs.Tests.{equal-in, equal-refl, eqb-out, numbers-in, numbers-out, nested-in, nested-out, range-ordered, range-nested, fixed-nested, valid-reasons-at, number-valid}
 use Rattle.validity.proofs.Depth.{opens, opens-few, opens-decided}
@@ -49,12 +52,18 @@ abbrev pub Stacked : ℕ → Level → List Level → Type 0
 Stacked n l [] = Unit {0}
 Stacked n l (o ∷ ls) = Under n l o × Stacked n o ls
 
+-- no bound lies below its threshold but above 0
+abbrev pub LevelOutside : List ℤ → Level → Type 0
+LevelOutside ts l = Outside ts (l .box)
+
 pub record CoreFits (c : Core) : Type 0 where
   pub constraints : Every (ConstraintFits (c .variables)) (kept c)
   pub divisors : T (allOf divisorInRange (c .inputs))
   pub inequalities : Every Inequality (c .cuts)
   pub cuts : length (c .cuts) ≡ min (c .made) maxCuts
   pub numbers : c .numbers ≡ tab (cutNumber c) 0 (length (c .cuts))
+  pub thresholds : T (allOf isThreshold (c .thresholds))
+  pub outside : Every (LevelOutside (c .thresholds)) (levels c)
   pub levels : Every (LevelFits (c .variables) (length (c .inputs) + c .made)) (levels c)
   pub stacked : Stacked (c .variables) (c .deepest) (c .outer)
 
@@ -130,13 +139,14 @@ constraint-shaped n k f = eqb-out _ _ (f .size)
 
 -- ---- from the tests to the facts, and back
 pub core-fits : (s : Search) → T (shaped (s .core)) → T (valid s) → CoreFits (s .core)
-unfolding shaped valid constraintsValid divisorsValid numbersValid levelsValid
+unfolding shaped valid constraintsValid divisorsValid numbersValid levelsValid thresholdsValid levelAllowed
 core-fits s f t =
     let c = s .core in
     let n = c .variables in
     let last = length (c .inputs) + c .made in
     let g = all-in _ f in
     let h = all-in _ t in
+    let k = and-yes (allOf isThreshold (c .thresholds)) (allOf (levelAllowed (c .thresholds)) (levels c)) (h .1 .1 .1 .1 .1 .1 .1 .0) in
     record {
       constraints = every-in (ConstraintFits n) inRange (constraintShaped n) (constraint-in n) (kept c) (h .1 .0) (g .1 .0);
       divisors = h .1 .1 .0;
@@ -145,6 +155,8 @@ core-fits s f t =
       numbers = numbers-in (c .numbers) (tab (cutNumber c) 0 (length (c .cuts))) (h .1 .1 .1 .0);
       levels = every-in (LevelFits n last) (levelShaped n) (levelValid last) (level-in n last) (levels c) (g .0) (h .1 .1 .1 .1 .0);
       stacked = stacked-in n (c .deepest) (c .outer) (h .1 .1 .1 .1 .1 .0);
+      thresholds = k .0;
+      outside = every-of (LevelOutside (c .thresholds)) (levelAllowed (c .thresholds)) (λ l a. outside-in (c .thresholds) (l .box) a) (levels c) (k .1);
     }
 
 pub sizes-fit : (s : Search) → T (valid s) → Sizes s
@@ -199,7 +211,7 @@ scalars-valid s f z =
     tt)
 
 pub fits-valid : (s : Search) → CoreFits (s .core) → Sizes s → T (statusValid (s .core) (s .status)) → T (valid s)
-unfolding valid constraintsValid divisorsValid numbersValid levelsValid
+unfolding valid constraintsValid divisorsValid numbersValid levelsValid thresholdsValid levelAllowed
 fits-valid s f z m =
     let c = s .core in
     let n = c .variables in
@@ -212,11 +224,17 @@ fits-valid s f z m =
     every-out (LevelFits n last) (levelValid last) (level-valid n last) (levels c) (f .levels) &
     stacked-out n (c .deepest) (c .outer) (f .stacked) &
     m &
+    yes-and (allOf isThreshold (c .thresholds)) (allOf (levelAllowed (c .thresholds)) (levels c)) (f .thresholds)
+    (every-out (LevelOutside (c .thresholds)) (levelAllowed (c .thresholds)) (λ l o. outside-out (c .thresholds) (l .box) o) (levels c) (f .outside)) &
     tt)
 
 -- ---- order
 pub level-ordered : (n last : ℕ) (l : Level) → LevelFits n last l → Ordered (l .box)
 level-ordered n last l f = range-ordered (l .box) (f .range)
+
+pub deepest-outside : (c : Core) → CoreFits c → Outside (c .thresholds) (c .deepest .box)
+unfolding levels
+deepest-outside c f = f .outside .0
 
 pub deepest-ordered : (c : Core) → CoreFits c → Ordered (c .deepest .box)
 unfolding levels
@@ -246,9 +264,9 @@ stacked-nested n l (o ∷ ls) box rs s r k =
 
 -- ---- a state with other levels, and with a smaller box in the deepest
 pub levels-fit : (c : Core) (l : Level) (ls : List Level) → CoreFits c → Every (LevelFits (c .variables) (length (c .inputs) + c .made)) (l ∷ ls) →
-    Stacked (c .variables) l ls → CoreFits (withLevels c l ls)
+    Every (LevelOutside (c .thresholds)) (l ∷ ls) → Stacked (c .variables) l ls → CoreFits (withLevels c l ls)
 unfolding withLevels levels kept cutNumber dropped
-levels-fit c l ls f h s =
+levels-fit c l ls f h o s =
     record {
       constraints = f .constraints;
       divisors = f .divisors;
@@ -256,16 +274,19 @@ levels-fit c l ls f h s =
       cuts = f .cuts;
       numbers = f .numbers;
       levels = h;
+      thresholds = f .thresholds;
+      outside = o;
       stacked = s;
     }
 
-pub deepest-nested : (c : Core) (i : ℕ) (box : Box) (r : Reasons) → CoreFits c → Ordered box → Nested box (c .deepest .box) →
+pub deepest-nested : (c : Core) (i : ℕ) (box : Box) (r : Reasons) → CoreFits c → Ordered box → Nested box (c .deepest .box) → Outside (c .thresholds) box →
     T (reasonValid (length (c .inputs) + c .made) (r .lower)) → T (reasonValid (length (c .inputs) + c .made) (r .upper)) →
     CoreFits (withDeepest c (record { box = box; reasons = set (c .deepest .reasons) i r; decided = c .deepest .decided }))
 unfolding withDeepest levels
-deepest-nested c i box r f o k s t =
+deepest-nested c i box r f o k a s t =
     levels-fit c _ (c .outer) f
     (level-nested (c .variables) (length (c .inputs) + c .made) i (c .deepest .decided) (c .deepest) box r (f .levels .0) o k s t, f .levels .1)
+    (a, f .outside .1)
     (stacked-nested (c .variables) (c .deepest) (c .outer) box _ (f .stacked) o k)
 
 -- ---- moves 2 and 3
@@ -275,19 +296,19 @@ unfolding levels
 deepest-valid-reasons c i f = valid-reasons-at (length (c .inputs) + c .made) i (c .deepest .reasons) (f .levels .0 .valid-reasons)
 
 pub raise-fits : (c : Core) (j i : ℕ) (v : ℤ) → CoreFits c → Raises (kept c) (c .deepest .box) j i v →
-    CoreFits (withDeepest c (raiseLower i v (constraint (numberAt c j)) (c .deepest)))
-unfolding raiseLower setLowerReason
+    CoreFits (withDeepest c (raiseLower (c .thresholds) i v (constraint (numberAt c j)) (c .deepest)))
+unfolding raiseLower holdLower setLowerReason
 raise-fits c j i v f r =
-    let box = c .deepest .box in
-    deepest-nested c i (setLower i v box) _ f (set-lower-ordered i v box (deepest-ordered c f) (r .fits)) (set-lower-nested i v box (omega arith))
+    let s = raise-shrinks (c .thresholds) (kept c) (c .deepest .box) j i v (deepest-ordered c f) (deepest-outside c f) r in
+    deepest-nested c i _ _ f (s .ordered) (s .nested) (s .outside)
     (number-valid c j (f .cuts) (r .constraint)) (deepest-valid-reasons c i f .1)
 
 pub lower-fits : (c : Core) (j i : ℕ) (v : ℤ) → CoreFits c → Lowers (kept c) (c .deepest .box) j i v →
-    CoreFits (withDeepest c (lowerUpper i v (constraint (numberAt c j)) (c .deepest)))
-unfolding lowerUpper setUpperReason
+    CoreFits (withDeepest c (lowerUpper (c .thresholds) i v (constraint (numberAt c j)) (c .deepest)))
+unfolding lowerUpper holdUpper setUpperReason
 lower-fits c j i v f r =
-    let box = c .deepest .box in
-    deepest-nested c i (setUpper i v box) _ f (set-upper-ordered i v box (deepest-ordered c f) (r .fits)) (set-upper-nested i v box (omega arith))
+    let s = lower-shrinks (c .thresholds) (kept c) (c .deepest .box) j i v (deepest-ordered c f) (deepest-outside c f) r in
+    deepest-nested c i _ _ f (s .ordered) (s .nested) (s .outside)
     (deepest-valid-reasons c i f .0) (number-valid c j (f .cuts) (r .constraint))
 
 -- the decided variable has its lower bound alone
@@ -308,4 +329,5 @@ decide-fits c i f d =
     let size = f .levels .0 .box in
     levels-fit c _ (levels c) f
     (level-nested (c .variables) (length (c .inputs) + c .made) i i l (lowHalf i (l .box)) _ (f .levels .0) (low-ordered i (l .box) o) k (deepest-valid-reasons c i f .0) tt, f .levels)
+    (low-outside i (c .thresholds) (l .box) (deepest-outside c f), f .outside)
     (record { inside = k; variable = omega arith; wide = a .wide; lower = e .0; upper = e .1 }, f .stacked)

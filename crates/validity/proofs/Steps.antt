@@ -26,7 +26,7 @@ use Rattle.validity.specs.Valid.{Valid}
 use Rattle.validity.proofs.Boxes.{Fixed}
 use Rattle.validity.proofs.Constraints.{Inequality}
 use Rattle.validity.proofs.Moves.{Clear, Falsifies, Finishes}
-use Rattle.validity.proofs.States.{ConstraintFits, CoreFits, Sizes, core-fits, sizes-fit, fits-shaped, fits-valid, deepest-ordered, raise-fits, lower-fits, decide-fits}
+use Rattle.validity.proofs.States.{ConstraintFits, CoreFits, Sizes, core-fits, sizes-fit, fits-shaped, fits-valid, deepest-ordered, deepest-outside, raise-fits, lower-fits, decide-fits}
 use Rattle.validity.proofs.Conflicts.{analyze-learned, Keeps, keeps-all, numbered-keeps, numbered-fits, numbered-falsifies, Back, backjump-back, back-outermost, back-fits}
 use Rattle.validity.proofs.Descent.{EndsAt, Ended, descend-keeps, descend-next, propagations-next, propagations-few}
 
@@ -39,7 +39,7 @@ pub record Along (c d : Core) : Type 0 where
 
 pub descend-along : (c : Core) → CoreFits c → Ended (Along c) (descend c)
 descend-along c f =
-    descend-keeps (Along c) (λ d a. deepest-ordered d (a .fits))
+    descend-keeps (Along c) (λ d a. deepest-ordered d (a .fits)) (λ d a. deepest-outside d (a .fits))
     (λ d j i v a m. unfold withDeepest withLevels in record { fits = raise-fits d j i v (a .fits) m; variables = a .variables; inputs = a .inputs; made = a .made })
     (λ d j i v a m. unfold withDeepest withLevels in record { fits = lower-fits d j i v (a .fits) m; variables = a .variables; inputs = a .inputs; made = a .made })
     (λ d i a m. unfold withLevels in record { fits = decide-fits d i (a .fits) m; variables = a .variables; inputs = a .inputs; made = a .made })
@@ -47,14 +47,14 @@ descend-along c f =
 
 -- the descent from a valid state is its next move and the descent from there
 pub descent-next : (c : Core) → CoreFits c → descend c ≡ follow (nextMove (kept c) (c .deepest .box)) c descend
-descent-next c f = descend-next CoreFits deepest-ordered raise-fits lower-fits decide-fits c f
+descent-next c f = descend-next CoreFits deepest-ordered deepest-outside raise-fits lower-fits decide-fits c f
 
 -- and so are its moves 2
 pub moves-next : (c : Core) → CoreFits c → propagationsIn c ≡ propagationsBy (nextMove (kept c) (c .deepest .box)) c propagationsIn
-moves-next c f = propagations-next CoreFits deepest-ordered raise-fits lower-fits decide-fits c f
+moves-next c f = propagations-next CoreFits deepest-ordered deepest-outside raise-fits lower-fits decide-fits c f
 
 pub moves-few : (c : Core) → CoreFits c → propagationsIn c ≤ slack (c .deepest .box)
-moves-few c f = propagations-few CoreFits deepest-ordered raise-fits lower-fits decide-fits c f
+moves-few c f = propagations-few CoreFits deepest-ordered deepest-outside raise-fits lower-fits decide-fits c f
 
 -- ---- a conflict
 -- what a conflict in position j gives

@@ -3,7 +3,7 @@ use native.Mathlib.Omega.{arith}
 use mathlib.Core.Path.{_≡_, _∙_}
 use denote.Ref.{now}
 use lib.Dec.{lit≤}
-use lib.IntN.{pos, _+ℤ_, _-ℤ_}
+use lib.IntN.{_-ℤ_}
 use lib.ListN.{length-set}
 use mir.Facts.{toZ-ofZ}
 use mir.Syntax.{w64}
@@ -13,6 +13,7 @@ use Rattle.lists.proofs.Bools.{true-of}
 use Rattle.linear.proofs.Ranges.{lower-within}
 use Rattle.layout.specs.Rows.{numberIn}
 use Rattle.propagate.proofs.Tracking.{shiftable, told-set, raised-closes}
+use Rattle.backtrack.specs.Jumps.{nextIn}
 use Rattle.backtrack.proofs.Moving.{flipped-above, flipped-rise}
 use borrow.Author.Needs.{needs}
 use Rattle.backtrack.proofs.backjump.Statement.{statement}
@@ -46,7 +47,7 @@ measure-requires c κs =
 -- by how much the lower bound rises, as it is read
 rise : (c : tie.After-flip) →
     let s = c .before .before .before .before .before .before .before .before .before .before .before .before .before .before in
-    toZ w64 (ofZ w64 (c .flip .result)) ≡ numberIn (now (s .args .lower)) (s .args .i) +ℤ pos 1 -ℤ numberIn (now (s .args .lower)) (s .args .i)
+    toZ w64 (ofZ w64 (c .flip .result)) ≡ nextIn (now (s .args .thresholds)) (now (s .args .lower)) (s .args .i) -ℤ numberIn (now (s .args .lower)) (s .args .i)
 rise c =
     let f : SFits w64 (c .flip .result) = search needs in
     toZ-ofZ f ∙ c .flip .ensures .0
@@ -55,7 +56,7 @@ flip-requires : tie.Need-flip-requires
 flip-requires c κs =
     let s = c .before .before .before .before .before .before .before .before .before .before .before .before .before in
     let p = s .pre .0 in
-    (omega (arith, p .fits .few, p .variable), weaken (lit≤ tt) (lower-within _ (now (s .args .lower)) (now (s .args .upper)) (true-of _ (p .fits .bounds)) (s .args .i) (p .variable)))
+    (omega (arith, p .fits .few, p .variable), (weaken (lit≤ tt) (lower-within _ (now (s .args .lower)) (now (s .args .upper)) (true-of _ (p .fits .bounds)) (s .args .i) (p .variable)), flipped-rise _ _ _ _ _ _ _ (p .fits) (p .next) (p .variable) (p .lowers)))
 
 shift-requires : tie.Need-shift-requires
 shift-requires c κs =
@@ -63,7 +64,7 @@ shift-requires c κs =
     let p = s .pre .0 in
     let k = c .before .before .before .before .before .before .before .before .kept-count .ensures in
     rw (rise (c .before), k)
-    (shiftable _ _ _ _ _ _ _ _ _ _ (p .fits) (rw k at (c .before .before .before .before .measure .ensures)) (p .variable) (flipped-rise (numberIn (now (s .args .lower)) (s .args .i))) (record { within = omega arith }))
+    (shiftable _ _ _ _ _ _ _ _ _ _ (p .fits) (rw k at (c .before .before .before .before .measure .ensures)) (p .variable) (flipped-rise _ _ _ _ _ _ _ (p .fits) (p .next) (p .variable) (p .lowers)) (record { within = omega arith }))
 
 returns : tie.Need-returns
 returns c =
@@ -77,7 +78,7 @@ returns c =
       bound = set .bound;
       why = set .why;
       told = rw (set .bound) (told-set _ _ _ _ _ _ _ _ _ _ _ _ _ _ (rw k at (c .before .before .before .before .before .measure .ensures)) (p .next) (length-set (now (a .lower)) _ _ ∙ p .lowers) (p .uppers)
-          (raised-closes _ _ _ _ (a .i) _ (p .variable) (omega (arith, p .fits .few, p .lowers)) (flipped-above (numberIn (now (a .lower)) (a .i)))) t);
+          (raised-closes _ _ _ _ (a .i) _ (p .variable) (omega (arith, p .fits .few, p .lowers)) (flipped-above (now (a .thresholds)) (now (a .lower)) (a .i))) t);
     }
 
 pub backjump-spec : {M : Type 1} → statement M

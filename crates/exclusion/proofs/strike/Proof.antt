@@ -24,35 +24,35 @@ sub-back : tie.Need-sub-back
 sub-back c = search needs
 
 mul-d : tie.Need-mul-d
-mul-d c = record { fits = omega (arith, shallow (c .before .before .before .before)) }
+mul-d c = record { fits = omega (arith, shallow (c .before .before .before .before .before)) }
 
 array-copy-out-d : tie.Need-array-copy-out-d
-array-copy-out-d c = omega (arith, shallow (c .before .before .before .before))
+array-copy-out-d c = omega (arith, shallow (c .before .before .before .before .before))
 
 mul-whole : tie.Need-mul-whole
-mul-whole c = record { fits = omega (arith, shallow (c .before .before .before .before .before)) }
+mul-whole c = record { fits = omega (arith, shallow (c .before .before .before .before .before .before)) }
 
 array-copy-out-whole : tie.Need-array-copy-out-whole
-array-copy-out-whole c = omega (arith, shallow (c .before .before .before .before .before))
+array-copy-out-whole c = omega (arith, shallow (c .before .before .before .before .before .before))
 
 whole-requires : tie.Need-whole-requires
 whole-requires c κs = search needs
 
 flip-requires : tie.Need-flip-requires
 flip-requires c κs =
-    let s = c .before .before .before .before .before .before .before .before .before .before .before .before .before in
-    flips (s .args .s) (s .pre .0) _ (one-more s) _ (c .before .before .before .before .before .before .whole .ensures .0)
+    let s = c .before .before .before .before .before .before .before .before .before .before .before .before .before .before .before in
+    flips (s .args .s) (s .pre .0) _ (one-more s) _ (c .before .before .before .before .before .before .before .whole .ensures .0)
 
 mul-levels : tie.Need-mul-levels
-mul-levels c = record { fits = omega (arith, shallow (c .before .before .before .before .before .before .before .before .before .before .before .before .before .before)) }
+mul-levels c = record { fits = omega (arith, shallow (c .before .before .before .before .before .before .before .before .before .before .before .before .before .before .before .before)) }
 
 array-set-from-levels : tie.Need-array-set-from-levels
-array-set-from-levels c = omega (arith, shallow (c .before .before .before .before .before .before .before .before .before .before .before .before .before .before))
+array-set-from-levels c = omega (arith, shallow (c .before .before .before .before .before .before .before .before .before .before .before .before .before .before .before .before))
 
 returns : tie.Need-returns
 returns c =
-    let s = c .before .before .before .before .before .before .before .before .before .before .before .before .before .before in
-    let o = c .before .before .before .before .before .before .before .whole in
+    let s = c .before .before .before .before .before .before .before .before .before .before .before .before .before .before .before .before in
+    let o = c .before .before .before .before .before .before .before .before .whole in
     struck (s .args .s) (s .pre .0) _ (one-more s) _ (o .ensures .0) _ _ (c .flip .ensures .1) (rw (o .ensures .0) (o .ensures .1))
     (omega (arith, shallow s, levels-long s))
 

@@ -11,7 +11,7 @@ first-level-requires : tie.Need-first-level-requires
 first-level-requires c κs = search needs
 
 returns : tie.Need-returns
-returns c = opened (c .before .before .before .args .p) _ _ _ (c .before .before .rounded-rows .ensures) (c .first-level .ensures)
+returns c = opened (c .before .before .before .before .args .p) _ _ _ (c .before .before .before .rounded-rows .ensures) (c .first-level .ensures)
 
 pub from-problem-spec : {M : Type 1} → statement M
 from-problem-spec = tie.close (tie.spec rounded-rows-requires first-level-requires returns)

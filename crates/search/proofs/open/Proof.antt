@@ -7,16 +7,16 @@ use types.Run.{OneOf, miss}
 use borrow.Author.Needs.{needs}
 use Rattle.problem.specs.Answer.{number}
 use Rattle.problem.specs.declared.Answer.{Answer}
-use Rattle.problem.specs.declared.Answer.the-variants.{Done, Truncated, BadChecksum, BadMagic, SizeRange, DomainRange, CoefficientRange, NonzeroPadding, ShortBuffer, InvalidSearch, DivisorRange}
+use Rattle.problem.specs.declared.Answer.the-variants.{Done, Truncated, BadChecksum, BadMagic, SizeRange, DomainRange, CoefficientRange, NonzeroPadding, ShortBuffer, InvalidSearch, DivisorRange, ThresholdRange}
 use Rattle.problem.proofs.Answer.{the-type}
 use Rattle.search.proofs.Openings.{can-open, opened, not-opened}
 use Rattle.search.proofs.open.Statement.{statement}
 use Rattle.search.proofs.open.Tie as tie
 
 -- the numbers of the answers other than `Done`
-not-done : (a : Answer) → OneOf (1 ∷ 2 ∷ 3 ∷ 4 ∷ 5 ∷ 6 ∷ 7 ∷ 8 ∷ 9 ∷ 10 ∷ []) (tagOf the-type a) → ¬ (number a ≡ 0)
+not-done : (a : Answer) → OneOf (1 ∷ 2 ∷ 3 ∷ 4 ∷ 5 ∷ 6 ∷ 7 ∷ 8 ∷ 9 ∷ 10 ∷ 11 ∷ []) (tagOf the-type a) → ¬ (number a ≡ 0)
 unfolding number
-not-done Done h e = absurd (miss (1 ∷ 2 ∷ 3 ∷ 4 ∷ 5 ∷ 6 ∷ 7 ∷ 8 ∷ 9 ∷ 10 ∷ []) 0 tt h)
+not-done Done h e = absurd (miss (1 ∷ 2 ∷ 3 ∷ 4 ∷ 5 ∷ 6 ∷ 7 ∷ 8 ∷ 9 ∷ 10 ∷ 11 ∷ []) 0 tt h)
 not-done Truncated h e = omega arith
 not-done BadChecksum h e = omega arith
 not-done BadMagic h e = omega arith
@@ -27,6 +27,7 @@ not-done NonzeroPadding h e = omega arith
 not-done ShortBuffer h e = omega arith
 not-done InvalidSearch h e = omega arith
 not-done DivisorRange h e = omega arith
+not-done ThresholdRange h e = omega arith
 
 read-requires : tie.Need-read-requires
 read-requires c κs = search needs

@@ -5,10 +5,10 @@ use Rattle.brute_force.proofs.listing.following.Statement.{statement}
 use Rattle.brute_force.proofs.listing.following.Tie as tie
 
 abbrev Inv-loop : tie.InvT-loop
-Inv-loop p lower upper y₀ i₀ y i = i ≤ 128
+Inv-loop p lower upper thresholds y₀ i₀ y i = i ≤ 128
 
 abbrev μ-loop : tie.MeasureT-loop
-μ-loop p lower upper y₀ i₀ y i = 128 - i
+μ-loop p lower upper thresholds y₀ i₀ y i = 128 - i
 
 loop-holds : tie.Need-loop-holds Inv-loop μ-loop
 loop-holds c = search needs

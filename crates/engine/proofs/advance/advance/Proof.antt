@@ -51,7 +51,7 @@ returns c =
     let i = start (a .before) in
     let g = a .loop-test .left in
     rw (view-unmarked (i .args .s) (i .pre .unmarked)) at
-    (concludes k refl _ _ _ _ _ _ _ _ _ _ _ _ _ (v .ended g) (v .final g) _ (view-restored _ _ _ _ _ _ _ _ _ _ _ _ _ _ _ (v .apart) (c .put-rows2 .ensures) (start-counts (i .pre) .inputs) (omega (arith, v .deep, v .levelsLong))))
+    (concludes k refl _ _ _ _ _ _ _ _ _ _ _ _ _ _ (v .ended g) (v .final g) _ (view-restored _ _ _ _ _ _ _ _ _ _ _ _ _ _ _ _ (v .apart) (c .put-rows2 .ensures) (start-counts (i .pre) .inputs) (omega (arith, v .deep, v .levelsLong))))
 
 pub advance-spec : {M : Type 1} → statement M
 advance-spec =

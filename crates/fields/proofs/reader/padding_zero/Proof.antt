@@ -22,20 +22,17 @@ variables-in-requires c κs = search needs
 constraints-in-requires : tie.Need-constraints-in-requires Inv-loop μ-loop
 constraints-in-requires c κs = search needs
 
-sub-is-zero-from : tie.Need-sub-is-zero-from Inv-loop μ-loop
-sub-is-zero-from c = search needs
+sub-is-head-padded : tie.Need-sub-is-head-padded Inv-loop μ-loop
+sub-is-head-padded c = search needs
 
-part-is-zero-from-start : tie.Need-part-is-zero-from-start Inv-loop μ-loop
-part-is-zero-from-start c = search needs
+part-is-head-padded-start : tie.Need-part-is-head-padded-start Inv-loop μ-loop
+part-is-head-padded-start c = search needs
 
-part-is-zero-from-end : tie.Need-part-is-zero-from-end Inv-loop μ-loop
-part-is-zero-from-end c = search needs
+part-is-head-padded-end : tie.Need-part-is-head-padded-end Inv-loop μ-loop
+part-is-head-padded-end c = search needs
 
-bounds-offset-requires : tie.Need-bounds-offset-requires Inv-loop μ-loop
-bounds-offset-requires c κs = search needs
-
-is-zero-from-requires : tie.Need-is-zero-from-requires Inv-loop μ-loop
-is-zero-from-requires c κs = search needs
+is-head-padded-requires : tie.Need-is-head-padded-requires Inv-loop μ-loop
+is-head-padded-requires c κs = search needs
 
 returns : tie.Need-returns Inv-loop μ-loop
 returns c = search (needs, head-nonzero)
@@ -87,11 +84,10 @@ padding-zero-spec =
     μ-loop
     variables-in-requires
     constraints-in-requires
-    sub-is-zero-from
-    part-is-zero-from-start
-    part-is-zero-from-end
-    bounds-offset-requires
-    is-zero-from-requires
+    sub-is-head-padded
+    part-is-head-padded-start
+    part-is-head-padded-end
+    is-head-padded-requires
     returns
     loop-holds
     add-start

@@ -8,10 +8,10 @@ use Rattle.made_up.proofs.litter.littered.Statement.{statement}
 use Rattle.made_up.proofs.litter.littered.Tie as tie
 
 abbrev Inv-loop : tie.InvT-loop
-Inv-loop s t₀ past cut d₀ t d = (d ≤ 33) × (length (t .levels) ≡ 33)
+Inv-loop s t₀ past next cut d₀ t d = (d ≤ 33) × (length (t .levels) ≡ 33)
 
 abbrev μ-loop : tie.MeasureT-loop
-μ-loop s t₀ past cut d₀ t d = 33 - d
+μ-loop s t₀ past next cut d₀ t d = 33 - d
 
 rows-littered-requires : tie.Need-rows-littered-requires Inv-loop μ-loop
 rows-littered-requires c κs = search needs
@@ -24,6 +24,12 @@ element-set-of-t c = search needs
 
 mul-t-2 : tie.Need-mul-t-2 Inv-loop μ-loop
 mul-t-2 c = search needs
+
+element-set-of-t-2 : tie.Need-element-set-of-t-2 Inv-loop μ-loop
+element-set-of-t-2 c = search needs
+
+mul-t-3 : tie.Need-mul-t-3 Inv-loop μ-loop
+mul-t-3 c = search needs
 
 element-write-t : tie.Need-element-write-t Inv-loop μ-loop
 element-write-t c = search needs
@@ -68,6 +74,8 @@ littered-spec =
     mul-t
     element-set-of-t
     mul-t-2
+    element-set-of-t-2
+    mul-t-3
     element-write-t
     loop-holds
     mul-level-of

@@ -24,6 +24,9 @@ rows-in-requires c κs = search needs
 divisors-in-requires : tie.Need-divisors-in-requires
 divisors-in-requires c κs = search needs
 
+thresholds-in-requires : tie.Need-thresholds-in-requires
+thresholds-in-requires c κs = search needs
+
 returns : tie.Need-returns
 returns c = search (needs, problem-is)
 
@@ -38,4 +41,5 @@ problem-in-spec =
     bounds-in-requires-2
     rows-in-requires
     divisors-in-requires
+    thresholds-in-requires
     returns)

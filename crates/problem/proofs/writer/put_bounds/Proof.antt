@@ -9,7 +9,7 @@ use Rattle.model.specs.Lists.{parts}
 use Rattle.block.proofs.Placing.{none-placed}
 use Rattle.block.specs.Placed.{Placed}
 use Rattle.problem.specs.View.{problemOf}
-use Rattle.problem.proofs.Writing.{lower-room, upper-room, bounds-more, bounds-end}
+use Rattle.problem.proofs.Writing.{lower-room, upper-room, bounds-more, fields-end}
 use Rattle.problem.proofs.writer.put_bounds.Statement.{statement}
 use Rattle.problem.proofs.writer.put_bounds.Tie as tie
 
@@ -75,7 +75,7 @@ same-length : tie.Need-same-length Inv-loop μ-loop
 same-length c = search needs
 
 returns : tie.Need-returns Inv-loop μ-loop
-returns c = search (needs, bounds-end)
+returns c = search (needs, fields-end)
 
 pub put-bounds-spec : {M : Type 1} → statement M
 put-bounds-spec =

@@ -12,6 +12,9 @@ put-sizes-requires c κs = search needs
 put-bounds-requires : tie.Need-put-bounds-requires
 put-bounds-requires c κs = search needs
 
+put-thresholds-requires : tie.Need-put-thresholds-requires
+put-thresholds-requires c κs = let h = c .before .before .before .before .before .before .before .before .before .before .before .before .before .before .pre in ((h .0 .0, h .0 .1, search needs), h .1)
+
 seal-requires : tie.Need-seal-requires
 seal-requires c κs = search needs
 
@@ -19,7 +22,14 @@ same-length : tie.Need-same-length
 same-length c = search needs
 
 returns : tie.Need-returns
-returns c = search head-sealed
+returns c =
+    head-sealed _
+    (c .before .before .before .before .before .before .before .before .before .before .before .before .before .before .before .before .before .before .before .before .before .pre .0 .0)
+    (c .before .before .before .before .before .before .before .before .before .before .before .before .before .before .before .before .before .before .clear .ensures)
+    (c .before .before .before .before .before .before .before .before .before .before .before .before .before .before .put-sizes .ensures)
+    (c .before .before .before .before .before .before .before .before .before .before .put-bounds .ensures)
+    (c .before .before .before .before .before .before .put-thresholds .ensures)
+    (c .before .before .seal .ensures)
 
 pub write-head-spec : {M : Type 1} → statement M
 write-head-spec =
@@ -28,6 +38,7 @@ write-head-spec =
     clear-requires
     put-sizes-requires
     put-bounds-requires
+    put-thresholds-requires
     seal-requires
     same-length
     returns)

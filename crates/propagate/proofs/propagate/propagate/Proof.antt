@@ -7,7 +7,8 @@ use mathlib.Core.Path.{_≡_, refl, ap, sym, _∙_}
 use borrow.Author.Needs.{needs}
 use denote.Ref.{now}
 use Rattle.model.specs.Move.{Move, newLower, newUpper, firstImprovement, nextMove, slack}
-use Rattle.layout.specs.Rows.{boxOf}
+use Rattle.model.specs.Threshold.{lifted, sunk}
+use Rattle.layout.specs.Rows.{numberIn, boxOf}
 use Rattle.layout.proofs.Rows.{box-lower, box-upper}
 use Rattle.state.specs.View.{keptCuts, numberFor}
 use Rattle.propagate.proofs.Looping.{Loop, ready-at, loop-set}
@@ -16,9 +17,10 @@ use Rattle.propagate.proofs.Steps.{answer, Next, scan-fits, stop-answer
 use Rattle.propagate.proofs.Tracking.{scan-box, shiftable, tracked-some, raised-closes, lowered-closes}
 use Rattle.propagate.proofs.Warning.{length-over, warned-first, improvement-over, row-low, testable, warned, all-clear, raise-spared, lower-spared}
 use mir.Facts.{toZ-ofZ}
-use lib.ListN.{length}
+use lib.IntN.{pos}
+use lib.ListN.{getD, length}
 use mir.Syntax.{w64}
-use mir.Val.{SFits}
+use mir.Val.{SFits, toZ, ofZ}
 use mathlib.Core.Option.{some}
 use Rattle.propagate.specs.Moves.{foundOf, stopOf}
 use Rattle.propagate.specs.declared.propagate.Found.the-variants.{Conflict, Decide}
@@ -37,11 +39,11 @@ use Rattle.propagate.proofs.propagate.decide_or_finish.Reads as decide-
 use Rattle.propagate.proofs.scan.first_improvement.Reads as first-improvement-reads
 
 abbrev Inv-loop : tie.InvT-loop
-Inv-loop rows lines divisors columns n m made inputs cuts told earlier lower₀ upper₀ below₀ above₀ activities₀ reaches₀ kept «open» falsified₀ count₀ lower upper below above activities reaches falsified count =
-    Loop (keptOver n m made rows lines divisors) n m made rows «open» lower₀ upper₀ below₀ above₀ earlier lower upper below above activities reaches falsified count
+Inv-loop rows lines divisors columns n m made inputs cuts thresholds told earlier lower₀ upper₀ below₀ above₀ activities₀ reaches₀ kept «open» falsified₀ count₀ lower upper below above activities reaches falsified count =
+    Loop thresholds (keptOver n m made rows lines divisors) n m made rows «open» lower₀ upper₀ below₀ above₀ earlier lower upper below above activities reaches falsified count
 
 abbrev μ-loop : tie.MeasureT-loop
-μ-loop rows lines divisors columns n m made inputs cuts told earlier lower₀ upper₀ below₀ above₀ activities₀ reaches₀ kept «open» falsified₀ count₀ lower upper below above activities reaches falsified count =
+μ-loop rows lines divisors columns n m made inputs cuts thresholds told earlier lower₀ upper₀ below₀ above₀ activities₀ reaches₀ kept «open» falsified₀ count₀ lower upper below above activities reaches falsified count =
     slack (boxOf n lower upper)
 
 -- where the function started, and that no constraint is falsified in the loop
@@ -54,15 +56,15 @@ here : (c : tie.In-loop Inv-loop μ-loop) →
 here c = c .loop-test .taken ∙ c .before .before .before .before .before .kept-count .ensures
 
 kept-count-requires : tie.Need-kept-count-requires Inv-loop μ-loop
-kept-count-requires c κs = c .pre .0 .inputs
+kept-count-requires c κs = c .pre .0 .0 .inputs
 
 open-mask-requires : tie.Need-open-mask-requires Inv-loop μ-loop
-open-mask-requires c κs = c .before .before .before .pre .0 .few
+open-mask-requires c κs = c .before .before .before .pre .0 .0 .few
 
 loop-holds : tie.Need-loop-holds Inv-loop μ-loop
 loop-holds c =
     let p = c .before .before .before .before .pre in
-    record { ready = p .0; same = λ d. refl; told = p .1 .0 .0; opens = c .open-mask .ensures; few = p .1 .1 .1 }
+    record { ready = p .0 .0; gapFree = p .0 .1; same = λ d. refl; told = p .1 .0 .0; opens = c .open-mask .ensures; few = p .1 .1 .1 }
 
 -- nothing is falsified in the loop
 clear : (c : tie.In-loop Inv-loop μ-loop) →
@@ -121,69 +123,95 @@ raise-level : (c : tie.After-known-told Inv-loop μ-loop) (d : ℕ) →
     let a = start l .args in
     let g = c .before .better .given .0 in
     let k = held (l .loop .lower) (l .loop .upper) (l .loop .below) (l .loop .above) d in
-    Next (keptOver (a .n) (a .m) (a .made) (now (a .rows)) (now (a .lines)) (now (a .divisors))) (a .n) (a .m) (a .made) (now (a .rows)) k (g .0) (g .1 .0) (raised k (g .1 .0) (g .1 .1 .0) (numberFor (a .m) (a .made) (g .0)))
+    Next (now (a .thresholds)) (keptOver (a .n) (a .m) (a .made) (now (a .rows)) (now (a .lines)) (now (a .divisors))) (a .n) (a .m) (a .made) (now (a .rows)) k (g .0) (g .1 .0) (raised k (g .1 .0) (lifted (numberIn (now (a .thresholds)) (g .1 .0)) (g .1 .1 .0)) (numberFor (a .m) (a .made) (g .0)))
 raise-level c d =
     let l = c .before .before .before .before .before .before .before .before .before in
-    raise-next _ _ _ _ _ (length-over _ _ _ _ _ _) (held (l .loop .lower) (l .loop .upper) (l .loop .below) (l .loop .above) d) (ready-at d (l .loop .inv .ready)) _ _ _ (raise-move c)
+    raise-next _ _ _ _ _ _ (length-over _ _ _ _ _ _) (held (l .loop .lower) (l .loop .upper) (l .loop .below) (l .loop .above) d) (ready-at d (l .loop .inv .ready)) (l .loop .inv .gapFree) _ _ _ (raise-move c)
 
 number-of-requires : tie.Need-number-of-requires Inv-loop μ-loop
 number-of-requires c κs =
     let v = c .before .before .before .before .before .before .before .before .before .loop .inv .ready in
     (unfold keptCuts in omega (arith, raise-level c 0 .constraint, v .inputs), v .cuts)
 
+mul-lift : tie.Need-mul-lift Inv-loop μ-loop
+mul-lift c = omega (arith, raise-level (c .before) 0 .variable, raise-level (c .before) 0 .ready .few)
+
+element-copy-out-lift : tie.Need-element-copy-out-lift Inv-loop μ-loop
+element-copy-out-lift c = omega (arith, raise-level (c .before) 0 .variable, raise-level (c .before) 0 .ready .few)
+
+lift-requires : tie.Need-lift-requires Inv-loop μ-loop
+lift-requires c κs = search needs
+
+-- where the bound jumps
+raised-to : (c : tie.After-lift Inv-loop μ-loop) →
+    let t = c .before .before .before in
+    let l = t .before .before .before .before .before .before .before .before .before in
+    let g = t .before .better .given .0 in
+    toZ w64 (ofZ w64 (c .lift .result)) ≡ lifted (numberIn (now (start l .args .thresholds)) (g .1 .0)) (g .1 .1 .0)
+unfolding numberIn
+raised-to c =
+    let t = c .before .before .before in
+    let l = t .before .before .before .before .before .before .before .before .before in
+    let g = t .before .better .given .0 in
+    let r : SFits w64 (c .lift .result) = search needs in
+    let v : SFits w64 (g .1 .1 .0) = search needs in
+    let u : SFits w64 (getD (now (start l .args .thresholds)) (g .1 .0) (pos 0)) = search needs in
+    toZ-ofZ r ∙ rw (toZ-ofZ v, toZ-ofZ u) at (c .lift .ensures)
+
 raise-lower-requires : tie.Need-raise-lower-requires Inv-loop μ-loop
 raise-lower-requires c κs =
-    let t = c .before .before .before .before in
+    let jump = c .before .before .before in
+    let t = jump .before .before .before in
     let l = t .before .before .before .before .before .before .before .before .before in
     let k = held (l .loop .lower) (l .loop .upper) (l .loop .below) (l .loop .above) 0 in
-    let v : SFits w64 (t .before .better .given .0 .1 .1 .0) = search needs in
-    rw (toZ-ofZ v, l .before .before .before .before .kept-count .ensures)
-    (raise-settable _ _ _ _ _ (length-over _ _ _ _ _ _) k (l .loop .inv .ready) _ _ _ (raise-move t), shiftable _ _ _ _ _ _ _ _ _ _ (scan-fits _ _ _ _ k (l .loop .inv .ready)) (tracked (t .before .before .before)) (raise-level t 0 .variable) (raise-rise _ _ _ _ _ (length-over _ _ _ _ _ _) k (l .loop .inv .ready) _ _ _ (raise-move t)) (record { within = omega arith }))
+    rw (l .before .before .before .before .kept-count .ensures, raised-to jump)
+    (raise-settable _ _ _ _ _ _ (length-over _ _ _ _ _ _) k (l .loop .inv .ready) (l .loop .inv .gapFree) _ _ _ (raise-move t), shiftable _ _ _ _ _ _ _ _ _ _ (scan-fits _ _ _ _ k (l .loop .inv .ready)) (tracked (t .before .before .before)) (raise-level t 0 .variable) (raise-rise _ _ _ _ _ _ (length-over _ _ _ _ _ _) k (l .loop .inv .ready) (l .loop .inv .gapFree) _ _ _ (raise-move t)) (record { within = omega arith }))
 
 mul-due : tie.Need-mul-due Inv-loop μ-loop
-mul-due c = omega (arith, raise-level (c .before .before .before .before .before) 0 .variable, raise-level (c .before .before .before .before .before) 0 .ready .few)
+mul-due c = omega (arith, raise-level (c .before .before .before .before .before .before .before) 0 .variable, raise-level (c .before .before .before .before .before .before .before) 0 .ready .few)
 
 element-copy-out-due : tie.Need-element-copy-out-due Inv-loop μ-loop
-element-copy-out-due c = omega (arith, raise-level (c .before .before .before .before .before) 0 .variable, raise-level (c .before .before .before .before .before) 0 .ready .few)
+element-copy-out-due c = omega (arith, raise-level (c .before .before .before .before .before .before .before) 0 .variable, raise-level (c .before .before .before .before .before .before .before) 0 .ready .few)
 
 first-indivisible-requires : tie.Need-first-indivisible-requires Inv-loop μ-loop
 first-indivisible-requires c κs =
     let r = c .before .before .before in
-    let t = r .before .before .before .before .before in
+    let jump = r .before .before .before .before in
+    let t = jump .before .before .before in
     let l = t .before .before .before .before .before .before .before .before .before in
-    let v : SFits w64 (t .before .better .given .0 .1 .1 .0) = search needs in
     let k = raise-level t 0 in
     let q = start l .pre .1 .1 .0 in
-    rw (r .raise-lower .ensures .0 .bound, toZ-ofZ v)
+    rw (r .raise-lower .ensures .0 .bound, raised-to jump)
     (testable _ _ _ _ _ _ _ _ (q .0) (k .ready .few) (k .ready .inputs) (scan-box (scan-fits _ _ _ _ _ (k .ready)) (k .ready .whole .lower) (k .ready .whole .upper)) (q .1 .at _ (k .variable) .few))
 
 add-count : tie.Need-add-count Inv-loop μ-loop
-add-count c = omega (arith, c .before .before .before .before .before .before .before .before .before .before .before .before .before .before .before .before .before .before .loop .inv .few)
+add-count c = omega (arith, c .before .before .before .before .before .before .before .before .before .before .before .before .before .before .before .before .before .before .before .before .loop .inv .few)
 
 loop-less : tie.Need-loop-less Inv-loop μ-loop
 loop-less c =
     let r = c .before .before .before .before in
-    let t = r .before .before .before .before .before in
-    let v : SFits w64 (t .before .better .given .0 .1 .1 .0) = search needs in
-    rw (r .raise-lower .ensures .0 .bound, toZ-ofZ v) (raise-level t 0 .less)
+    let jump = r .before .before .before .before in
+    let t = jump .before .before .before in
+    rw (r .raise-lower .ensures .0 .bound, raised-to jump) (raise-level t 0 .less)
 
 loop-again : tie.Need-loop-again Inv-loop μ-loop
 loop-again c =
     let r = c .before .before .before .before in
-    let t = r .before .before .before .before .before in
+    let jump = r .before .before .before .before in
+    let t = jump .before .before .before in
     let l = t .before .before .before .before .before .before .before .before .before in
     let a = start l .args in
     let g = t .before .better .given .0 in
     let q = start l .pre .1 .1 .0 in
-    let v : SFits w64 (g .1 .1 .0) = search needs in
+    let w = lifted (numberIn (now (a .thresholds)) (g .1 .0)) (g .1 .1 .0) in
     let room : a .n ≤ length (l .loop .lower) = omega (arith, l .loop .inv .ready .few, l .loop .inv .ready .whole .lower) in
-    let e = rw (toZ-ofZ v, l .before .before .before .before .kept-count .ensures) at (r .raise-lower .ensures .1) in
-    let f = rw (r .raise-lower .ensures .0 .bound, toZ-ofZ v) at (c .first-indivisible .ensures) in
-    rw (r .raise-lower .ensures .0 .bound, r .raise-lower .ensures .0 .why, r .before .before .before .before .number-of .ensures, toZ-ofZ v)
-    (loop-set _ _ _ _ _ _ _ _ _ _ _ _ _ _ _ _ _ _ _ (l .loop .inv) _ _ _ _ _ _ (g .1 .0) (g .0) _ _ _ _ (raise-level t) (tracked (t .before .before .before))
-    (raised-closes (a .n) _ _ _ (g .1 .0) (g .1 .1 .0) (raise-level t 0 .variable) room (raise-better _ _ _ _ _ (length-over _ _ _ _ _ _) (held (l .loop .lower) (l .loop .upper) (l .loop .below) (l .loop .above) 0) (l .loop .inv .ready) _ _ _ (raise-move t))) e
-    (λ w. warned _ _ _ _ _ _ _ _ _ _ (q .0) _ _ _ (Unmentioned (now (a .lines)) (g .1 .0)) w f (q .1 .at (g .1 .0) (raise-level t 0 .variable))
-    (λ j h z. rw (box-lower (a .n) (l .loop .lower) (l .loop .upper) (g .1 .0) (g .1 .1 .0) (raise-level t 0 .variable) (omega (arith, raise-level t 0 .variable, room))) (raise-spared _ _ _ _ _ _ (all-clear _ _ _ _ _ _ _ _ _ _ (clear (t .before .before .before .before .before .before .before .before))) (g .1 .0) (g .1 .1 .0) (raise-level t 0 .variable) j h z))))
+    let e = rw (l .before .before .before .before .kept-count .ensures, raised-to jump) at (r .raise-lower .ensures .1) in
+    let f = rw (r .raise-lower .ensures .0 .bound, raised-to jump) at (c .first-indivisible .ensures) in
+    rw (r .raise-lower .ensures .0 .bound, r .raise-lower .ensures .0 .why, jump .before .before .number-of .ensures, raised-to jump)
+    (loop-set _ _ _ _ _ _ _ _ _ _ _ _ _ _ _ _ _ _ _ _ (l .loop .inv) _ _ _ _ _ _ (g .1 .0) (g .0) _ _ _ _ (raise-level t) (tracked (t .before .before .before))
+    (raised-closes (a .n) _ _ _ (g .1 .0) w (raise-level t 0 .variable) room (raise-better _ _ _ _ _ _ (length-over _ _ _ _ _ _) (held (l .loop .lower) (l .loop .upper) (l .loop .below) (l .loop .above) 0) (l .loop .inv .ready) (l .loop .inv .gapFree) _ _ _ (raise-move t))) e
+    (λ told. warned _ _ _ _ _ _ _ _ _ _ (q .0) _ _ _ (Unmentioned (now (a .lines)) (g .1 .0)) told f (q .1 .at (g .1 .0) (raise-level t 0 .variable))
+    (λ j h z. rw (box-lower (a .n) (l .loop .lower) (l .loop .upper) (g .1 .0) w (raise-level t 0 .variable) (omega (arith, raise-level t 0 .variable, room))) (raise-spared _ _ _ _ _ _ (all-clear _ _ _ _ _ _ _ _ _ _ (clear (t .before .before .before .before .before .before .before .before))) (g .1 .0) w (raise-level t 0 .variable) j h z))))
 
 enum-known-better-2 : tie.Need-enum-known-better-2 Inv-loop μ-loop
 enum-known-better-2 c = search needs
@@ -202,69 +230,95 @@ lower-level : (c : tie.After-known-told2 Inv-loop μ-loop) (d : ℕ) →
     let a = start l .args in
     let g = c .before .better2 .given .0 in
     let k = held (l .loop .lower) (l .loop .upper) (l .loop .below) (l .loop .above) d in
-    Next (keptOver (a .n) (a .m) (a .made) (now (a .rows)) (now (a .lines)) (now (a .divisors))) (a .n) (a .m) (a .made) (now (a .rows)) k (g .0) (g .1 .0) (lowered k (g .1 .0) (g .1 .1 .0) (numberFor (a .m) (a .made) (g .0)))
+    Next (now (a .thresholds)) (keptOver (a .n) (a .m) (a .made) (now (a .rows)) (now (a .lines)) (now (a .divisors))) (a .n) (a .m) (a .made) (now (a .rows)) k (g .0) (g .1 .0) (lowered k (g .1 .0) (sunk (numberIn (now (a .thresholds)) (g .1 .0)) (g .1 .1 .0)) (numberFor (a .m) (a .made) (g .0)))
 lower-level c d =
     let l = c .before .before .before .before .before .before .before .before .before in
-    lower-next _ _ _ _ _ (length-over _ _ _ _ _ _) (held (l .loop .lower) (l .loop .upper) (l .loop .below) (l .loop .above) d) (ready-at d (l .loop .inv .ready)) _ _ _ (lower-move c)
+    lower-next _ _ _ _ _ _ (length-over _ _ _ _ _ _) (held (l .loop .lower) (l .loop .upper) (l .loop .below) (l .loop .above) d) (ready-at d (l .loop .inv .ready)) (l .loop .inv .gapFree) _ _ _ (lower-move c)
 
 number-of-requires-2 : tie.Need-number-of-requires-2 Inv-loop μ-loop
 number-of-requires-2 c κs =
     let v = c .before .before .before .before .before .before .before .before .before .loop .inv .ready in
     (unfold keptCuts in omega (arith, lower-level c 0 .constraint, v .inputs), v .cuts)
 
+mul-sink : tie.Need-mul-sink Inv-loop μ-loop
+mul-sink c = omega (arith, lower-level (c .before) 0 .variable, lower-level (c .before) 0 .ready .few)
+
+element-copy-out-sink : tie.Need-element-copy-out-sink Inv-loop μ-loop
+element-copy-out-sink c = omega (arith, lower-level (c .before) 0 .variable, lower-level (c .before) 0 .ready .few)
+
+sink-requires : tie.Need-sink-requires Inv-loop μ-loop
+sink-requires c κs = search needs
+
+-- where the bound jumps
+lowered-to : (c : tie.After-sink Inv-loop μ-loop) →
+    let t = c .before .before .before in
+    let l = t .before .before .before .before .before .before .before .before .before in
+    let g = t .before .better2 .given .0 in
+    toZ w64 (ofZ w64 (c .sink .result)) ≡ sunk (numberIn (now (start l .args .thresholds)) (g .1 .0)) (g .1 .1 .0)
+unfolding numberIn
+lowered-to c =
+    let t = c .before .before .before in
+    let l = t .before .before .before .before .before .before .before .before .before in
+    let g = t .before .better2 .given .0 in
+    let r : SFits w64 (c .sink .result) = search needs in
+    let v : SFits w64 (g .1 .1 .0) = search needs in
+    let u : SFits w64 (getD (now (start l .args .thresholds)) (g .1 .0) (pos 0)) = search needs in
+    toZ-ofZ r ∙ rw (toZ-ofZ v, toZ-ofZ u) at (c .sink .ensures)
+
 lower-upper-requires : tie.Need-lower-upper-requires Inv-loop μ-loop
 lower-upper-requires c κs =
-    let t = c .before .before .before .before in
+    let jump = c .before .before .before in
+    let t = jump .before .before .before in
     let l = t .before .before .before .before .before .before .before .before .before in
     let k = held (l .loop .lower) (l .loop .upper) (l .loop .below) (l .loop .above) 0 in
-    let v : SFits w64 (t .before .better2 .given .0 .1 .1 .0) = search needs in
-    rw (toZ-ofZ v, l .before .before .before .before .kept-count .ensures)
-    (lower-settable _ _ _ _ _ (length-over _ _ _ _ _ _) k (l .loop .inv .ready) _ _ _ (lower-move t), shiftable _ _ _ _ _ _ _ _ _ _ (scan-fits _ _ _ _ k (l .loop .inv .ready)) (tracked (t .before .before .before)) (lower-level t 0 .variable) (record { within = omega arith }) (lower-fall _ _ _ _ _ (length-over _ _ _ _ _ _) k (l .loop .inv .ready) _ _ _ (lower-move t)))
+    rw (l .before .before .before .before .kept-count .ensures, lowered-to jump)
+    (lower-settable _ _ _ _ _ _ (length-over _ _ _ _ _ _) k (l .loop .inv .ready) (l .loop .inv .gapFree) _ _ _ (lower-move t), shiftable _ _ _ _ _ _ _ _ _ _ (scan-fits _ _ _ _ k (l .loop .inv .ready)) (tracked (t .before .before .before)) (lower-level t 0 .variable) (record { within = omega arith }) (lower-fall _ _ _ _ _ _ (length-over _ _ _ _ _ _) k (l .loop .inv .ready) (l .loop .inv .gapFree) _ _ _ (lower-move t)))
 
 mul-due-2 : tie.Need-mul-due-2 Inv-loop μ-loop
-mul-due-2 c = omega (arith, lower-level (c .before .before .before .before .before) 0 .variable, lower-level (c .before .before .before .before .before) 0 .ready .few)
+mul-due-2 c = omega (arith, lower-level (c .before .before .before .before .before .before .before) 0 .variable, lower-level (c .before .before .before .before .before .before .before) 0 .ready .few)
 
 element-copy-out-due-2 : tie.Need-element-copy-out-due-2 Inv-loop μ-loop
-element-copy-out-due-2 c = omega (arith, lower-level (c .before .before .before .before .before) 0 .variable, lower-level (c .before .before .before .before .before) 0 .ready .few)
+element-copy-out-due-2 c = omega (arith, lower-level (c .before .before .before .before .before .before .before) 0 .variable, lower-level (c .before .before .before .before .before .before .before) 0 .ready .few)
 
 first-indivisible-requires-2 : tie.Need-first-indivisible-requires-2 Inv-loop μ-loop
 first-indivisible-requires-2 c κs =
     let r = c .before .before .before in
-    let t = r .before .before .before .before .before in
+    let jump = r .before .before .before .before in
+    let t = jump .before .before .before in
     let l = t .before .before .before .before .before .before .before .before .before in
-    let v : SFits w64 (t .before .better2 .given .0 .1 .1 .0) = search needs in
     let k = lower-level t 0 in
     let q = start l .pre .1 .1 .0 in
-    rw (r .lower-upper .ensures .0 .bound, toZ-ofZ v)
+    rw (r .lower-upper .ensures .0 .bound, lowered-to jump)
     (testable _ _ _ _ _ _ _ _ (q .0) (k .ready .few) (k .ready .inputs) (scan-box (scan-fits _ _ _ _ _ (k .ready)) (k .ready .whole .lower) (k .ready .whole .upper)) (q .1 .at _ (k .variable) .few))
 
 add-count-2 : tie.Need-add-count-2 Inv-loop μ-loop
-add-count-2 c = omega (arith, c .before .before .before .before .before .before .before .before .before .before .before .before .before .before .before .before .before .before .loop .inv .few)
+add-count-2 c = omega (arith, c .before .before .before .before .before .before .before .before .before .before .before .before .before .before .before .before .before .before .before .before .loop .inv .few)
 
 loop-less-2 : tie.Need-loop-less-2 Inv-loop μ-loop
 loop-less-2 c =
     let r = c .before .before .before .before in
-    let t = r .before .before .before .before .before in
-    let v : SFits w64 (t .before .better2 .given .0 .1 .1 .0) = search needs in
-    rw (r .lower-upper .ensures .0 .bound, toZ-ofZ v) (lower-level t 0 .less)
+    let jump = r .before .before .before .before in
+    let t = jump .before .before .before in
+    rw (r .lower-upper .ensures .0 .bound, lowered-to jump) (lower-level t 0 .less)
 
 loop-again-2 : tie.Need-loop-again-2 Inv-loop μ-loop
 loop-again-2 c =
     let r = c .before .before .before .before in
-    let t = r .before .before .before .before .before in
+    let jump = r .before .before .before .before in
+    let t = jump .before .before .before in
     let l = t .before .before .before .before .before .before .before .before .before in
     let a = start l .args in
     let g = t .before .better2 .given .0 in
     let q = start l .pre .1 .1 .0 in
-    let v : SFits w64 (g .1 .1 .0) = search needs in
+    let w = sunk (numberIn (now (a .thresholds)) (g .1 .0)) (g .1 .1 .0) in
     let room : a .n ≤ length (l .loop .upper) = omega (arith, l .loop .inv .ready .few, l .loop .inv .ready .whole .upper) in
-    let e = rw (toZ-ofZ v, l .before .before .before .before .kept-count .ensures) at (r .lower-upper .ensures .1) in
-    let f = rw (r .lower-upper .ensures .0 .bound, toZ-ofZ v) at (c .first-indivisible2 .ensures) in
-    rw (r .lower-upper .ensures .0 .bound, r .lower-upper .ensures .0 .why, r .before .before .before .before .number-of2 .ensures, toZ-ofZ v)
-    (loop-set _ _ _ _ _ _ _ _ _ _ _ _ _ _ _ _ _ _ _ (l .loop .inv) _ _ _ _ _ _ (g .1 .0) (g .0) _ _ _ _ (lower-level t) (tracked (t .before .before .before))
-    (lowered-closes (a .n) _ _ _ (g .1 .0) (g .1 .1 .0) (lower-level t 0 .variable) room (lower-better _ _ _ _ _ (length-over _ _ _ _ _ _) (held (l .loop .lower) (l .loop .upper) (l .loop .below) (l .loop .above) 0) (l .loop .inv .ready) _ _ _ (lower-move t))) e
-    (λ w. warned _ _ _ _ _ _ _ _ _ _ (q .0) _ _ _ (Unmentioned (now (a .lines)) (g .1 .0)) w f (q .1 .at (g .1 .0) (lower-level t 0 .variable))
-    (λ j h z. rw (box-upper (a .n) (l .loop .lower) (l .loop .upper) (g .1 .0) (g .1 .1 .0) (lower-level t 0 .variable) (omega (arith, lower-level t 0 .variable, room))) (lower-spared _ _ _ _ _ _ (all-clear _ _ _ _ _ _ _ _ _ _ (clear (t .before .before .before .before .before .before .before .before))) (g .1 .0) (g .1 .1 .0) (lower-level t 0 .variable) j h z))))
+    let e = rw (l .before .before .before .before .kept-count .ensures, lowered-to jump) at (r .lower-upper .ensures .1) in
+    let f = rw (r .lower-upper .ensures .0 .bound, lowered-to jump) at (c .first-indivisible2 .ensures) in
+    rw (r .lower-upper .ensures .0 .bound, r .lower-upper .ensures .0 .why, jump .before .before .number-of2 .ensures, lowered-to jump)
+    (loop-set _ _ _ _ _ _ _ _ _ _ _ _ _ _ _ _ _ _ _ _ (l .loop .inv) _ _ _ _ _ _ (g .1 .0) (g .0) _ _ _ _ (lower-level t) (tracked (t .before .before .before))
+    (lowered-closes (a .n) _ _ _ (g .1 .0) w (lower-level t 0 .variable) room (lower-better _ _ _ _ _ _ (length-over _ _ _ _ _ _) (held (l .loop .lower) (l .loop .upper) (l .loop .below) (l .loop .above) 0) (l .loop .inv .ready) (l .loop .inv .gapFree) _ _ _ (lower-move t))) e
+    (λ told. warned _ _ _ _ _ _ _ _ _ _ (q .0) _ _ _ (Unmentioned (now (a .lines)) (g .1 .0)) told f (q .1 .at (g .1 .0) (lower-level t 0 .variable))
+    (λ j h z. rw (box-upper (a .n) (l .loop .lower) (l .loop .upper) (g .1 .0) w (lower-level t 0 .variable) (omega (arith, lower-level t 0 .variable, room))) (lower-spared _ _ _ _ _ _ (all-clear _ _ _ _ _ _ _ _ _ _ (clear (t .before .before .before .before .before .before .before .before))) (g .1 .0) w (lower-level t 0 .variable) j h z))))
 
 enum-told : tie.Need-enum-told Inv-loop μ-loop
 enum-told c = search needs
@@ -279,8 +333,8 @@ returns c =
     let l = f .before .before .before .before .before .before in
     let v = l .loop .inv in
     let last = next-open _ _ _ _ (warned-first _ _ _ _ _ _ _ _ _ (length-over _ _ _ _ _ _) (clear (f .before .before .before .before .before))) (omega arith) (sym (ap foundOf (c .before .before .before .enum-told .given .1)) ∙ found f) in (
-      λ d. stop-answer _ _ _ _ _ (length-over _ _ _ _ _ _) (held (l .loop .lower) (l .loop .upper) (l .loop .below) (l .loop .above) d) (ready-at d (v .ready)) _ _ (c .decide-or-finish .ensures ∙ last) ∙ sym (v .same d),
-      (v .ready, (tracked-some _ _ _ _ _ _ _ 0 (omega arith) (tracked f), λ i e. tracked f)),
+      λ d. stop-answer _ _ _ _ _ _ (length-over _ _ _ _ _ _) (held (l .loop .lower) (l .loop .upper) (l .loop .below) (l .loop .above) d) (ready-at d (v .ready)) (v .gapFree) _ _ (c .decide-or-finish .ensures ∙ last) ∙ sym (v .same d),
+      ((v .ready, v .gapFree), (tracked-some _ _ _ _ _ _ _ 0 (omega arith) (tracked f), λ i e. tracked f)),
     )
 
 -- the loop is left where a constraint is falsified
@@ -298,8 +352,8 @@ unfolding answer stopOf
 returns-2 c =
     let l = c .before in
     let v = l .loop .inv in (
-      λ d. stop-answer _ _ _ _ _ (length-over _ _ _ _ _ _) (held (l .loop .lower) (l .loop .upper) (l .loop .below) (l .loop .above) d) (ready-at d (v .ready)) _ _ (next-conflict _ _ _ _ (warned-first _ _ _ _ _ _ _ _ _ (length-over _ _ _ _ _ _) (v .told)) (falsified c)) ∙ sym (v .same d),
-      (v .ready, (v .told .lengths, λ i e. absurd (no-decision _ i e))),
+      λ d. stop-answer _ _ _ _ _ _ (length-over _ _ _ _ _ _) (held (l .loop .lower) (l .loop .upper) (l .loop .below) (l .loop .above) d) (ready-at d (v .ready)) (v .gapFree) _ _ (next-conflict _ _ _ _ (warned-first _ _ _ _ _ _ _ _ _ (length-over _ _ _ _ _ _) (v .told)) (falsified c)) ∙ sym (v .same d),
+      ((v .ready, v .gapFree), (v .told .lengths, λ i e. absurd (no-decision _ i e))),
     )
 
 pub propagate-spec : {M : Type 1} → statement M
@@ -314,6 +368,9 @@ propagate-spec =
     first-improvement-requires
     enum-known-better
     number-of-requires
+    mul-lift
+    element-copy-out-lift
+    lift-requires
     raise-lower-requires
     mul-due
     element-copy-out-due
@@ -323,6 +380,9 @@ propagate-spec =
     loop-again
     enum-known-better-2
     number-of-requires-2
+    mul-sink
+    element-copy-out-sink
+    sink-requires
     lower-upper-requires
     mul-due-2
     element-copy-out-due-2

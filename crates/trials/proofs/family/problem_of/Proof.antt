@@ -7,16 +7,16 @@ use Rattle.trials.proofs.family.problem_of.Statement.{statement}
 use Rattle.trials.proofs.family.problem_of.Tie as tie
 
 abbrev Inv-loop : tie.InvT-loop
-Inv-loop f k lower₀ upper₀ left₀ i₀ lower upper left i = (i ≤ 6) × (length lower ≡ 32) × (length upper ≡ 32)
+Inv-loop f k lower₀ upper₀ thresholds₀ left₀ i₀ lower upper thresholds left i = (i ≤ 6) × (length lower ≡ 32) × (length upper ≡ 32) × (length thresholds ≡ 32)
 
 abbrev μ-loop : tie.MeasureT-loop
-μ-loop f k lower₀ upper₀ left₀ i₀ lower upper left i = 6 - i
+μ-loop f k lower₀ upper₀ thresholds₀ left₀ i₀ lower upper thresholds left i = 6 - i
 
 loop-holds : tie.Need-loop-holds Inv-loop μ-loop
 loop-holds c = search needs
 
-digit-of-requires : tie.Need-digit-of-requires Inv-loop μ-loop
-digit-of-requires c κs = search needs
+draw-box-requires : tie.Need-draw-box-requires Inv-loop μ-loop
+draw-box-requires c κs = search needs
 
 mul-lower : tie.Need-mul-lower Inv-loop μ-loop
 mul-lower c = search needs
@@ -42,6 +42,18 @@ mul-upper-2 c = search needs
 array-set-from-upper : tie.Need-array-set-from-upper Inv-loop μ-loop
 array-set-from-upper c = search needs
 
+mul-thresholds : tie.Need-mul-thresholds Inv-loop μ-loop
+mul-thresholds c = search needs
+
+array-copy-out-thresholds : tie.Need-array-copy-out-thresholds Inv-loop μ-loop
+array-copy-out-thresholds c = search needs
+
+mul-thresholds-2 : tie.Need-mul-thresholds-2 Inv-loop μ-loop
+mul-thresholds-2 c = search needs
+
+array-set-from-thresholds : tie.Need-array-set-from-thresholds Inv-loop μ-loop
+array-set-from-thresholds c = search needs
+
 add-i : tie.Need-add-i Inv-loop μ-loop
 add-i c = search needs
 
@@ -49,7 +61,7 @@ loop-less : tie.Need-loop-less Inv-loop μ-loop
 loop-less c = search needs
 
 loop-again : tie.Need-loop-again Inv-loop μ-loop
-loop-again c = (search needs, simp length-set (search needs), simp length-set (search needs))
+loop-again c = (search needs, simp length-set (search needs), simp length-set (search needs), simp length-set (search needs))
 
 divisors-of-requires : tie.Need-divisors-of-requires Inv-loop μ-loop
 divisors-of-requires c κs = search needs
@@ -67,7 +79,7 @@ problem-of-spec =
     Inv-loop
     μ-loop
     loop-holds
-    digit-of-requires
+    draw-box-requires
     mul-lower
     array-copy-out-lower
     mul-lower-2
@@ -76,6 +88,10 @@ problem-of-spec =
     array-copy-out-upper
     mul-upper-2
     array-set-from-upper
+    mul-thresholds
+    array-copy-out-thresholds
+    mul-thresholds-2
+    array-set-from-thresholds
     add-i
     loop-less
     loop-again

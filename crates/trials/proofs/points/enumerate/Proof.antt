@@ -5,10 +5,10 @@ use Rattle.trials.proofs.points.enumerate.Statement.{statement}
 use Rattle.trials.proofs.points.enumerate.Tie as tie
 
 abbrev Inv-loop : tie.InvT-loop
-Inv-loop p cut e₀ lower upper x₀ i₀ e x i = i ≤ 128
+Inv-loop p cut e₀ lower upper thresholds x₀ i₀ e x i = i ≤ 128
 
 abbrev μ-loop : tie.MeasureT-loop
-μ-loop p cut e₀ lower upper x₀ i₀ e x i = 128 - i
+μ-loop p cut e₀ lower upper thresholds x₀ i₀ e x i = 128 - i
 
 loop-holds : tie.Need-loop-holds Inv-loop μ-loop
 loop-holds c = search needs

@@ -5,10 +5,10 @@ use Rattle.trials.proofs.points.goes_on.Statement.{statement}
 use Rattle.trials.proofs.points.goes_on.Tie as tie
 
 abbrev Inv-loop : tie.InvT-loop
-Inv-loop x₀ lower upper i₀ x i = i ≤ 6
+Inv-loop x₀ lower upper thresholds i₀ x i = i ≤ 6
 
 abbrev μ-loop : tie.MeasureT-loop
-μ-loop x₀ lower upper i₀ x i = i
+μ-loop x₀ lower upper thresholds i₀ x i = i
 
 loop-holds : tie.Need-loop-holds Inv-loop μ-loop
 loop-holds c = search needs
@@ -28,17 +28,23 @@ mul-if1-2 c = search needs
 element-copy-out-if1-2 : tie.Need-element-copy-out-if1-2 Inv-loop μ-loop
 element-copy-out-if1-2 c = search needs
 
-mul-added : tie.Need-mul-added Inv-loop μ-loop
-mul-added c = search needs
+mul-value-after : tie.Need-mul-value-after Inv-loop μ-loop
+mul-value-after c = search needs
 
-element-copy-out-added : tie.Need-element-copy-out-added Inv-loop μ-loop
-element-copy-out-added c = search needs
+element-copy-out-value-after : tie.Need-element-copy-out-value-after Inv-loop μ-loop
+element-copy-out-value-after c = search needs
 
-added-requires : tie.Need-added-requires Inv-loop μ-loop
-added-requires c κs = search needs
+mul-value-after-2 : tie.Need-mul-value-after-2 Inv-loop μ-loop
+mul-value-after-2 c = search needs
 
-mul-t19 : tie.Need-mul-t19 Inv-loop μ-loop
-mul-t19 c = search needs
+element-copy-out-value-after-2 : tie.Need-element-copy-out-value-after-2 Inv-loop μ-loop
+element-copy-out-value-after-2 c = search needs
+
+value-after-requires : tie.Need-value-after-requires Inv-loop μ-loop
+value-after-requires c κs = search needs
+
+mul-t24 : tie.Need-mul-t24 Inv-loop μ-loop
+mul-t24 c = search needs
 
 element-set-from-x : tie.Need-element-set-from-x Inv-loop μ-loop
 element-set-from-x c = search needs
@@ -52,8 +58,8 @@ mul-x c = search needs
 element-copy-out-x : tie.Need-element-copy-out-x Inv-loop μ-loop
 element-copy-out-x c = search needs
 
-mul-t10 : tie.Need-mul-t10 Inv-loop μ-loop
-mul-t10 c = search needs
+mul-t11 : tie.Need-mul-t11 Inv-loop μ-loop
+mul-t11 c = search needs
 
 element-set-from-x-2 : tie.Need-element-set-from-x-2 Inv-loop μ-loop
 element-set-from-x-2 c = search needs
@@ -79,15 +85,17 @@ goes-on-spec =
     element-copy-out-if1
     mul-if1-2
     element-copy-out-if1-2
-    mul-added
-    element-copy-out-added
-    added-requires
-    mul-t19
+    mul-value-after
+    element-copy-out-value-after
+    mul-value-after-2
+    element-copy-out-value-after-2
+    value-after-requires
+    mul-t24
     element-set-from-x
     returns
     mul-x
     element-copy-out-x
-    mul-t10
+    mul-t11
     element-set-from-x-2
     loop-less
     loop-again

@@ -1,5 +1,5 @@
 -- `validate::levels::is_level_valid` meets its contract. Assumes nothing.
-use Rattle.validate.proofs.LevelLoops.{level-box, level-reasons}
+use Rattle.validate.proofs.LevelLoops.{level-box, level-reasons, level-gaps}
 use borrow.Author.Needs.{needs}
 use Rattle.validate.proofs.levels.is_level_valid.Statement.{statement}
 use Rattle.validate.proofs.levels.is_level_valid.Tie as tie
@@ -16,6 +16,19 @@ are-reasons-valid-requires c κs = search needs
 returns-2 : tie.Need-returns-2
 returns-2 c = search (needs, level-reasons)
 
+are-outside-requires : tie.Need-are-outside-requires
+are-outside-requires c κs = search needs
+
+returns-3 : tie.Need-returns-3
+returns-3 c = search (needs, level-gaps)
+
 pub is-level-valid-spec : {M : Type 1} → statement M
 is-level-valid-spec =
-    tie.close (tie.spec is-box-in-range-requires returns are-reasons-valid-requires returns-2)
+    tie.close
+    (tie.spec
+    is-box-in-range-requires
+    returns
+    are-reasons-valid-requires
+    returns-2
+    are-outside-requires
+    returns-3)

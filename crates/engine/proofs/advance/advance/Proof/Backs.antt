@@ -25,7 +25,7 @@ abbrev left : tie.After-whole3 Inv-loop μ-loop → tie.At-match-came Inv-loop �
 left b = b .before .before .before
 
 abbrev copied : tie.After-go-back Inv-loop μ-loop → tie.After-whole3 Inv-loop μ-loop
-copied c = c .before .before .before .before .before .before .before .before .before .before .before .before .before .before .before .before .before .before
+copied c = c .before .before .before .before .before .before .before .before .before .before .before .before .before .before .before .before .before .before .before
 
 -- ---- by either way
 goes : (c : tie.At-match-came Inv-loop μ-loop) →
@@ -55,7 +55,7 @@ returning : (b : tie.After-whole3 Inv-loop μ-loop) →
     let l = round p in
     let s = start l .args .s in
     let v = l .loop in
-    Back (s .rows) (s .divisors) (s .n) (s .m) (v .rows) (v .numbers) (v .levels) (v .made) (v .depth) (here p) (m .back) (m .made) (m .rows)
+    Back (s .thresholds) (s .rows) (s .divisors) (s .n) (s .m) (v .rows) (v .numbers) (v .levels) (v .made) (v .depth) (here p) (m .back) (m .made) (m .rows)
 returning b =
     let g = goes (left b) in
     let r = running (left b .before) in
@@ -63,7 +63,7 @@ returning b =
 
 pub go-back-requires : tie.Need-go-back-requires Inv-loop μ-loop
 go-back-requires c κs =
-    let b = c .before .before .before .before .before .before .before .before .before .before .before .before .before .before .before .before .before in
+    let b = c .before .before .before .before .before .before .before .before .before .before .before .before .before .before .before .before .before .before in
     let p = left b .before in
     let l = round p in
     let g = goes (left b) in
@@ -77,7 +77,7 @@ lesser-requires c κs = search needs
 flipped-is : (c : tie.After-go-back Inv-loop μ-loop) →
     let b = copied c in
     let o = b .whole3 .result in
-    flippedTo (returning b) ≡ held (c .go-back .last .1 .1 .1 .1 .1 .1 .1 .1 .1 .1 .1 .1 .1 .1 .1 .1 .0) (o .upper) (c .go-back .last .1 .1 .1 .1 .1 .1 .1 .1 .1 .1 .1 .1 .1 .1 .1 .1 .1 .0) (o .above) (o .decided)
+    flippedTo (returning b) ≡ held (c .go-back .last .1 .1 .1 .1 .1 .1 .1 .1 .1 .1 .1 .1 .1 .1 .1 .1 .1 .0) (o .upper) (c .go-back .last .1 .1 .1 .1 .1 .1 .1 .1 .1 .1 .1 .1 .1 .1 .1 .1 .1 .1 .0) (o .above) (o .decided)
 flipped-is c =
     let b = copied c in
     returned-level (returning b) (carried (left b .before)) (b .whole3 .result) (left b .match .flipped) (b .whole3 .ensures .0) (goes (left b) .variable) (c .go-back .ensures)

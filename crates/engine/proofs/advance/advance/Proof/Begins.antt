@@ -27,7 +27,7 @@ use Rattle.engine.proofs.advance.advance.Proof.Loop.{Inv-loop, μ-loop}
 
 -- ---- the places
 abbrev begin : tie.After-whole Inv-loop μ-loop → tie.Start Inv-loop μ-loop
-begin w = w .before .before .before .before .before .before .before .before
+begin w = w .before .before .before .before .before .before .before .before .before
 
 abbrev opened : tie.After-put-rows Inv-loop μ-loop → tie.After-whole Inv-loop μ-loop
 opened p = p .before .before .before .before .before .before .before .before .before .before .before
@@ -37,10 +37,10 @@ put t = t .before .before .before .before .before .before .before .before .befor
 
 -- ---- what the calls before the loop ask
 pub mul-whole : tie.Need-mul-whole Inv-loop μ-loop
-mul-whole c = omega (arith, start-depth (c .before .before .before .before .before .before .pre))
+mul-whole c = omega (arith, start-depth (c .before .before .before .before .before .before .before .pre))
 
 pub array-copy-out-whole : tie.Need-array-copy-out-whole Inv-loop μ-loop
-array-copy-out-whole c = start-depth (c .before .before .before .before .before .before .pre)
+array-copy-out-whole c = start-depth (c .before .before .before .before .before .before .before .pre)
 
 pub whole-requires : tie.Need-whole-requires Inv-loop μ-loop
 whole-requires c κs = tt
@@ -48,8 +48,8 @@ whole-requires c κs = tt
 -- the state's arrays are as long as they are declared
 lengths : (c : tie.After-whole Inv-loop μ-loop) →
     let s = begin c .args .s in
-    (length (s .rows) ≡ rowsLength) × ((length (s .divisors) ≡ 64) × ((length (s .numbers) ≡ 64) × (length (s .levels) ≡ 33)))
-lengths c = (search needs, (search needs, (search needs, search (needs, elements-kept))))
+    (length (s .rows) ≡ rowsLength) × ((length (s .divisors) ≡ 64) × ((length (s .numbers) ≡ 64) × ((length (s .levels) ≡ 33) × (length (s .thresholds) ≡ 32))))
+lengths c = (search needs, (search needs, (search needs, (search (needs, elements-kept), search needs))))
 
 pub mirror-requires : tie.Need-mirror-requires Inv-loop μ-loop
 mirror-requires c κs = (omega (arith, start-depth (begin (c .before .before .before .before .before .before) .pre)), (search needs, search needs))
@@ -73,12 +73,12 @@ begins : (c : tie.After-put-rows Inv-loop μ-loop) →
     let a = begin (opened c) .args in
     let s = a .s in
     let w = opened c .whole .result in
-    Running (view (startOf s)) (now (a .buffer)) (a .limit) (a .keep) (s .rows) (s .divisors) (s .n) (s .m) (s .budget) (now (a .buffer)) (c .put-rows .last .1 .1 .1 .1 .0) (s .numbers) (s .levels) (s .made) (s .conflicts) (s .depth) w w (s .depth) 0 (s .propagations) (s .propagations)
+    Running (view (startOf s)) (now (a .buffer)) (a .limit) (a .keep) (s .thresholds) (s .rows) (s .divisors) (s .n) (s .m) (s .budget) (now (a .buffer)) (c .put-rows .last .1 .1 .1 .1 .0) (s .numbers) (s .levels) (s .made) (s .conflicts) (s .depth) w w (s .depth) 0 (s .propagations) (s .propagations)
 begins c =
     let w = opened c .whole in
     let l : Whole (w .result) = rw (w .ensures .0) (w .ensures .1) in
     let z = lengths (opened c) in
-    running-starts (begin (opened c) .pre) _ (c .put-rows .ensures) (z .0) (z .1 .0) (w .result) (w .ensures .0) l (z .1 .1 .0) (z .1 .1 .1)
+    running-starts (begin (opened c) .pre) _ (c .put-rows .ensures) (z .0) (z .1 .0) (w .result) (w .ensures .0) l (z .1 .1 .0) (z .1 .1 .1 .0) (z .1 .1 .1 .1)
 
 pub track-requires : tie.Need-track-requires Inv-loop μ-loop
 track-requires c κs =

@@ -58,7 +58,7 @@ pub conflict-requires : tie.Need-conflict-requires Inv-loop μ-loop
 conflict-requires c κs =
     let f = c .before .before .before .before .before .before .before .before .before .before .before .before .before .before in
     let p = clashed f in
-    let q = p .propagate .ensures .1 .0 in
+    let q = p .propagate .ensures .1 .0 .0 in
     let v = carried p in
     countable (running p) (here p) (f .found2 .given .0 .0) (moved p _ (conflict-at f)) 0 _ _ (v .bounds) _ (v .masks .cutRoom) (round p .loop .inv .here .more (going p))
     (learnable (running p) (here p) (p .propagate .result) (answered p) (f .found2 .given .0 .0) (conflict-at f) (whole-here p, q .bounds))
@@ -70,7 +70,7 @@ pub met : (c : tie.After-conflict Inv-loop μ-loop) →
     let a = start l .args in
     let s = a .s in
     let v = l .loop in
-    Meets (v .inv .base) (now (a .buffer)) (v .left) (a .keep) (s .rows) (s .divisors) (s .n) (s .m) (s .budget) (v .buffer) (v .rows) (v .numbers) (v .levels) (v .made) (v .conflicts) (v .depth) (held (v .lower) (v .upper) (v .below) (v .above) (v .decided)) (v .before) (v .start) (v .done) (v .earlier) (v .propagations)
+    Meets (v .inv .base) (now (a .buffer)) (v .left) (a .keep) (s .thresholds) (s .rows) (s .divisors) (s .n) (s .m) (s .budget) (v .buffer) (v .rows) (v .numbers) (v .levels) (v .made) (v .conflicts) (v .depth) (held (v .lower) (v .upper) (v .below) (v .above) (v .decided)) (v .before) (v .start) (v .done) (v .earlier) (v .propagations)
     (here p) (p .propagate .result .count) (c .conflict .result .back) (c .conflict .result .made) (c .conflict .last .1 .1 .1 .1 .1 .1 .1 .1 .1 .1 .1 .1 .1 .1 .0) (c .conflict .last .1 .1 .1 .1 .1 .1 .1 .1 .1 .1 .1 .1 .1 .1 .1 .0) (c .conflict .last .1 .1 .1 .1 .1 .1 .1 .1 .1 .1 .1 .1 .1 .1 .1 .1 .1 .1 .1 .0)
 met c =
     let f = conflicted c in
@@ -92,4 +92,4 @@ loop-again-4 c =
     let x = c .before .before .before in
     let p = clashed (conflicted x) in
     go-on (round p .loop .inv)
-    (ends (at-level _ _ _ _ _ _ _ _ _ _ _ _ _ _ _ (counted-none (met x) (c .if3 .taken))) (unsolved NoSolution tt) (met x .kept .apart) (met x .kept .rowsLong) (depth-small (running p)) (levels-long p) (x .conflict .kept .1 .1 .1 .1 .1 .1 .1 .1 .1 .1 .1 .1 .1 .1 .1 .1 .1 .1 .1 .0 ∙ round p .loop .inv .here .bytes))
+    (ends (at-level _ _ _ _ _ _ _ _ _ _ _ _ _ _ _ _ (counted-none (met x) (c .if3 .taken))) (unsolved NoSolution tt) (met x .kept .apart) (met x .kept .rowsLong) (depth-small (running p)) (levels-long p) (x .conflict .kept .1 .1 .1 .1 .1 .1 .1 .1 .1 .1 .1 .1 .1 .1 .1 .1 .1 .1 .1 .0 ∙ round p .loop .inv .here .bytes))

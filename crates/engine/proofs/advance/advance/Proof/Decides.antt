@@ -21,7 +21,7 @@ use Rattle.engine.proofs.Carrying.{clear-more}
 use Rattle.engine.proofs.Due.{decided-warned}
 use Rattle.engine.proofs.Looping.{ready-with, running-with}
 use Rattle.engine.proofs.Striking.{go-on}
-use Rattle.engine.proofs.Rounds.{depth-small, ready, countable, decided-here, decide-less, clear-here}
+use Rattle.engine.proofs.Rounds.{depth-small, ready, countable, decided-here, decide-less, clear-here, gap-free}
 use Rattle.engine.proofs.advance.advance.Tie as tie
 use Rattle.engine.proofs.advance.advance.Proof.Loop.{Inv-loop, μ-loop, start, columned, round, here, going, running, carried, answered, moved, whole-here, levels-long}
 
@@ -35,10 +35,10 @@ left d = d .before .before .before .before .before .before .before .before .befo
 -- ---- a round
 pub propagate-requires : tie.Need-propagate-requires Inv-loop μ-loop
 propagate-requires c κs =
-    let l = c .before .before .before .before .before .before .before .before .before .before .before .before .before in
-    let g = c .before .before .before .before .before .before .before .before .before .before .before .before .loop-test .taken in
+    let l = c .before .before .before .before .before .before .before .before .before .before .before .before .before .before in
+    let g = c .before .before .before .before .before .before .before .before .before .before .before .before .before .loop-test .taken in
     let v = l .loop .inv .here .carried g in
-    (ready-with 0 (ready (l .loop .inv .here .running g)), ((v .falsified, v .masks), ((l .loop .inv .here .apart, columned l .columns .ensures), countable (l .loop .inv .here .running g))))
+    ((ready-with 0 (ready (l .loop .inv .here .running g)), gap-free (l .loop .inv .here .running g)), ((v .falsified, v .masks), ((l .loop .inv .here .apart, columned l .columns .ensures), countable (l .loop .inv .here .running g))))
 
 pub mul-levels : tie.Need-mul-levels Inv-loop μ-loop
 mul-levels c = omega (arith, depth-small (running c))
@@ -68,7 +68,7 @@ decide-requires c κs =
     let f = c .before .before .before .before .before .before .before .before .before .before .before .before .before .before .before .before in
     let p = chosen f in
     let r = running p in
-    let q = p .propagate .ensures .1 .0 in
+    let q = p .propagate .ensures .1 .0 .0 in
     record {
       inputs = r .counts .inputs;
       fits = scan-fits _ _ _ _ _ q;
@@ -94,7 +94,7 @@ decided : (d : tie.After-decide Inv-loop μ-loop) →
     let a = start l .args in
     let s = a .s in
     let v = l .loop in
-    Running (v .inv .base) (now (a .buffer)) (v .left) (a .keep) (s .rows) (s .divisors) (s .n) (s .m) (s .budget) (v .buffer) (v .rows) (v .numbers) (set (v .levels) (v .depth) (here p)) (v .made) (v .conflicts) (v .depth + 1)
+    Running (v .inv .base) (now (a .buffer)) (v .left) (a .keep) (s .thresholds) (s .rows) (s .divisors) (s .n) (s .m) (s .budget) (v .buffer) (v .rows) (v .numbers) (set (v .levels) (v .depth) (here p)) (v .made) (v .conflicts) (v .depth + 1)
     (held (here p .lower) (d .decide .last .1 .1 .1 .1 .1 .1 .1 .1 .0) (here p .below) (d .decide .last .1 .1 .1 .1 .1 .1 .1 .1 .1 .0) (f .found .given .0 .0)) (v .before) (v .start) (v .done) (v .earlier) (p .propagate .result .count)
 unfolding numberIn
 decided d =

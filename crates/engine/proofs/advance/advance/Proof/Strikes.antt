@@ -49,7 +49,7 @@ loop-again-2 c =
     let l = round p in
     let g = l .loop .inv .here in
     go-on (l .loop .inv)
-    (ends (at-level _ _ _ _ _ _ _ _ _ _ _ _ _ _ _ (finishes (running p) (here p) _ (g .more (going p)) (moved p finish (finish-at t)))) (λ e. last-final _ _ _ _ _ (t .is-last .ensures) (c .if1 .taken)) (g .apart) (g .rowsLong)
+    (ends (at-level _ _ _ _ _ _ _ _ _ _ _ _ _ _ _ _ (finishes (running p) (here p) _ (g .more (going p)) (moved p finish (finish-at t)))) (λ e. last-final _ _ _ _ _ (t .is-last .ensures) (c .if1 .taken)) (g .apart) (g .rowsLong)
     (depth-small (running p)) (levels-long p) (g .bytes))
 
 -- ---- one that is struck out: a decision led to it, and there is room for it
