@@ -1,4 +1,4 @@
-// A counted conflict: what is learned from it, the level to go back to, and its journal record.
+// Whether a conflict can be counted; and a counted one: what is learned from it, the level to go back to, and its journal record.
 pub mod learn;
 
 use crate::learn::learn;
@@ -9,8 +9,17 @@ use layout::copy_row;
 use record::emit;
 use state::kept::divisor_of;
 use state::kept::number_of;
+ghost use mathlib.Core.Bool.{true, false};
+ghost use mathlib.Core.Path.{_≡_};
 ghost use Rattle.state.specs.Change.{held};
 ghost use Rattle.conflict.specs.Counting.{Countable, Counted, Dismissable, Dismissed};
+
+// Whether the budget has no conflict left.
+pub fn is_spent(conflicts: usize, budget: usize) -> bool
+    ensures { λ r. ⌜ (r ≡ true → conflicts ≡ budget) × (r ≡ false → ¬ (conflicts ≡ budget)) ⌝ }
+{
+    conflicts == budget
+}
 
 // The backjump level, and how many cuts are made now.
 pub struct Met {

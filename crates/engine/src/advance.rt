@@ -11,6 +11,7 @@ use backtrack::mirror::mirror;
 use backtrack::struck::is_last;
 use backtrack::struck::put_values;
 use conflict::conflict;
+use conflict::is_spent;
 use propagate::divided::columns;
 use propagate::divided::divided_mask;
 use propagate::divided::first_indivisible;
@@ -175,7 +176,7 @@ pub fn advance(
                 done = 0;
             }
             Found::Conflict(j) => {
-                if conflicts == budget {
+                if is_spent(conflicts, budget) {
                     ending = Ending::OutOfBudget;
                     going = false;
                     continue;

@@ -18,7 +18,7 @@ use Rattle.engine.proofs.advance.advance.Proof.Loop.{Inv-loop, μ-loop,
 use Rattle.engine.proofs.advance.advance.Proof.Begins.{mul-whole, array-copy-out-whole, whole-requires, mirror-requires, put-rows-requires, divided-mask-requires, columns-requires, track-requires, first-indivisible-requires, loop-holds}
 use Rattle.engine.proofs.advance.advance.Proof.Decides.{propagate-requires, mul-levels, array-set-from-levels, enum-known-found, keep-bounds-requires, decide-requires, mul-due, array-read-due, first-indivisible-requires-2, add-depth, loop-less, loop-again}
 use Rattle.engine.proofs.advance.advance.Proof.Strikes.{enum-told, is-last-requires, loop-less-2, loop-again-2, put-values-requires, add-struck, sub-left}
-use Rattle.engine.proofs.advance.advance.Proof.Counts.{enum-known-found-2, loop-less-3, loop-again-3, add-conflicts, conflict-requires, add-done, loop-less-4, loop-again-4}
+use Rattle.engine.proofs.advance.advance.Proof.Counts.{enum-known-found-2, is-spent-requires, loop-less-3, loop-again-3, add-conflicts, conflict-requires, add-done, loop-less-4, loop-again-4}
 use Rattle.engine.proofs.advance.advance.Proof.Returns.{mul-whole-2, array-copy-out-whole-2, whole-requires-2}
 use Rattle.engine.proofs.advance.advance.Proof.Backs.{sub-depth, mul-whole-3, array-copy-out-whole-3, whole-requires-3, go-back-requires, lesser-requires, loop-less-5, loop-again-5}
 
@@ -89,6 +89,7 @@ advance-spec =
     add-struck
     sub-left
     enum-known-found-2
+    is-spent-requires
     loop-less-3
     loop-again-3
     add-conflicts

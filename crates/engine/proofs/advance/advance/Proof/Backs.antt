@@ -34,7 +34,7 @@ goes : (c : tie.At-match-came Inv-loop μ-loop) →
 goes c =
     ⊎-elim
     (λ w. goes-same (w .8) (w .9) (w .10) (w .11) (w .12) (w .13) (w .14) (w .15) (w .16) (w .17) (w .18) (w .19) (w .20) (w .21) (w .22) (strikes (record { before = record { before = record { before = record { before = record { before = record { before = record { before = record { before = c .before; match = w .0 }; enum-told = w .1 }; is-last = w .2 }; if1 = w .3 }; lower8 = w .4 }; put-values-arg = w .5 }; put-values = w .6 }; solutions = w .7 })))
-    (λ w. goes-same (w .22) (w .23) (w .24) (w .25) (w .26) (w .27) (w .28) (w .29) (w .30) (w .31) (w .32) (w .33) (w .34) (w .35) (w .36) (returns (record { before = record { before = record { before = record { before = record { before = record { before = record { before = record { before = record { before = record { before = record { before = record { before = record { before = record { before = record { before = record { before = record { before = record { before = record { before = record { before = record { before = record { before = c .before; match = w .0 }; found2 = w .1 }; known-told2 = w .2 }; if2 = w .3 }; lower9 = w .4 }; upper8 = w .5 }; below3 = w .6 }; above4 = w .7 }; lines6 = w .8 }; divisors8 = w .9 }; rows6 = w .10 }; numbers2 = w .11 }; cuts3 = w .12 }; lowers3 = w .13 }; uppers3 = w .14 }; conflict-arg = w .15 }; conflict = w .16 }; buffer = w .17 }; slice-known2 = w .18 }; if3 = w .19 }; whole-arg2 = w .20 }; whole2 = w .21 })))
+    (λ w. goes-same (w .23) (w .24) (w .25) (w .26) (w .27) (w .28) (w .29) (w .30) (w .31) (w .32) (w .33) (w .34) (w .35) (w .36) (w .37) (returns (record { before = record { before = record { before = record { before = record { before = record { before = record { before = record { before = record { before = record { before = record { before = record { before = record { before = record { before = record { before = record { before = record { before = record { before = record { before = record { before = record { before = record { before = record { before = c .before; match = w .0 }; found2 = w .1 }; known-told2 = w .2 }; is-spent = w .3 }; if2 = w .4 }; lower9 = w .5 }; upper8 = w .6 }; below3 = w .7 }; above4 = w .8 }; lines6 = w .9 }; divisors8 = w .10 }; rows6 = w .11 }; numbers2 = w .12 }; cuts3 = w .13 }; lowers3 = w .14 }; uppers3 = w .15 }; conflict-arg = w .16 }; conflict = w .17 }; buffer = w .18 }; slice-known2 = w .19 }; if3 = w .20 }; whole-arg2 = w .21 }; whole2 = w .22 })))
     (c .match .came)
 
 pub sub-depth : tie.Need-sub-depth Inv-loop μ-loop

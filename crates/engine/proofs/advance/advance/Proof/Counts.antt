@@ -23,14 +23,17 @@ abbrev pub clashed : tie.After-found2 Inv-loop μ-loop → tie.After-propagate I
 clashed f = f .before .before
 
 abbrev pub conflicted : tie.After-conflict Inv-loop μ-loop → tie.After-found2 Inv-loop μ-loop
-conflicted x = x .before .before .before .before .before .before .before .before .before .before .before .before .before .before .before
+conflicted x = x .before .before .before .before .before .before .before .before .before .before .before .before .before .before .before .before
 
 -- ---- a conflict: out of budget, or counted
 pub enum-known-found-2 : tie.Need-enum-known-found-2 Inv-loop μ-loop
 enum-known-found-2 c = search needs
 
+pub is-spent-requires : tie.Need-is-spent-requires Inv-loop μ-loop
+is-spent-requires c κs = search needs
+
 pub loop-less-3 : tie.Need-loop-less-3 Inv-loop μ-loop
-loop-less-3 c = rw (going (clashed (c .before .before))) (omega arith)
+loop-less-3 c = rw (going (clashed (c .before .before .before))) (omega arith)
 
 conflict-at : (c : tie.After-found2 Inv-loop μ-loop) → stopOf (clashed c .propagate .result .found) ≡ conflict (c .found2 .given .0 .0)
 unfolding stopOf
@@ -39,24 +42,24 @@ conflict-at c = ap stopOf (c .found2 .given .1)
 pub loop-again-3 : tie.Need-loop-again-3 Inv-loop μ-loop
 unfolding statusOf
 loop-again-3 c =
-    let f = c .before .before in
+    let f = c .before .before .before in
     let p = clashed f in
     let l = round p in
     let r = running p in
     go-on (l .loop .inv)
     (ends
-    (rw (l .loop .inv .here .open-ended (going p) .1) (spends r (here p) (f .found2 .given .0 .0) _ (l .loop .inv .here .more (going p)) (c .if2 .taken) (moved p _ (conflict-at f))))
+    (rw (l .loop .inv .here .open-ended (going p) .1) (spends r (here p) (f .found2 .given .0 .0) _ (l .loop .inv .here .more (going p)) (c .before .is-spent .ensures .0 (c .if2 .taken)) (moved p _ (conflict-at f))))
     (unsolved OutOfBudget tt) (l .loop .inv .here .apart) (l .loop .inv .here .rowsLong) (l .loop .inv .here .deep) (levels-long p) (l .loop .inv .here .bytes))
 
-afford : (c : tie.Else2 Inv-loop μ-loop) → round (clashed (c .before .before)) .loop .conflicts < start (round (clashed (c .before .before))) .args .s .budget
-afford c = omega (arith, running (clashed (c .before .before)) .counts .afford, c .if2 .left)
+afford : (c : tie.Else2 Inv-loop μ-loop) → round (clashed (c .before .before .before)) .loop .conflicts < start (round (clashed (c .before .before .before))) .args .s .budget
+afford c = omega (arith, running (clashed (c .before .before .before)) .counts .afford, c .before .is-spent .ensures .1 (c .if2 .left))
 
 pub add-conflicts : tie.Need-add-conflicts Inv-loop μ-loop
-add-conflicts c = omega (arith, afford c, running (clashed (c .before .before)) .counts .limited)
+add-conflicts c = omega (arith, afford c, running (clashed (c .before .before .before)) .counts .limited)
 
 pub conflict-requires : tie.Need-conflict-requires Inv-loop μ-loop
 conflict-requires c κs =
-    let f = c .before .before .before .before .before .before .before .before .before .before .before .before .before .before in
+    let f = c .before .before .before .before .before .before .before .before .before .before .before .before .before .before .before in
     let p = clashed f in
     let q = p .propagate .ensures .1 .0 .0 in
     let v = carried p in
