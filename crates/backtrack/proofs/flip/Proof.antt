@@ -25,7 +25,10 @@ next c =
     let s = c .before .before .before in
     let f : SFits w64 (c .next-value .result) = search needs in
     let u : SFits w64 (getD (now (s .args .thresholds)) (s .args .i) (pos 0)) = search needs in
-    toZ-ofZ f ∙ rw (value s, toZ-ofZ u) at (c .next-value .ensures)
+    let v = value s in
+    let t = toZ-ofZ u in
+    let e = c .next-value .ensures in
+    toZ-ofZ f ∙ cc
 
 mul-next-value : tie.Need-mul-next-value
 mul-next-value c = search needs
