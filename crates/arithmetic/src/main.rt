@@ -8,6 +8,7 @@ use layout::range::is_in_range;
 use linear::activity::implied_lower;
 use linear::activity::implied_upper;
 use linear::activity::min_activity;
+use linear::activity::term;
 use linear::resolving::combine_at;
 use linear::resolving::is_opposite;
 use linear::rounding::round;
@@ -22,6 +23,11 @@ const MAX: i64 = 1073741824;
 const LOW: i64 = -16777216;
 
 const HIGH: i64 = 16777216;
+
+// From one end of the bounds to the other, 2^25
+const RISE: i64 = 33554432;
+
+const FALL: i64 = -33554432;
 
 // The greatest divisor, 2^63 - 1
 const TOP: u64 = 9223372036854775807;
@@ -134,6 +140,14 @@ fn lowest_values() {
     lowest(b"most activity:", 32, &[MAX; 33], &[HIGH; 32], &[HIGH; 32]);
 }
 
+// What the widest changes of a lower and an upper bound change activities by; the other bound has another number
+fn changes() {
+    answer(b"lower bound up, 2^30:", term(MAX, RISE, 1));
+    answer(b"lower bound down, 2^30:", term(MAX, FALL, 1));
+    answer(b"upper bound up, -2^30:", term(MIN, 1, RISE));
+    answer(b"upper bound down, -2^30:", term(MIN, 1, FALL));
+}
+
 // Constraints of the widest numbers combined
 fn combinations() {
     combined(
@@ -161,6 +175,7 @@ fn combinations() {
 fn main() {
     table();
     lowest_values();
+    changes();
     integers();
     combinations();
 }

@@ -1,6 +1,3 @@
--- Laws of what is saved, and of numbers copied.
+-- Laws of what is saved.
 pub mod Saving
 pub mod Moving
-pub mod Mirroring
-pub mod Nesting
-pub mod Copying

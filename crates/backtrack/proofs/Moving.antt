@@ -10,7 +10,7 @@ use Rattle.model.specs.Ranges.{maxVariables}
 use Rattle.integer.specs.Parts.{_⊑_}
 use Rattle.integer.specs.Size.{Within, weaken}
 use Rattle.lists.proofs.Bools.{true-of}
-use Rattle.linear.specs.Ranges.{widestBound}
+use Rattle.linear.specs.Ranges.{widestChange}
 use Rattle.linear.proofs.Ranges.{upper-within}
 use Rattle.layout.specs.Rows.{numberIn, boxOf}
 use Rattle.layout.proofs.Rows.{lower-at, upper-at, box-upper}
@@ -48,5 +48,5 @@ pub flipped-above : (thresholds lower : List ℤ) (i : ℕ) → numberIn lower i
 flipped-above thresholds lower i = omega (arith, follows (numberIn thresholds i) (numberIn lower i) .above)
 
 pub flipped-rise : (n kept : ℕ) (thresholds rows lower upper : List ℤ) (i : ℕ) → ScanFits n kept rows lower upper → ScanFits n kept rows (set lower i (nextIn thresholds lower i)) upper → i < n →
-    length lower ≡ maxVariables → Within widestBound (nextIn thresholds lower i -ℤ numberIn lower i)
+    length lower ≡ maxVariables → Within widestChange (nextIn thresholds lower i -ℤ numberIn lower i)
 flipped-rise n kept thresholds rows lower upper i f g h l = rw (number-same lower i (nextIn thresholds lower i) (omega (arith, f .few))) at (rise-size f g i h)

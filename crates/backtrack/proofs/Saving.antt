@@ -20,31 +20,13 @@ use Rattle.linear.specs.Reach.{Reaches, spanOf}
 use Rattle.layout.specs.Rows.{rowLength, numberIn, cell, rowAt, boundsAt, boxOf}
 use Rattle.layout.proofs.Rows.{coefficient-at}
 use Rattle.state.specs.View.{keptCuts, noLevel, droppedCuts}
+use Rattle.state.specs.Moved.{placeOf, RowsMoved}
 use Rattle.state.specs.declared.Level.{Level}
+use Rattle.state.proofs.Moved.{place-less, place-more, place-again, place-none}
 use Rattle.propagate.specs.Tracked.{Known, Tracked}
 use Rattle.propagate.proofs.Tracking.{number-same, number-other}
-use Rattle.backtrack.specs.Saved.{placeOf, savedRoom, SavedAt, Saved, RowsMoved, Copied}
-
--- ---- places
-module _ (m by j : ℕ) where
-  pub place-less : j < m → placeOf m by j ≡ j
-  unfolding placeOf
-  place-less h = rw (lt-ltb j m h)
-
-  pub place-more : m ≤ j → placeOf m by j ≡ j + by
-  unfolding placeOf
-  place-more h = rw (le-ltb j m h)
-
-place-none : (m j : ℕ) → placeOf m 0 j ≡ j
-place-none m j = ⊎-elim (λ (h : j < m). place-less m 0 j h) (λ (h : m ≤ j). place-more m 0 j h ∙ (let e : j + 0 ≡ j = omega arith in e)) (lt-or-le j m)
-
-place-again : (m a b c j : ℕ) → a ≤ b → b ≤ c → placeOf m (b - a) (placeOf m (c - b) j) ≡ placeOf m (c - a) j
-place-again m a b c j h k =
-    ⊎-elim
-    (λ (l : j < m). rw (place-less m (c - b) j l, place-less m (b - a) j l, place-less m (c - a) j l))
-    (λ (l : m ≤ j).
-    ap (placeOf m (b - a)) (place-more m (c - b) j l) ∙ place-more m (b - a) (j + (c - b)) (omega arith) ∙ (let e : j + (c - b) + (b - a) ≡ j + (c - a) = omega arith in e) ∙ sym (place-more m (c - a) j l))
-    (lt-or-le j m)
+use Rattle.levels.specs.Copied.{Copied}
+use Rattle.backtrack.specs.Saved.{savedRoom, SavedAt, Saved}
 
 -- ---- a constraint that moved
 known-moved : (n : ℕ) (rows rows₁ lower upper : List ℤ) (j q : ℕ) (a r : ℤ) → rowAt n rows₁ j ≡ rowAt n rows q → Known n rows lower upper q a r → Known n rows₁ lower upper j a r
@@ -105,28 +87,6 @@ pub saved-none : (n m made : ℕ) (rows : List ℤ) (levels : List Level) (olds 
 saved-none n m made rows levels olds limits k depth =
     record {
       at = λ t h. rw (getD-const {A = ℕ} 0 k t) (record { order = omega arith; bound = omega arith; most = omega arith; at = λ j a b. absurd (omega arith) });
-    }
-
-pub rows-stay : (n m made : ℕ) (rows : List ℤ) → RowsMoved n m made made rows rows
-rows-stay n m made rows =
-    let z : droppedCuts made - droppedCuts made ≡ 0 = omega arith in
-    record { more = omega arith; at = λ j h l. rw z (ap (rowAt n rows) (sym (place-none m j))) }
-
--- ---- numbers copied
-pub copied-none : (at : ℕ) (from before : List ℤ) → Copied 0 at from before before
-copied-none at from before = record { size = refl; inside = λ k h. absurd (omega arith); below = λ k h. refl; above = λ k h. refl }
-
-pub copied-more : (j at : ℕ) (from before after : List ℤ) (v : ℤ) → at + j < length after → v ≡ numberIn from j → Copied j at from before after → Copied (j + 1) at from before (set after (at + j) v)
-copied-more j at from before after v l e c =
-    record {
-      size = length-set after (at + j) v ∙ c .size;
-      inside = λ k h.
-          ⊎-elim
-          (λ (q : k ≡ j). rw q (number-same after (at + j) v l ∙ e))
-          (λ (q : k < j). number-other after (at + j) v (at + k) (λ z. omega arith) ∙ c .inside k q)
-          (eq-or-lt-of-le (omega arith));
-      below = λ k h. number-other after (at + j) v k (λ z. omega arith) ∙ c .below k h;
-      above = λ k h. number-other after (at + j) v k (λ z. omega arith) ∙ c .above k (omega arith);
     }
 
 -- ---- a level that a decision leaves

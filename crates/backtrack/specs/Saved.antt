@@ -1,23 +1,18 @@
 -- What is tracked of the constraints, saved for each level that a decision leaves.
 use Prim.Native.Nat.{ℕ, _+_, _-_, _*_, _≤_, _<_}
-use mathlib.Core.Bool.{cond}
 use mathlib.Core.List.{List}
 use mathlib.Core.Path.{_≡_}
-use lib.Dec.{ltb}
 use lib.IntN.{ℤ}
 use lib.ListN.{getD, length}
-use Rattle.layout.specs.Rows.{numberIn, rowAt, maxRows}
+use Rattle.layout.specs.Rows.{numberIn, maxRows}
 use Rattle.state.specs.View.{keptCuts, droppedCuts, noLevel}
+use Rattle.state.specs.Moved.{placeOf}
 use Rattle.state.specs.declared.Level.{Level}
 use Rattle.propagate.specs.Tracked.{Known}
 
 -- the numbers saved for one level
 abbrev pub savedRoom : ℕ
 savedRoom = maxRows
-
--- the position that the constraint now at position j had when `by` fewer cuts were gone
-unfoldable pub placeOf : ℕ → ℕ → ℕ → ℕ
-placeOf m by j = cond (ltb j m) j (j + by)
 
 -- level t: `count` constraints were saved when `gone` cuts were gone; those that are still kept are known
 pub record SavedAt (n m made : ℕ) (rows lower upper olds limits : List ℤ) (gone count t : ℕ) : Type 0 where
@@ -31,18 +26,6 @@ pub record SavedAt (n m made : ℕ) (rows lower upper olds limits : List ℤ) (g
 pub record Saved (n m made : ℕ) (rows : List ℤ) (levels : List Level) (olds limits : List ℤ) (gones counts : List ℕ) (depth : ℕ) : Type 0 where
   pub at : (t : ℕ) → t < depth →
       SavedAt n m made rows (getD levels t noLevel .lower) (getD levels t noLevel .upper) olds limits (getD gones t 0) (getD counts t 0) t
-
--- each constraint that was kept before stands where it stood, or further down by the cuts that went
-pub record RowsMoved (n m made made₁ : ℕ) (rows rows₁ : List ℤ) : Type 0 where
-  pub more : made ≤ made₁
-  pub at : (j : ℕ) → j < m + keptCuts made₁ → placeOf m (droppedCuts made₁ - droppedCuts made) j < m + keptCuts made → rowAt n rows₁ j ≡ rowAt n rows (placeOf m (droppedCuts made₁ - droppedCuts made) j)
-
--- `count` numbers copied to place `at`; all else stays
-pub record Copied (count at : ℕ) (from before after : List ℤ) : Type 0 where
-  pub size : length after ≡ length before
-  pub inside : (k : ℕ) → k < count → numberIn after (at + k) ≡ numberIn from k
-  pub below : (k : ℕ) → k < at → numberIn after k ≡ numberIn before k
-  pub above : (k : ℕ) → at + count ≤ k → numberIn after k ≡ numberIn before k
 
 -- the arrays are as long as they are declared
 pub record Roomy (olds limits : List ℤ) (gones counts : List ℕ) : Type 0 where

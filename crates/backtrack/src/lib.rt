@@ -1,10 +1,7 @@
 // Decisions and backjumps: what is kept of the constraints is saved for each level that a decision leaves, and taken back when the search goes back
 // to it.
-pub mod level;
-pub mod mirror;
-pub mod struck;
-
 use layout::MAX_ROWS;
+use levels::copy_to;
 use propagate::bounds::lower_upper;
 use propagate::bounds::set;
 use propagate::bounds::shift;
@@ -20,12 +17,13 @@ ghost use lib.IntN.{_-ℤ_};
 ghost use lib.ListN.{length};
 ghost use Rattle.model.specs.Ranges.{maxVariables, maxConstraints, maxBudget};
 ghost use Rattle.integer.specs.Size.{Within};
-ghost use Rattle.linear.specs.Ranges.{widestBound};
+ghost use Rattle.linear.specs.Ranges.{widestBound, widestChange};
 ghost use Rattle.layout.specs.Rows.{numberIn};
 ghost use Rattle.state.specs.View.{keptCuts, flippedReason};
 ghost use Rattle.propagate.specs.Bounds.{BoundSet};
 ghost use Rattle.propagate.specs.Tracked.{Tracked};
-ghost use Rattle.backtrack.specs.Saved.{placeOf, savedRoom, SavedAt, Copied};
+ghost use Rattle.state.specs.Moved.{placeOf};
+ghost use Rattle.backtrack.specs.Saved.{savedRoom, SavedAt};
 ghost use Rattle.backtrack.specs.Jumps.{Decidable, Decided, LevelSaved, Flippable, Flipped, nextIn};
 
 // The numbers saved for one level.
@@ -40,19 +38,6 @@ fn place(m: usize, by: usize, j: usize) -> usize
         return j;
     }
     j + by
-}
-
-// The first `count` numbers, to place `at`.
-pub(crate) fn copy_to(from: &[i64], count: usize, at: usize, to: &mut [i64])
-    requires { ⌜ (count ≤ length (now from)) × (at + count ≤ length (now to)) ⌝ }
-    ensures { λ r. ⌜ Copied count at (now (from .entry)) (now (to .entry)) (now (to .exit)) ⌝ }
-{
-    let mut j: usize = 0;
-    while j < count {
-        let v = from[j];
-        to[at + j] = v;
-        j += 1;
-    }
 }
 
 // What was saved for level t of the constraints that are still kept, up to the first that was not: how many those are.
@@ -132,7 +117,7 @@ pub fn flip<'a>(
     lower: &mut [i64; 32],
     below: &mut [usize; 32],
 ) -> i64
-    requires { ⌜ (i < maxVariables) × ((Within widestBound (numberIn (now lower) i)) × (Within widestBound (nextIn (now thresholds) (now lower) i -ℤ numberIn (now lower) i))) ⌝ }
+    requires { ⌜ (i < maxVariables) × ((Within widestBound (numberIn (now lower) i)) × (Within widestChange (nextIn (now thresholds) (now lower) i -ℤ numberIn (now lower) i))) ⌝ }
     ensures { λ r. ⌜ (r ≡ nextIn (now (thresholds .entry)) (now (lower .entry)) i -ℤ numberIn (now (lower .entry)) i) × BoundSet i (nextIn (now (thresholds .entry)) (now (lower .entry)) i) flippedReason (now (lower .entry)) (now (below .entry)) (now (lower .exit)) (now (below .exit)) ⌝ }
 {
     let v = next_value(thresholds[i], lower[i]);

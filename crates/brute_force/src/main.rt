@@ -53,26 +53,26 @@ fn try_family(f: Family) -> usize {
     sum.wrong
 }
 
-const FAMILIES: usize = 33;
+const FAMILIES: usize = 39;
 
 // The families whose every problem is tried, and those of which some are.
 fn family_of(k: usize) -> Family {
     match k {
-        0 => family::of(1, 0, 0, 0, 0, 7, 0, 0, 0, 7),
-        1 => family::of(1, 1, 0, 0, 0, 7, 2, 2, 0, 175),
-        2 => family::of(1, 2, 0, 0, 0, 3, 2, 1, 0, 675),
-        3 => family::of(2, 1, 0, 0, 0, 2, 2, 2, 0, 500),
-        4 => family::of(2, 2, 0, 0, 0, 1, 1, 1, 0, 729),
-        5 => family::of(3, 1, 0, 0, 0, 2, 1, 1, 0, 648),
-        6 => family::of(2, 2, 1, 0, 0, 3, 2, 2, 0, 1125),
-        7 => family::of(4, 2, 1, 0, 0, 1, 2, 2, 0, 3125),
-        8 => family::of(3, 2, 0, 0, 0, 2, 1, 1, 1, 300),
-        9 => family::of(3, 3, 0, 0, 0, 5, 2, 2, 1, 300),
-        10 => family::of(4, 4, 0, 0, 0, 3, 2, 2, 1, 300),
-        11 => family::of(4, 4, 1, 0, 0, 3, 3, 3, 1, 600),
-        12 => family::of(6, 2, 1, 0, 0, 1, 3, 3, 1, 600),
-        13 => family::of(6, 4, 1, 0, 0, 1, 3, 3, 1, 600),
-        14 => family::of(6, 6, 1, 0, 0, 1, 1, 1, 1, 600),
+        0 => family::of(1, 0, 0, 0, 0, 7, 0, 0, 0, 0, 7),
+        1 => family::of(1, 1, 0, 0, 0, 7, 0, 2, 2, 0, 175),
+        2 => family::of(1, 2, 0, 0, 0, 3, 0, 2, 1, 0, 675),
+        3 => family::of(2, 1, 0, 0, 0, 2, 0, 2, 2, 0, 500),
+        4 => family::of(2, 2, 0, 0, 0, 1, 0, 1, 1, 0, 729),
+        5 => family::of(3, 1, 0, 0, 0, 2, 0, 1, 1, 0, 648),
+        6 => family::of(2, 2, 1, 0, 0, 3, 0, 2, 2, 0, 1125),
+        7 => family::of(4, 2, 1, 0, 0, 1, 0, 2, 2, 0, 3125),
+        8 => family::of(3, 2, 0, 0, 0, 2, 0, 1, 1, 1, 300),
+        9 => family::of(3, 3, 0, 0, 0, 5, 0, 2, 2, 1, 300),
+        10 => family::of(4, 4, 0, 0, 0, 3, 0, 2, 2, 1, 300),
+        11 => family::of(4, 4, 1, 0, 0, 3, 0, 3, 3, 1, 600),
+        12 => family::of(6, 2, 1, 0, 0, 1, 0, 3, 3, 1, 600),
+        13 => family::of(6, 4, 1, 0, 0, 1, 0, 3, 3, 1, 600),
+        14 => family::of(6, 6, 1, 0, 0, 1, 0, 1, 1, 1, 600),
         _ => divided_family_of(k),
     }
 }
@@ -80,16 +80,16 @@ fn family_of(k: usize) -> Family {
 // The same with divisors.
 fn divided_family_of(k: usize) -> Family {
     match k {
-        15 => family::of(1, 1, 0, 1, 0, 3, 2, 2, 0, 375),
-        16 => family::of(2, 1, 0, 1, 0, 1, 2, 1, 0, 375),
-        17 => family::of(2, 2, 0, 1, 0, 3, 1, 1, 1, 300),
-        18 => family::of(2, 2, 0, 2, 0, 3, 3, 3, 1, 300),
-        19 => family::of(2, 3, 1, 1, 0, 5, 3, 3, 1, 300),
-        20 => family::of(3, 4, 0, 2, 0, 1, 2, 2, 1, 200),
-        21 => family::of(4, 4, 0, 1, 0, 1, 2, 2, 1, 200),
-        22 => family::of(4, 3, 1, 1, 0, 1, 3, 3, 1, 200),
-        23 => family::of(6, 5, 1, 1, 0, 1, 3, 3, 1, 200),
-        24 => family::of(6, 6, 1, 2, 0, 1, 1, 1, 1, 200),
+        15 => family::of(1, 1, 0, 1, 0, 3, 0, 2, 2, 0, 375),
+        16 => family::of(2, 1, 0, 1, 0, 1, 0, 2, 1, 0, 375),
+        17 => family::of(2, 2, 0, 1, 0, 3, 0, 1, 1, 1, 300),
+        18 => family::of(2, 2, 0, 2, 0, 3, 0, 3, 3, 1, 300),
+        19 => family::of(2, 3, 1, 1, 0, 5, 0, 3, 3, 1, 300),
+        20 => family::of(3, 4, 0, 2, 0, 1, 0, 2, 2, 1, 200),
+        21 => family::of(4, 4, 0, 1, 0, 1, 0, 2, 2, 1, 200),
+        22 => family::of(4, 3, 1, 1, 0, 1, 0, 3, 3, 1, 200),
+        23 => family::of(6, 5, 1, 1, 0, 1, 0, 3, 3, 1, 200),
+        24 => family::of(6, 6, 1, 2, 0, 1, 0, 1, 1, 1, 200),
         _ => gapped_family_of(k),
     }
 }
@@ -97,20 +97,33 @@ fn divided_family_of(k: usize) -> Family {
 // Those with thresholds; the last two have divisors with them.
 fn gapped_family_of(k: usize) -> Family {
     match k {
-        25 => family::of(1, 1, 0, 0, 1, 1, 2, 3, 0, 245),
-        26 => family::of(2, 2, 1, 0, 2, 1, 3, 3, 1, 150),
-        27 => family::of(3, 2, 0, 0, 1, 5, 2, 3, 1, 100),
-        28 => family::of(3, 2, 1, 0, 3, 1, 3, 3, 1, 100),
-        29 => family::of(3, 3, 0, 0, 3, 1, 3, 3, 1, 100),
-        30 => family::of(4, 2, 1, 0, 2, 1, 3, 3, 1, 100),
-        31 => family::of(2, 3, 1, 1, 2, 1, 3, 3, 1, 100),
-        _ => family::of(4, 3, 1, 1, 2, 1, 3, 3, 1, 100),
+        25 => family::of(1, 1, 0, 0, 1, 1, 0, 2, 3, 0, 245),
+        26 => family::of(2, 2, 1, 0, 2, 1, 0, 3, 3, 1, 150),
+        27 => family::of(3, 2, 0, 0, 1, 5, 0, 2, 3, 1, 100),
+        28 => family::of(3, 2, 1, 0, 3, 1, 0, 3, 3, 1, 100),
+        29 => family::of(3, 3, 0, 0, 3, 1, 0, 3, 3, 1, 100),
+        30 => family::of(4, 2, 1, 0, 2, 1, 0, 3, 3, 1, 100),
+        31 => family::of(2, 3, 1, 1, 2, 1, 0, 3, 3, 1, 100),
+        32 => family::of(4, 3, 1, 1, 2, 1, 0, 3, 3, 1, 100),
+        _ => far_family_of(k),
+    }
+}
+
+// Those with boxes at the ends of the limits' range; the last two have divisors with them.
+fn far_family_of(k: usize) -> Family {
+    match k {
+        33 => family::of(1, 1, 0, 0, 0, 7, 1, 2, 2, 0, 175),
+        34 => family::of(2, 2, 1, 0, 0, 5, 1, 3, 3, 1, 300),
+        35 => family::of(3, 3, 0, 0, 0, 5, 1, 3, 3, 1, 300),
+        36 => family::of(4, 4, 1, 0, 0, 3, 1, 3, 3, 1, 300),
+        37 => family::of(3, 4, 0, 1, 0, 5, 1, 2, 2, 1, 200),
+        _ => family::of(4, 5, 1, 1, 0, 3, 1, 2, 2, 1, 200),
     }
 }
 
 fn main() {
     text(
-        b"variables constraints equations divided gaps boxes coefficient constant random problems solvable conflicts listed\n",
+        b"variables constraints equations divided gaps boxes far coefficient constant random problems solvable conflicts listed\n",
     );
     let mut wrong: usize = 0;
     let mut k: usize = 0;

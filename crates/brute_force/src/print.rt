@@ -14,6 +14,7 @@ pub fn family(f: Family, sum: Report) {
         f.divided,
         f.gaps,
         f.boxes,
+        f.far,
         f.coefficient,
         f.constant,
         f.random,
@@ -24,7 +25,7 @@ pub fn family(f: Family, sum: Report) {
     ];
     number(f.n);
     let mut i: usize = 1;
-    while i < 13 {
+    while i < 14 {
         text(b" ");
         number(row[i]);
         i += 1;

@@ -169,7 +169,7 @@ module _ (p : Problem) (s : Search) (m : model.Search) (start : view s ≡ m) (z
         bounded = omega (arith, z .bounded cs, conflicts-of acts f, many);
         tallied = propagations-of acts f ∙ z .tallied cs ∙ sym (f .set);
         creeping = rw (propagations-of acts f, conflicts-of acts f, f .strike) (z .creeping cs);
-        within = λ h. leb-true _ _ (sym (tests acts f) ∙ z .accepted cs (⊎-map (λ e. e) (λ e. omega (arith, e, f .strike)) h));
+        within = λ h. leb-true _ _ (sym (tests acts f) ∙ z .accepted cs (⊎-map (λ e. e) (λ e. rw (conflicts-of acts f, f .strike) at e) h));
         cuts = λ x q. subst (MeetsCuts (variables p) x) (sym (f .block)) (z .cuts cs x q);
         ends = λ k. omega (arith, z .ends cs (f .keeps k), calls-many acts);
       }

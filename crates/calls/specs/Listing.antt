@@ -1,5 +1,5 @@
 -- N4 of whoever calls `open` on an accepted file, and then `step`, `trace`, `run`, `exclude` and `list` in any order, each on the state that the call before returned.
-use Prim.Native.Nat.{ℕ, zero, suc, _+_, _-_, _*_, _/_, _^_, _≤_, _<_}
+use Prim.Native.Nat.{ℕ, zero, suc, _+_, _-_, _*_, _/_, _≤_, _<_}
 use mathlib.Core.Bool.{Bool, true, false, cond}
 use mathlib.Core.List.{List, [], _∷_, _++_, map}
 use mathlib.Core.Logic.{_⊎_, _↔_}
@@ -185,9 +185,9 @@ Within x = x .propagations ≤ maxPropagations
 abbrev pub Beyond : Search → Type 0
 Beyond x = maxPropagations < x .propagations
 
--- enough budget, or few enough strikes, for every count to stay within the limit
-abbrev pub Modest : Problem → List Action → Type 0
-Modest p acts = (points p ≤ p .budget) ⊎ (strikes acts < 2 ^ 32)
+-- enough budget, or few enough dead ends and strikes for all hi − lo, for every count to stay within the limit
+abbrev pub Modest : Problem → Search → List Action → Type 0
+Modest p s acts = (points p ≤ p .budget) ⊎ (suc (stateAfter s acts .conflicts + strikes acts) * slack (p .domain) ≤ maxPropagations)
 
 -- ---- a list kept up: a strike where a solution stands, else a step, a run, a listing, or a trace with room for a block
 abbrev pub Turns : Call → Type 0
@@ -227,10 +227,10 @@ pub record Lists (p : Problem) (s : Search) (acts : List Action) : Type 0 where
   -- dead ends plus solutions shown, those struck out among them, are at most the number of points
   pub bounded : stateAfter s acts .conflicts + length (shown acts) ≤ points p
   -- N5's count is the number of bounds that lines set in the turns that were not taken back, and at most (dead ends + struck out + 1) times the sum of all
-  -- hi − lo, the domain's slack; with a budget of at least the points, or fewer than 2^32 strikes, it is within its limit, and so no call is refused
+  -- hi − lo, the domain's slack; with a budget of at least the points, or while that product is within its limit, so is the count, and no call is refused
   pub tallied : stateAfter s acts .propagations ≡ setIn s acts
   pub creeping : stateAfter s acts .propagations ≤ suc (stateAfter s acts .conflicts + strikes acts) * slack (p .domain)
-  pub within : Modest p acts → Within (stateAfter s acts)
+  pub within : Modest p s acts → Within (stateAfter s acts)
   -- every solution, one struck out too, meets every cut in the blocks
   pub cuts : (x : Point) → Solution p x → MeetsCuts (variables p) x (blocksOf acts)
   -- a list that is kept up ends

@@ -20,7 +20,7 @@ use Rattle.record.specs.Written.{CutFits}
 use Rattle.propagate.proofs.Warning.{over-input}
 use Rattle.state.specs.View.{numberFor, divisorFor}
 use Rattle.state.specs.declared.Level.{Level}
-use Rattle.backtrack.specs.Mirror.{BoundsKept}
+use Rattle.levels.specs.Mirror.{BoundsKept}
 use Rattle.conflict.specs.Counting.{Countable, Counted, Dismissable, Dismissed}
 use Rattle.conflict.proofs.Learning.{within-zero}
 

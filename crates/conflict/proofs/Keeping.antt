@@ -17,8 +17,8 @@ use Rattle.lists.proofs.Tab.{length-tab, getD-tab, getD-tab-from}
 use Rattle.layout.specs.Rows.{constraintAt, rowAt}
 use Rattle.state.specs.View.{keptCuts, droppedCuts}
 use Rattle.analyze.specs.Storing.{RowKept}
-use Rattle.backtrack.specs.Saved.{placeOf, RowsMoved}
-use Rattle.backtrack.proofs.Saving.{place-less, place-more}
+use Rattle.state.specs.Moved.{placeOf, RowsMoved}
+use Rattle.state.proofs.Moved.{place-less, place-more}
 
 module _ (n m made : ℕ) (rows cut rows₁ : List ℤ) (few : n ≤ maxVariables) (r : RowKept m made rows cut rows₁) where
   by : ℕ

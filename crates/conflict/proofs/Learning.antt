@@ -31,8 +31,8 @@ use Rattle.analyze.specs.Analyzed.{Analyzed, analysisOf}
 use Rattle.analyze.specs.Storing.{RowKept, NumberKept, foundBelow}
 use Rattle.analyze.specs.declared.analysis.Analysis.{Analysis}
 use Rattle.analyze.proofs.Numbering.{numbered-equal, numbered-kept}
-use Rattle.backtrack.specs.Mirror.{boxIn, BoundsKept}
-use Rattle.backtrack.proofs.Saving.{rows-stay}
+use Rattle.levels.specs.Mirror.{boxIn, BoundsKept}
+use Rattle.state.proofs.Moved.{rows-stay}
 use Rattle.propagate.proofs.Warning.{kept-plain}
 use Rattle.conflict.specs.Counting.{Countable}
 use Rattle.conflict.proofs.Keeping.{rows-kept}

@@ -18,8 +18,8 @@ use Rattle.state.specs.declared.Level.{Level}
 use Rattle.record.specs.Written.{recordOf, Emitted}
 use Rattle.propagate.specs.Masks.{Masked}
 use Rattle.propagate.specs.Divided.{keptOver, Apart}
-use Rattle.backtrack.specs.Mirror.{boxIn, BoundsKept}
-use Rattle.backtrack.specs.Level.{LevelsNested, LeastFalsifying}
+use Rattle.levels.specs.Mirror.{boxIn, BoundsKept}
+use Rattle.levels.specs.Level.{LevelsNested, LeastFalsifying}
 use Rattle.conflict.specs.Learning.{Learnable, LearnedFrom}
 
 -- the conflict in position j, met at `depth`: the level falsifies the constraint, and once its bounds are kept the flat arrays hold all levels

@@ -17,7 +17,7 @@ use Rattle.layout.specs.Rows.{rowLength, numberIn, constraintAt, rowAt, boxOf}
 use Rattle.state.specs.View.{levelOf, keptCuts, coreWith}
 use Rattle.state.specs.Change.{Whole}
 use Rattle.state.specs.declared.Level.{Level}
-use Rattle.backtrack.specs.Saved.{RowsMoved}
+use Rattle.state.specs.Moved.{RowsMoved}
 use Rattle.conflict.specs.declared.learn.Learned.{Learned}
 
 -- learning from the constraint in position j of a core: the cut, what it used, its number, and the core that keeps it

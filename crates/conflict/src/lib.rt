@@ -2,10 +2,10 @@
 pub mod learn;
 
 use crate::learn::learn;
-use backtrack::level::backjump_level;
-use backtrack::mirror::keep_bounds;
 use layout::ROW;
 use layout::copy_row;
+use levels::level::backjump_level;
+use levels::mirror::keep_bounds;
 use record::emit;
 use state::kept::divisor_of;
 use state::kept::number_of;

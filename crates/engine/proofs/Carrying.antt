@@ -18,7 +18,7 @@ use Rattle.propagate.specs.Tracked.{Tracked}
 use Rattle.propagate.specs.Divided.{keptOver, Due, Everyone, Columns, Warned}
 use Rattle.propagate.specs.Masks.{Masked}
 use Rattle.backtrack.specs.Saved.{Saved, Roomy}
-use Rattle.backtrack.specs.Mirror.{Mirrored}
+use Rattle.levels.specs.Mirror.{Mirrored}
 
 -- the levels from depth `low` on, above depth, falsify no input
 abbrev pub ClearFrom : ℕ → ℕ → List ℤ → List ℤ → List Level → ℕ → ℕ → Type 0

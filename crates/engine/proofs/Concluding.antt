@@ -24,13 +24,13 @@ use Rattle.state.specs.View.{levelOf, levelAt, levelsFrom, keptCuts, droppedCut
 use Rattle.state.specs.Change.{held}
 use Rattle.state.specs.declared.Level.{Level}
 use Rattle.state.proofs.Cores.{level-here, levels-above}
-use Rattle.backtrack.specs.Saved.{RowsMoved}
-use Rattle.backtrack.specs.Mirror.{boxIn, Mirrored}
-use Rattle.backtrack.specs.Level.{LevelsNested, LeastFalsifying}
-use Rattle.backtrack.proofs.Mirroring.{mirrored-kept}
+use Rattle.state.specs.Moved.{RowsMoved}
+use Rattle.levels.specs.Mirror.{boxIn, Mirrored}
+use Rattle.levels.specs.Level.{LevelsNested, LeastFalsifying}
+use Rattle.levels.proofs.Mirroring.{mirrored-kept}
 use Rattle.propagate.specs.Divided.{keptOver, coreApart, Apart}
 use Rattle.propagate.proofs.Warning.{plain-row, divided-input, inputs-blanked, length-over, over-input, kept-plain}
-use Rattle.backtrack.proofs.Saving.{place-less, rows-stay}
+use Rattle.state.proofs.Moved.{place-less, rows-stay}
 use Rattle.conflict.specs.Counting.{Countable}
 use Rattle.conflict.specs.Learning.{Learnable, LearnedFrom}
 use Rattle.conflict.specs.declared.learn.Learned.{Learned}

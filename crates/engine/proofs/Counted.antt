@@ -23,8 +23,8 @@ use Rattle.state.specs.declared.Level.{Level}
 use Rattle.state.proofs.Cores.{number-over, length-levels}
 use Rattle.record.specs.Written.{recordOf, Emitted}
 use Rattle.record.proofs.Narrow.{record-narrow}
-use Rattle.backtrack.specs.Mirror.{BoundsKept, Mirrored}
-use Rattle.backtrack.proofs.Mirroring.{mirrored-kept, mirrored-less}
+use Rattle.levels.specs.Mirror.{BoundsKept, Mirrored}
+use Rattle.levels.proofs.Mirroring.{mirrored-kept, mirrored-less}
 use Rattle.conflict.specs.Counting.{LearnedAt, DismissedAt, Counted}
 use Rattle.engine.specs.declared.Ending.the-variants.{NoSolution}
 use Rattle.engine.proofs.Measures.{stepWeight, core-slack}

@@ -13,8 +13,8 @@ use Rattle.state.specs.View.{noLevel, keptCuts}
 use Rattle.state.specs.declared.Level.{Level}
 use Rattle.propagate.specs.Divided.{Apart}
 use Rattle.propagate.specs.Masks.{Masked}
-use Rattle.backtrack.specs.Saved.{RowsMoved}
-use Rattle.backtrack.specs.Mirror.{Mirrored}
+use Rattle.state.specs.Moved.{RowsMoved}
+use Rattle.levels.specs.Mirror.{Mirrored}
 use Rattle.engine.proofs.Measures.{stepWeight}
 use Rattle.engine.proofs.Running.{Running, coreHere}
 use Rattle.engine.proofs.Returning.{Back, flippedTo}

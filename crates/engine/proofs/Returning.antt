@@ -20,9 +20,10 @@ use Rattle.propagate.specs.Ready.{Ready}
 use Rattle.propagate.specs.Divided.{coreApart, Apart, Due, Everyone, Columns}
 use Rattle.propagate.specs.Masks.{Masked}
 use Rattle.propagate.proofs.Steps.{scan-fits}
-use Rattle.backtrack.specs.Saved.{Saved, RowsMoved}
+use Rattle.state.specs.Moved.{RowsMoved}
+use Rattle.backtrack.specs.Saved.{Saved}
 use Rattle.backtrack.specs.Jumps.{Flippable, nextIn}
-use Rattle.backtrack.specs.Mirror.{Mirrored}
+use Rattle.levels.specs.Mirror.{Mirrored}
 use Rattle.backtrack.proofs.Saving.{saved-moved, saved-stored, saved-less}
 use Rattle.engine.proofs.Running.{coreHere}
 use Rattle.engine.specs.Returning.{Returnable, Returned}

@@ -8,7 +8,7 @@ use mathlib.Core.Option.{some}
 use mathlib.Core.Path.{_≡_, refl, sym, ap, subst, _∙_}
 use lib.IntN.{ℤ, pos}
 use lib.ListN.{getD, set, length, length-set}
-use Rattle.model.specs.Ranges.{maxVariables, maxConstraints, maxBudget, maxPropagations}
+use Rattle.model.specs.Ranges.{maxVariables, maxConstraints, maxBudget, maxPropagations, maxSlack}
 use Rattle.model.specs.Search as model
 use Rattle.model.specs.Move.{Move, decide, moved, follow, slack, descend, propagationsBy, propagationsIn}
 use Rattle.model.specs.Step.{counted}
@@ -25,7 +25,6 @@ use Rattle.state.specs.declared.Level.{Level}
 use Rattle.state.proofs.Levels.{level-decided}
 use Rattle.state.proofs.Cores.{level-here, levels-above, length-levels}
 use Rattle.engine.specs.Advancing.{Buffered}
-use Rattle.engine.proofs.Measures.{stepWeight}
 
 -- the sizes that no turn changes, and the counters
 pub record Counts (n m budget conflicts made : ℕ) : Type 0 where
@@ -52,11 +51,11 @@ abbrev pub coreHere : List ℤ → List ℤ → List ℤ → ℕ → ℕ → Lis
 coreHere thresholds lines divisors n m rows numbers levels made depth level = coreApart thresholds n m made rows lines divisors numbers (levelOf n level) (levelsFrom n levels depth)
 
 -- N5's count: `earlier` at the turn's start, `tally` here. What the turn still adds is what it adds from here on, and it stays far below what a word holds:
--- each conflict, and the turn that goes on, can add no more than a turn weighs.
+-- each conflict, and the turn that goes on, can add no more than the slack of any box.
 pub record Tally (start here : model.Core) (conflicts earlier tally : ℕ) : Type 0 where
   pub same : earlier + propagationsIn start ≡ tally + propagationsIn here
-  pub few : earlier ≤ maxPropagations + conflicts * stepWeight
-  pub fits : tally + slack (here .deepest .box) ≤ earlier + stepWeight
+  pub few : earlier ≤ maxPropagations + conflicts * maxSlack
+  pub fits : tally + slack (here .deepest .box) ≤ earlier + maxSlack
 
 -- ---- the invariant
 pub record Running (s : model.Search) (old : List ℕ) (limit : ℕ) (keep : Bool) (thresholds lines divisors : List ℤ) (n m budget : ℕ) (now : List ℕ) (rows : List ℤ) (numbers : List ℕ) (levels : List Level) (made conflicts depth : ℕ)
@@ -90,7 +89,7 @@ pub record Propagates (c d : model.Core) (m : Move) (tally tally₁ : ℕ) : Typ
   pub less : tally₁ + slack (d .deepest .box) ≤ tally + slack (c .deepest .box)
 
 -- a turn that starts: nothing of it is counted yet
-pub starts-tally : (c : model.Core) (conflicts k : ℕ) → k ≤ maxPropagations + conflicts * stepWeight → slack (c .deepest .box) < stepWeight → Tally c c conflicts k k
+pub starts-tally : (c : model.Core) (conflicts k : ℕ) → k ≤ maxPropagations + conflicts * maxSlack → slack (c .deepest .box) ≤ maxSlack → Tally c c conflicts k k
 starts-tally c conflicts k h l = record { same = refl; few = h; fits = omega arith }
 
 -- where a turn ends, all its bounds are counted, and there is room for those of another
@@ -98,7 +97,7 @@ module _ {start c d : model.Core} {conflicts earlier tally tally₁ : ℕ} {m : 
   pub ends-tally : propagationsBy m d propagationsIn ≡ 0 → earlier + propagationsIn start ≡ tally₁
   ends-tally z = omega (arith, t .same, p .count)
 
-  pub counts-tally : tally₁ ≤ maxPropagations + (conflicts + 1) * stepWeight
+  pub counts-tally : tally₁ ≤ maxPropagations + (conflicts + 1) * maxSlack
   counts-tally = omega (arith, t .few, t .fits, p .less)
 
 -- a decision sets none, and lowers the slack

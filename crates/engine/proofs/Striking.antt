@@ -33,7 +33,7 @@ use Rattle.state.specs.declared.Level.{Level}
 use Rattle.state.specs.declared.Search.{Search}
 use Rattle.state.proofs.Cores.{length-levels}
 use Rattle.engine.specs.Advancing.{verdictOf, traceOf, advanceOver, Advances}
-use Rattle.backtrack.specs.Struck.{lastOf, ValuesPut}
+use Rattle.levels.specs.Struck.{lastOf, ValuesPut}
 use Rattle.engine.specs.declared.Ending.{Ending}
 use Rattle.engine.specs.declared.Ending.the-variants.{GoOn, NoSolution, OutOfBudget, Solution}
 use Rattle.engine.proofs.Measures.{stepWeight, core-slack}

@@ -18,7 +18,7 @@ use Rattle.model.specs.Step.{withStatus}
 use Rattle.integer.specs.Parts.{_⊑_, _⊏_, abs-parts}
 use Rattle.integer.specs.Size.{Within, weaken}
 use Rattle.lists.proofs.Bools.{true-of}
-use Rattle.linear.specs.Ranges.{widestBound}
+use Rattle.linear.specs.Ranges.{widestBound, widestChange}
 use Rattle.linear.proofs.Ranges.{lower-within, upper-within}
 use Rattle.layout.specs.Rows.{numberIn, boxOf, thresholdsOf}
 use Rattle.layout.proofs.Rows.{lower-at, upper-at}
@@ -68,7 +68,7 @@ module _ (s : Search) (v : Valid (view s)) (d : ℕ) (e : s .depth ≡ suc d) (o
       rw (threshold-at (s .n) (s .thresholds) i variable, lower-at (s .n) (o .lower) (o .upper) i variable, upper-at (s .n) (o .lower) (o .upper) i variable) at
       (follows (thresholdAt thresholds i) (lowerAt box i) .least (upperAt box i) (outside-at i thresholds box outside .1) wide)
 
-  rise-small : Within widestBound (nextIn (s .thresholds) (o .lower) i -ℤ numberIn (o .lower) i)
+  rise-small : Within widestChange (nextIn (s .thresholds) (o .lower) i -ℤ numberIn (o .lower) i)
   rise-small =
       let low = numberIn (o .lower) i in
       let next = nextIn (s .thresholds) (o .lower) i in
@@ -77,7 +77,7 @@ module _ (s : Search) (v : Valid (view s)) (d : ℕ) (e : s .depth ≡ suc d) (o
       let rises : low ⊑ next = omega (arith, follows (numberIn (s .thresholds) i) low .above) in
       record { within = omega (arith, gap-parts low next rises, next-below, l .within, u .within, abs-parts low, abs-parts (numberIn (o .upper) i)) }
 
-  pub flips : (i < maxVariables) × ((Within widestBound (numberIn (o .lower) i)) × (Within widestBound (nextIn (s .thresholds) (o .lower) i -ℤ numberIn (o .lower) i)))
+  pub flips : (i < maxVariables) × ((Within widestBound (numberIn (o .lower) i)) × (Within widestChange (nextIn (s .thresholds) (o .lower) i -ℤ numberIn (o .lower) i)))
   flips = (omega (arith, variable, sizes s v .few), (weaken (lit≤ tt) (lower-within (s .n) (o .lower) (o .upper) range i variable), rise-small))
 
   -- with the decision flipped

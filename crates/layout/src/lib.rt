@@ -25,8 +25,8 @@ pub const MAX_PROPAGATIONS: usize = 4_611_686_018_427_387_904;
 // The rows of a search state: the constraints and the cuts.
 pub const MAX_ROWS: usize = MAX_CONSTRAINTS + MAX_CUTS;
 
-// Bounds and limits: −2^20 to 2^20.
-pub const MAX_BOUND: u32 = 1_048_576;
+// Bounds and limits: −2^24 to 2^24.
+pub const MAX_BOUND: u32 = 16_777_216;
 
 // Coefficients and constants: −2^30 to 2^30.
 pub const MAX_COEFFICIENT: u32 = 1_073_741_824;

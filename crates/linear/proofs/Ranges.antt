@@ -22,7 +22,7 @@ use Rattle.lists.proofs.Tab.{getD-tab}
 use Rattle.lists.proofs.AllOf.{allOf-getD}
 use Rattle.layout.specs.Rows.{numberIn, cell, constraintAt, boundsAt, boxOf}
 use Rattle.layout.proofs.Rows.{length-box, length-coefficients}
-use Rattle.linear.specs.Ranges.{TermFits, RowFits, BoxFits, DivisorFits}
+use Rattle.linear.specs.Ranges.{TermFits, ChangeFits, RowFits, BoxFits, DivisorFits}
 
 within-in : (b : ℕ) (z : ℤ) → within b z ≡ true → Within b z
 unfolding within
@@ -82,6 +82,10 @@ module _ (n : ℕ) (lower upper : List ℤ) (e : allOf boundsInRange (boxOf n lo
 pub term-fits : {n : ℕ} {rows : List ℤ} {start : ℕ} {lower upper : List ℤ} → RowFits n rows start → BoxFits n lower upper → (i : ℕ) → i < n →
     TermFits (cell rows start i) (numberIn lower i) (numberIn upper i)
 term-fits r b i h = record { coefficient = r .coefficients i h; low = b .low i h; high = b .high i h }
+
+-- bounds are no larger than what they can change by
+pub change-fits : {a lower upper : ℤ} → TermFits a lower upper → ChangeFits a lower upper
+change-fits f = record { coefficient = f .coefficient; up = weaken (lit≤ tt) (f .low); down = weaken (lit≤ tt) (f .high) }
 
 -- ---- as the machine reads them
 module _ {n : ℕ} {rows : List ℤ} {start : ℕ} (r : RowFits n rows start) where

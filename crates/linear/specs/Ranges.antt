@@ -8,9 +8,13 @@ use Rattle.model.specs.Ranges.{maxVariables, maxCoefficient, maxDivisor}
 use Rattle.integer.specs.Size.{Within}
 use Rattle.layout.specs.Rows.{numberIn, cell}
 
--- bounds: wider than the model's maxBound, so that a change of the limits changes nothing here
+-- bounds: the model's, and this crate's own number, which may be larger
 abbrev pub widestBound : ℕ
 widestBound = 2 ^ 24
+
+-- what a bound changes by, from one end to the other
+abbrev pub widestChange : ℕ
+widestChange = 2 * widestBound
 
 -- coefficient · bound
 abbrev pub widestTerm : ℕ
@@ -29,6 +33,12 @@ pub record TermFits (a lower upper : ℤ) : Type 0 where
   pub coefficient : Within maxCoefficient a
   pub low : Within widestBound lower
   pub high : Within widestBound upper
+
+-- a coefficient, and the bounds of its variable or what they change by
+pub record ChangeFits (a rise fall : ℤ) : Type 0 where
+  pub coefficient : Within maxCoefficient a
+  pub up : Within widestChange rise
+  pub down : Within widestChange fall
 
 -- the row of n variables at `start` lies inside the array, and its numbers are in range
 pub record RowFits (n : ℕ) (rows : List ℤ) (start : ℕ) : Type 0 where

@@ -7,14 +7,14 @@ use Rattle.model.specs.Ranges.{maxCoefficient}
 use Rattle.model.specs.Constraint.{Bounds}
 use Rattle.integer.specs.Size.{Within}
 use Rattle.layout.specs.Rows.{cell, boundsAt}
-use Rattle.linear.specs.Ranges.{widestBound}
+use Rattle.linear.specs.Ranges.{widestChange}
 
 -- |a| · (U − L)
 unfoldable pub spanOf : ℤ → Bounds → ℤ
 spanOf a b = pos (natAbs a) *ℤ (b .upper -ℤ b .lower)
 
 abbrev pub widestSpan : ℕ
-widestSpan = maxCoefficient * (2 * widestBound)
+widestSpan = maxCoefficient * widestChange
 
 -- r is at least `most` and the span
 pub record Further (most a : ℤ) (b : Bounds) (r : ℤ) : Type 0 where

@@ -3,22 +3,23 @@ use integer::ceil_div;
 use integer::floor_div;
 use integer::magnitude;
 ghost use mathlib.Core.Path.{_≡_};
-ghost use Prim.Native.Nat.{ℕ};
+ghost use Prim.Native.Nat.{ℕ, _*_};
 ghost use lib.IntN.{pos, natAbs, _-ℤ_};
 ghost use lib.Signed.{_<ℤ_};
 ghost use Rattle.integer.specs.Size.{Within};
+ghost use Rattle.model.specs.Ranges.{maxCoefficient};
 ghost use Rattle.model.specs.Constraint.{term as termOf, activity as activityOf, falsified, impliedUpper, impliedLower};
 ghost use Rattle.model.specs.Move.{improvementAt};
 ghost use Rattle.layout.specs.Rows.{constraintAt, boxOf};
-ghost use Rattle.linear.specs.Ranges.{TermFits, RowFits, BoxFits, ImpliedFits, ImprovementFits, widestTerm, widestActivity};
+ghost use Rattle.linear.specs.Ranges.{TermFits, ChangeFits, RowFits, BoxFits, ImpliedFits, ImprovementFits, widestActivity};
 ghost use Rattle.linear.specs.Reach.{spanOf, widestSpan, Further};
 ghost use Rattle.linear.specs.Improvement.{moveOf, Improves};
 
-// What a variable with coefficient a and these bounds adds to its constraint's minimum activity.
+// What a variable with coefficient a and these bounds adds to its constraint's minimum activity; and of what bounds change by, what the activity does.
 pub fn term(a: i64, lower: i64, upper: i64) -> i64
-    requires { ⌜ TermFits a lower upper ⌝ }
+    requires { ⌜ ChangeFits a lower upper ⌝ }
     ensures { λ r. ⌜ r ≡ termOf a (record { lower = lower; upper = upper }) ⌝ }
-    ensures { λ r. ⌜ Within widestTerm r ⌝ }
+    ensures { λ r. ⌜ ((w : ℕ) → Within w lower → Within w upper → Within (maxCoefficient * w) r) ⌝ }
 {
     if 0 <= a {
         return a * lower;

@@ -16,7 +16,7 @@ const CONSTRAINTS: usize = 4;
 
 const MAX_COEFFICIENT: i64 = 1073741824;
 
-const MAX_BOUND: i64 = 1048576;
+const MAX_BOUND: i64 = 16777216;
 
 // The state with another mark.
 pub fn marked(s: Search, status: Status) -> Search {

@@ -18,16 +18,18 @@ use trials::ways::MARK;
 use trials::ways::ROOM;
 use trials::ways::SOLUTION;
 use trials::ways::run;
+use trials::ways::same;
+use trials::ways::trace;
 use trials::ways::walk;
 
-// The kinds: a threshold of 1, of −1 and above 2^20; a lower bound in the gap, and an upper one; bounds at the gap's ends; a threshold beside a negative
+// The kinds: a threshold of 1, of −1 and above 2^24; a lower bound in the gap, and an upper one; bounds at the gap's ends; a threshold beside a negative
 // lower bound, and above every upper one. The others are kinds without thresholds, on states with them.
 pub const FIRST: usize = 49;
 
 const FIFTH: usize = 4;
 
 // The state with no mark and a fifth variable with this threshold.
-fn grown(s: Search, threshold: i64) -> Search {
+pub fn grown(s: Search, threshold: i64) -> Search {
     let mut t = marked(s, Status::Undecided);
     t.n = FIFTH + 1;
     t.thresholds[FIFTH] = threshold;
@@ -35,7 +37,7 @@ fn grown(s: Search, threshold: i64) -> Search {
 }
 
 // The state with these bounds of the fifth variable at every level from one on.
-fn placed(s: Search, from: usize, lower: i64, upper: i64) -> Search {
+pub fn placed(s: Search, from: usize, lower: i64, upper: i64) -> Search {
     let mut t = s;
     let mut d = from;
     while d < 33 {
@@ -57,7 +59,7 @@ fn held(s: Search, d: usize, v: i64, is_lower: bool) -> Search {
 }
 
 // Whether a run of a state with a fifth variable comes to what it comes to without it.
-fn is_taken(s: Search, t: Search) -> bool {
+pub fn is_taken(s: Search, t: Search) -> bool {
     let want = run(marked(s, Status::Undecided), 0);
     let got = run(t, 0);
     if !counts_same(
@@ -122,16 +124,27 @@ fn are_shown(s: Search, values: &[i64; 5], count: usize) -> bool {
     ran.values[FIFTH] == values[0]
 }
 
-// Whether a state with a fifth variable that has these values comes to what it comes to without it, and shows all of them.
-fn is_shown(s: Search, t: Search, values: &[i64; 5], count: usize) -> bool {
+// Whether a state with a fifth variable comes, in each of the three ways, to what it comes to without it, and the fifth variable to this value.
+pub fn comes_with(s: Search, t: Search, value: i64) -> bool {
     let mut journal = [MARK; ROOM];
     let mut want = walk(marked(s, Status::Undecided), &mut journal);
-    if want.verdict != SOLUTION {
-        return has_outcome(t, want, &journal);
+    if want.verdict == SOLUTION {
+        want.values[FIFTH] = value;
     }
-    want.values[FIFTH] = values[0];
     if !has_outcome(t, want, &journal) {
         return false;
+    }
+    same(trace(t, &journal, 1024), want)
+}
+
+// Whether a state with a fifth variable that has these values comes to what it comes to without it, and shows all of them.
+pub fn is_shown(s: Search, t: Search, values: &[i64; 5], count: usize) -> bool {
+    if !comes_with(s, t, values[0]) {
+        return false;
+    }
+    let want = run(marked(s, Status::Undecided), 0);
+    if want.verdict != SOLUTION {
+        return true;
     }
     are_shown(t, values, count)
 }
@@ -141,10 +154,15 @@ pub fn is_right(s: Search, kind: usize) -> bool {
     match kind {
         49 => is_refused(placed(grown(s, 1), 0, -1, 0)),
         50 => is_refused(placed(grown(s, -1), 0, -1, 0)),
-        51 => is_refused(placed(grown(s, 1048577), 0, -1, 0)),
+        51 => is_refused(placed(grown(s, 16777217), 0, -1, 0)),
         52..=54 => are_held_right(s, kind),
         55 => is_shown(s, placed(grown(s, 2), 0, -1, 4), &[-1, 0, 2, 3, 4], 5),
-        56 => is_shown(s, placed(grown(s, 1048576), 0, -1, 0), &[-1, 0, 0, 0, 0], 2),
+        56 => is_shown(
+            s,
+            placed(grown(s, 16777216), 0, -1, 0),
+            &[-1, 0, 0, 0, 0],
+            2,
+        ),
         57 => is_same_littered(s),
         58 => strikes::is_right(s, strikes::AS_IT_IS),
         _ => strikes::is_right(s, strikes::MARKED_SOLUTION),

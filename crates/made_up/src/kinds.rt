@@ -15,6 +15,7 @@ use crate::gaps;
 use crate::litter::littered;
 use crate::refusals::is_refused;
 use crate::strikes;
+use crate::wide;
 use block::check::is_zero_from;
 use block::number::u16_at;
 use block::number::u32_at;
@@ -66,8 +67,8 @@ const FALSE_BEHIND: usize = 36;
 
 pub const NAMED: usize = 37;
 
-// The last are those of `strikes`, four, of `brink`, six, and of `gaps`, eleven.
-pub const KINDS: usize = 60;
+// The last are those of `strikes`, four, of `brink`, six, of `gaps`, eleven, and of `wide`, nine.
+pub const KINDS: usize = 69;
 
 // How many states were tried, and how many of them had a wrong answer.
 pub struct Tried {
@@ -246,6 +247,9 @@ fn is_divided_right(s: Search, kind: usize) -> bool {
 
 // Whether a state that is made in a kind is answered as it must be; the last two kinds before those with divisors as the state that it is made of.
 fn is_right(s: Search, kind: usize) -> bool {
+    if wide::FIRST <= kind {
+        return wide::is_right(s, kind);
+    }
     if gaps::FIRST <= kind {
         return gaps::is_right(s, kind);
     }

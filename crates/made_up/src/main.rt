@@ -10,6 +10,7 @@ mod litter;
 mod print;
 mod refusals;
 mod strikes;
+mod wide;
 
 use kinds::Tried;
 use trials::family;
@@ -18,18 +19,21 @@ use trials::number::plus;
 use trials::print::disagreements;
 
 // The problems whose states are changed in a kind: two equations, for later kinds with a divisor constraint after them; where states are struck out they
-// have smaller numbers, so that there are more solutions. For the last kinds four variables, two with thresholds.
+// have smaller numbers, so that there are more solutions. For later kinds four variables, two with thresholds; for the last ones boxes far out.
 fn changed_family(kind: usize) -> Family {
     if kind < kinds::NAMED {
-        return family::of(6, 4, 1, 0, 0, 1, 3, 3, 1, 0);
+        return family::of(6, 4, 1, 0, 0, 1, 0, 3, 3, 1, 0);
     }
     if kind < strikes::AS_IT_IS {
-        return family::of(6, 5, 1, 1, 0, 1, 3, 3, 1, 0);
+        return family::of(6, 5, 1, 1, 0, 1, 0, 3, 3, 1, 0);
     }
     if kind < gaps::FIRST {
-        return family::of(6, 5, 1, 1, 0, 1, 1, 1, 1, 0);
+        return family::of(6, 5, 1, 1, 0, 1, 0, 1, 1, 1, 0);
     }
-    family::of(4, 3, 1, 1, 2, 1, 3, 3, 1, 0)
+    if kind < wide::FAR {
+        return family::of(4, 3, 1, 1, 2, 1, 0, 3, 3, 1, 0);
+    }
+    family::of(4, 5, 1, 1, 0, 3, 1, 1, 1, 1, 0)
 }
 
 // Tries the made-up states of a kind, and prints how many.

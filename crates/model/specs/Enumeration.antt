@@ -1,11 +1,12 @@
 -- N4's claim: of every list of calls from a fresh opening of an accepted file, turns, traces, runs and strikes in any order.
-use Prim.Native.Nat.{ℕ, suc, _+_, _-_, _*_, _^_, _≤_, _<_}
+use Prim.Native.Nat.{ℕ, suc, _+_, _-_, _*_, _≤_, _<_}
 use mathlib.Core.Bool.{Bool, true, false, cond}
 use mathlib.Core.List.{List, [], _∷_, _++_}
 use mathlib.Core.Logic.{_⊎_, _↔_}
 use mathlib.Core.Option.{some}
 use mathlib.Core.Path.{_≡_}
 use lib.ListN.{length, take, getElem?}
+use Rattle.model.specs.Ranges.{maxPropagations}
 use Rattle.model.specs.Problem.{Problem, variables}
 use Rattle.model.specs.File.{problemIn}
 use Rattle.model.specs.Search.{Search, openProblem}
@@ -134,9 +135,9 @@ unfoldable pub setIn : List Call → Search → ℕ
 setIn [] s = 0
 setIn (c ∷ cs) s = setBy c (walk cs s) + setIn cs s
 
--- enough budget, or few enough strikes, for every count to stay within N5's limit
+-- enough budget, or few enough dead ends and strikes for all hi − lo, for every count to stay within N5's limit
 abbrev pub Modest : Problem → List Call → Search → Type 0
-Modest p cs s = (points p ≤ p .budget) ⊎ (strikes cs s < 2 ^ 32)
+Modest p cs s = (points p ≤ p .budget) ⊎ (suc (walk cs s .conflicts + strikes cs s) * slack (p .domain) ≤ maxPropagations)
 
 -- ---- a list kept up: a strike where a solution stands, else a turn, a run, or a trace with room
 abbrev pub Due : Bool → Call → Type 0
@@ -178,7 +179,7 @@ pub record Enumerates (p : Problem) (s : Search) : Type 0 where
   -- `allSolutions` lists all solutions in dictionary order, each once
   pub every : (x : Point) → Solution p x ↔ In x (allSolutions p)
   pub ordered : Ascending (allSolutions p)
-  -- no call is refused, with a budget of at least the points or fewer than 2^32 strikes
+  -- no call is refused, with a budget of at least the points, or while (dead ends + struck out + 1) times the domain's slack is within N5's limit
   pub accepted : (cs : List Call) → Modest p cs s → admitted (walk cs s) ≡ true
   -- the solutions shown are the first of that list
   pub prefix : (cs : List Call) → shown cs s ≡ take (length (shown cs s)) (allSolutions p)

@@ -202,13 +202,15 @@ sizeEdges =
     eqb (writing A-domain [] 1_000_000_001 0) 4 ∷
     [])
 
--- 5: limits 2^20 and one more, −2^20 and one less, lo above hi; after 4 and before 6
+-- 5: limits 2^24 and one more, −2^24 and one less, lo above hi; after 4 and before 6. N12: a limit of 2^20 + 1 hides no other number
 abbrev limitEdges : Bool
 limitEdges =
     all (
-    eqb (writing (between (neg 1_048_576) (pos 1_048_576) ∷ []) [] 5 512) 0 ∷
-    eqb (writing (between (pos 0) (pos 1_048_577) ∷ []) [] 5 512) 5 ∷
-    eqb (writing (between (neg 1_048_577) (pos 0) ∷ []) [] 5 512) 5 ∷
+    eqb (writing (between (neg 16_777_216) (pos 16_777_216) ∷ []) [] 5 512) 0 ∷
+    eqb (writing (between (pos 0) (pos 16_777_217) ∷ []) [] 5 512) 5 ∷
+    eqb (writing (between (neg 16_777_217) (pos 0) ∷ []) [] 5 512) 5 ∷
+    eqb (writing (between (pos 0) (pos 1_048_577) ∷ []) (linear (pos 1_073_741_825 ∷ []) (pos 0) ∷ []) 5 1024) 6 ∷
+    eqb (writing (between (neg 1_048_577) (pos 0) ∷ []) [] 5 511) 8 ∷
     eqb (writing (between (pos 1) (pos 0) ∷ []) (linear (pos 1_073_741_825 ∷ []) (pos 0) ∷ []) 5 1024) 5 ∷
     eqb (writing (between (pos 1) (pos 0) ∷ []) [] 1_000_000_001 512) 4 ∷
     [])

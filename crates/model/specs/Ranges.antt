@@ -1,5 +1,5 @@
 -- The sizes and ranges of documents 01 and 02, each once.
-use Prim.Native.Nat.{ℕ, _^_}
+use Prim.Native.Nat.{ℕ, _*_, _^_}
 use mathlib.Core.Bool.{Bool, _&&_}
 use lib.IntN.{ℤ, pos, negℤ}
 use lib.Signed.{leZ}
@@ -20,9 +20,13 @@ maxCuts = 64
 abbrev pub maxBudget : ℕ
 maxBudget = 1_000_000_000
 
--- limits and bounds: −2^20 to 2^20
+-- N12's limits and bounds: −2^24 to 2^24
 abbrev pub maxBound : ℕ
-maxBound = 2 ^ 20
+maxBound = 2 ^ 24
+
+-- the sum of all hi − lo: 0 to 2^30
+abbrev pub maxSlack : ℕ
+maxSlack = 2 * maxBound * maxVariables
 
 -- coefficients and constants: −2^30 to 2^30
 abbrev pub maxCoefficient : ℕ

@@ -162,8 +162,8 @@ above t b = state t (level (to 0) (to 0)) (level b (to 1) ∷ [])
 abbrev foreign : Bool
 foreign =
     all (
-    allOf valid (map (λ (t : ℤ). within t (to 0)) (pos 0 ∷ pos 2 ∷ pos 1_048_576 ∷ [])) ∷
-    not (anyOf valid (map (λ (t : ℤ). within t (to 0)) (neg 1 ∷ pos 1 ∷ pos 1_048_577 ∷ []))) ∷
+    allOf valid (map (λ (t : ℤ). within t (to 0)) (pos 0 ∷ pos 2 ∷ pos 16_777_216 ∷ [])) ∷
+    not (anyOf valid (map (λ (t : ℤ). within t (to 0)) (neg 1 ∷ pos 1 ∷ pos 16_777_217 ∷ []))) ∷
     allOf valid (map (within (pos 3)) (to 5 ∷ to 3 ∷ between (pos 3) (pos 5) ∷ between (neg 2) (pos 0) ∷ between (neg 2) (pos 4) ∷ [])) ∷
     not (anyOf valid (map (within (pos 3)) (to 1 ∷ to 2 ∷ between (pos 1) (pos 5) ∷ between (pos 2) (pos 5) ∷ between (pos 2) (pos 2) ∷ []))) ∷
     allOf valid (map (above (pos 3)) (to 5 ∷ to 0 ∷ between (neg 2) (pos 3) ∷ [])) ∷

@@ -74,11 +74,11 @@ sizeCase =
 abbrev tooDeep : Bool
 tooDeep = refused (plain (level (at 0) (at 0) 1) (level (at 0) (at 0) 1 ∷ decided ∷ root ∷ []) undecided ∷ [])
 
--- 'a bound' out of range: 2^20 and one more; 'an L above its U'
+-- 'a bound' out of range: 2^24 and one more; 'an L above its U'
 abbrev boundCase : Bool
 boundCase =
-    accepted (plain (level (between (neg 1_048_576) (pos 1_048_576)) unit 0) [] undecided ∷ []) &&
-    refused (plain (level unit (between (pos 0) (pos 1_048_577)) 0) [] undecided ∷ plain (level unit (between (neg 1_048_577) (pos 0)) 0) [] undecided ∷ plain (level unit (between (pos 1) (pos 0)) 0) [] undecided ∷ [])
+    accepted (plain (level (between (neg 16_777_216) (pos 16_777_216)) unit 0) [] undecided ∷ []) &&
+    refused (plain (level unit (between (pos 0) (pos 16_777_217)) 0) [] undecided ∷ plain (level unit (between (neg 16_777_217) (pos 0)) 0) [] undecided ∷ plain (level unit (between (pos 1) (pos 0)) 0) [] undecided ∷ [])
 
 -- 'a kept line's constant or coefficient' out of range: 2^30 and one more, in a kept cut
 abbrev withCut : Constraint → List ℕ → ℕ → ℕ → Search

@@ -14,7 +14,7 @@ use Rattle.model.specs.Move.{Move, conflict, newLower, newUpper, decide, finish
 use Rattle.integer.specs.Parts.{_⊑_}
 use Rattle.integer.specs.Size.{Within, weaken}
 use Rattle.lists.proofs.Bools.{true-of}
-use Rattle.linear.specs.Ranges.{widestBound}
+use Rattle.linear.specs.Ranges.{widestChange}
 use Rattle.linear.proofs.Ranges.{lower-within, upper-within}
 use Rattle.layout.specs.Rows.{numberIn, boxOf, thresholdsOf}
 use Rattle.layout.proofs.Rows.{length-box, lower-at, upper-at, box-lower, box-upper}
@@ -132,7 +132,7 @@ module _ (ts : List ℤ) (ks : List Constraint) (n m made : ℕ) (rows : List �
     pub raise-better : numberIn (l .lower) i ⊑ raisedTo
     raise-better = omega (arith, lifts (numberIn ts i) v .above, rw (lower-at n (l .lower) (l .upper) i (raise-places .1)) at (raises .better))
 
-    pub raise-rise : Within widestBound (raisedTo -ℤ numberIn (l .lower) i)
+    pub raise-rise : Within widestChange (raisedTo -ℤ numberIn (l .lower) i)
     raise-rise =
         rw (number-same (l .lower) i raisedTo (omega (arith, r .whole .lower, r .few, raise-places .1))) at
         (rise-size (scan-fits n m made rows l r) (scan-fits n m made rows (raised l i raisedTo (numberFor m made j)) (raise-next .ready)) i (raise-places .1))
@@ -178,7 +178,7 @@ module _ (ts : List ℤ) (ks : List Constraint) (n m made : ℕ) (rows : List �
     pub lower-better : loweredTo ⊑ numberIn (l .upper) i
     lower-better = omega (arith, sinks (numberIn ts i) v .below, rw (upper-at n (l .lower) (l .upper) i (lower-places .1)) at (lowers .better))
 
-    pub lower-fall : Within widestBound (loweredTo -ℤ numberIn (l .upper) i)
+    pub lower-fall : Within widestChange (loweredTo -ℤ numberIn (l .upper) i)
     lower-fall =
         rw (number-same (l .upper) i loweredTo (omega (arith, r .whole .upper, r .few, lower-places .1))) at
         (fall-size (scan-fits n m made rows l r) (scan-fits n m made rows (lowered l i loweredTo (numberFor m made j)) (lower-next .ready)) i (lower-places .1))

@@ -26,7 +26,7 @@ use Rattle.integer.specs.Tests.{lt-ltZ, le-ltZ}
 use Rattle.lists.proofs.Bools.{true-of, lt-or-le}
 use Rattle.lists.proofs.Tab.{length-tab, getD-tab}
 use Rattle.lists.proofs.AllOf.{allOf-getD}
-use Rattle.linear.specs.Ranges.{widestActivity, widestBound, TermFits, RowFits, BoxFits}
+use Rattle.linear.specs.Ranges.{widestActivity, widestChange, TermFits, RowFits, BoxFits}
 use Rattle.linear.specs.Reach.{spanOf, widestSpan, Reaches}
 use Rattle.linear.proofs.Ranges.{row-fits, box-fits, term-fits, lower-within, upper-within}
 use Rattle.linear.proofs.Reaching.{span-none, span-nested, span-size, activity-raised, activity-lowered, activity-size}
@@ -56,14 +56,14 @@ module _ {n kept : ℕ} {rows lower upper : List ℤ} (f : ScanFits n kept rows 
 
 -- ---- a bound's change is small
 module _ {n kept : ℕ} {rows lower upper lower₁ upper₁ : List ℤ} (f : ScanFits n kept rows lower upper) (g : ScanFits n kept rows lower₁ upper₁) (i : ℕ) (h : i < n) where
-  pub rise-size : Within widestBound (numberIn lower₁ i -ℤ numberIn lower i)
+  pub rise-size : Within widestChange (numberIn lower₁ i -ℤ numberIn lower i)
   rise-size = weaken (lit≤ tt) (add-within (lower-within n lower₁ upper₁ (true-of _ (g .bounds)) i h) (neg-within (lower-within n lower upper (true-of _ (f .bounds)) i h)))
 
-  pub fall-size : Within widestBound (numberIn upper₁ i -ℤ numberIn upper i)
+  pub fall-size : Within widestChange (numberIn upper₁ i -ℤ numberIn upper i)
   fall-size = weaken (lit≤ tt) (add-within (upper-within n lower₁ upper₁ (true-of _ (g .bounds)) i h) (neg-within (upper-within n lower upper (true-of _ (f .bounds)) i h)))
 
 pub shiftable : (n kept : ℕ) (rows lower upper activities reaches : List ℤ) (i : ℕ) (rise fall : ℤ) → ScanFits n kept rows lower upper → Tracked n rows lower upper activities reaches kept →
-    i < n → Within widestBound rise → Within widestBound fall → Shiftable kept i rise fall rows activities
+    i < n → Within widestChange rise → Within widestChange fall → Shiftable kept i rise fall rows activities
 shiftable n kept rows lower upper activities reaches i rise fall f s h u d =
     record {
       count = f .count;

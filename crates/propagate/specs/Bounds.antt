@@ -6,13 +6,13 @@ use lib.IntN.{ℤ, _-ℤ_}
 use lib.ListN.{length, set}
 use Rattle.model.specs.Ranges.{maxVariables}
 use Rattle.integer.specs.Size.{Within}
-use Rattle.linear.specs.Ranges.{widestBound}
+use Rattle.linear.specs.Ranges.{widestBound, widestChange}
 use Rattle.layout.specs.Rows.{numberIn}
 
 pub record Settable (i : ℕ) (v : ℤ) (bounds : List ℤ) (reasons : List ℕ) : Type 0 where
   pub variable : i < maxVariables
   pub old : Within widestBound (numberIn bounds i)
-  pub change : Within widestBound (v -ℤ numberIn bounds i)
+  pub change : Within widestChange (v -ℤ numberIn bounds i)
 
 pub record BoundSet (i : ℕ) (v : ℤ) (reason : ℕ) (bounds : List ℤ) (reasons : List ℕ) (bounds₁ : List ℤ) (reasons₁ : List ℕ) : Type 0 where
   pub bound : bounds₁ ≡ set bounds i v

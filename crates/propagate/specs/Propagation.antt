@@ -1,8 +1,9 @@
 -- Document 01's move 2 repeated at one level, until the next move is a conflict, a decision or the end. The model's descent goes through it: see
 -- proofs/Descent.
-use Prim.Native.Nat.{ℕ, zero, suc, _^_}
+use Prim.Native.Nat.{ℕ, zero, suc, _+_, _*_}
 use mathlib.Core.List.{List}
 use lib.IntN.{ℤ}
+use Rattle.model.specs.Ranges.{maxBudget, maxPropagations, maxSlack}
 use Rattle.model.specs.Constraint.{Constraint}
 use Rattle.model.specs.Search.{constraint, raiseLower, lowerUpper}
 use Rattle.model.specs.Search as model
@@ -34,9 +35,9 @@ propagateFor ts (suc fuel) ks number l count = propagateBy ts (nextMove ks (l .b
 unfoldable pub propagation : List ℤ → List Constraint → (ℕ → ℕ) → model.Level → ℕ → Propagation
 propagation ts ks number l count = propagateFor ts (suc (slack (l .box))) ks number l count
 
--- a count, and all the bounds that can still be set, are at most this
+-- a count, and all the bounds that can still be set, are at most this: where a call may start, and a whole box for each conflict and once more
 abbrev pub mostCounted : ℕ
-mostCounted = 2 ^ 63
+mostCounted = maxPropagations + suc maxBudget * maxSlack
 
 -- ---- what the code gives
 unfoldable pub propagationOf : ℕ → Level → Propagated → Propagation

@@ -12,7 +12,7 @@ use Rattle.model.specs.Ranges.{maxVariables, maxCoefficient}
 use Rattle.model.specs.Constraint.{inRange, term, activity}
 use Rattle.model.specs.Problem.{boundsInRange}
 use Rattle.integer.specs.Size.{Within}
-use Rattle.linear.specs.Ranges.{widestActivity, widestBound}
+use Rattle.linear.specs.Ranges.{widestActivity, widestChange}
 use Rattle.linear.specs.Reach.{Reaches}
 use Rattle.layout.specs.Rows.{rowLength, numberIn, cell, rowAt, boxOf, maxRows, rowsLength}
 
@@ -45,8 +45,8 @@ pub record Shiftable (kept i : ℕ) (rise fall : ℤ) (rows activities : List �
   pub variable : i < maxVariables
   pub coefficients : (j : ℕ) → j < kept → Within maxCoefficient (cell rows (rowLength * j) i)
   pub sizes : (j : ℕ) → j < kept → Within widestActivity (numberIn activities j)
-  pub up : Within widestBound rise
-  pub down : Within widestBound fall
+  pub up : Within widestChange rise
+  pub down : Within widestChange fall
   pub room : length activities ≡ maxRows
 
 -- up to the first activity that is above 0 now, at place r; r is `kept` where none is

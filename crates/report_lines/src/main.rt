@@ -107,11 +107,11 @@ fn conflicts() {
 }
 
 fn solutions() {
-    let mut values = [-1048576i64; 32];
+    let mut values = [-16777216i64; 32];
     solution(&values, 0);
     solution(&values, 1);
     solution(&values, 32);
-    values[0] = 1048576;
+    values[0] = 16777216;
     values[1] = 0;
     values[2] = 9;
     values[3] = 10;
@@ -136,8 +136,8 @@ fn main() {
     struck(4611686018427387904);
     set(0);
     set(4611686018427387904);
-    // the most that a call can tell: 2^62, and a run of 10^9 + 1 turns with 2^26 bounds each
-    set(4678794882494496768);
+    // the most that a call can tell: 2^62, and a run of 10^9 + 1 turns with 2^30 bounds each
+    set(5685427843501129728);
     set(18446744073709551615);
     refused(1);
     refused(9);

@@ -20,14 +20,14 @@ use Rattle.format.proofs.AcceptedShape.{tests, sizes, accepted-domain, accepted
 use Rattle.integer.specs.Tests.{and-left, and-right}
 use Rattle.lists.proofs.Bools.{true-of}
 use Rattle.soundness.proofs.Sizes.{points-every, points-once}
-use Rattle.validity.proofs.States.{Every, Sizes, fits-shaped, fits-valid}
+use Rattle.validity.proofs.States.{Every, Sizes, fits-shaped, fits-valid, sizes-fit}
 use Rattle.validity.specs.Valid.{Valid}
 use Rattle.soundness.proofs.Opened.{meets-inequalities}
 use Rattle.soundness.proofs.Runs.{ProblemFits, opened-fits, opened-open}
 use Rattle.soundness.proofs.Verdicts.{decides-with, same-verdict}
 use Rattle.soundness.proofs.Budgets.{smaller-budget}
 use Rattle.soundness.proofs.StepLists.{afterTurns, turnBlocks, state-next, valid-after, step-tells, Reached, still, reached-after, reached-creeps, list-conflicts, list-counted, list-few, list-cuts, SaysSame, run-ends-list}
-use Rattle.soundness.proofs.Tallies.{turns-set, few-admitted}
+use Rattle.soundness.proofs.Tallies.{turns-set, few-set, set-admitted}
 use Rattle.soundness.proofs.Unrefused.{call-taken, state-taken, journal-taken, stays, together-after, ran-after}
 
 -- ---- an accepted file
@@ -80,7 +80,7 @@ module _ (p : Problem) (z : Small.Sizes p) (f : ProblemFits p) where
 
   -- no turn of a list is refused
   opened-fine : (s : Search) → Valid s → Reached p (Solution p) 0 s → T (admitted s)
-  opened-fine s v r = few-admitted p z f (Solution p) 0 s v r (omega arith)
+  opened-fine s v r = let q = sizes-fit s (v .tests) in set-admitted p (Solution p) 0 s v r (few-set p z f (s .conflicts + 0) (omega (arith, q .conflicts, q .budget)))
 
   start : Reached p (Solution p) 0 (openProblem p)
   start = still (opened-open p f)

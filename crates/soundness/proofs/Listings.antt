@@ -7,7 +7,7 @@ use mathlib.Core.Logic.{inl, inr}
 use mathlib.Core.Option.{some}
 use mathlib.Core.Path.{_≡_, refl, sym, ap, subst, _∙_}
 use lib.ListN.{length, take, getElem?, length-append}
-use Rattle.model.specs.Ranges.{maxVariables}
+use Rattle.model.specs.Ranges.{maxVariables, maxPropagations}
 use Rattle.model.specs.Problem.{Problem, variables}
 use Rattle.model.specs.File.{problemIn}
 use Rattle.model.specs.Search.{Level, infeasible, Search, openProblem}
@@ -32,7 +32,7 @@ use Rattle.soundness.proofs.Opened.{meets-inequalities}
 use Rattle.soundness.proofs.OneStep.{Solved, open-same}
 use Rattle.soundness.proofs.Runs.{ProblemFits, opened-open}
 use Rattle.soundness.proofs.Demand.{fits-of, opened-valid, opened-conflicts, opened-propagations}
-use Rattle.soundness.proofs.Tallies.{turns-set, few-admitted}
+use Rattle.soundness.proofs.Tallies.{turns-set, few-set, set-admitted}
 use Rattle.soundness.proofs.Excluding.{some-room, exclude-unsolved, exclude-struck, exclude-set}
 use Rattle.soundness.proofs.StepLists.{afterTurns, reached-few, reached-creeps, repeats-reached, Reached, still, found, over, reached-after, valid-after, step-tells, state-next, fixed-after}
 use Rattle.soundness.proofs.Taking.{takes, Leaves, turn-leaves}
@@ -287,13 +287,15 @@ module _ (p : Problem) (sized : Small.Sizes p) (fits : ProblemFits p) (m : Searc
   creeping : (cs : List Call) → walk cs m .propagations ≤ suc (walk cs m .conflicts + strikes cs m) * slack (p .domain)
   creeping cs = let w = st cs in rw (w .many) (reached-creeps p (LeftAfter cs) (length (w .gone)) (walk cs m) (w .reached))
 
-  -- with so much budget there are no more strikes than points
-  few-strikes : (cs : List Call) → Modest p cs m → strikes cs m < 2 ^ 32
-  few-strikes cs (inl h) = let w = st cs in omega (arith, w .many, sized .small-budget, reached-few p (LeftAfter cs) (length (w .gone)) (walk cs m) (w .reached))
-  few-strikes cs (inr h) = h
+  -- with so much budget there are no more dead ends and strikes together than points
+  modest-set : (cs : List Call) → Modest p cs m → suc (walk cs m .conflicts + strikes cs m) * slack (p .domain) ≤ maxPropagations
+  modest-set cs (inl h) =
+      let w = st cs in
+      few-set p sized fits (walk cs m .conflicts + strikes cs m) (omega (arith, w .many, sized .small-budget, reached-few p (LeftAfter cs) (length (w .gone)) (walk cs m) (w .reached)))
+  modest-set cs (inr h) = h
 
   accepted : (cs : List Call) → Modest p cs m → admitted (walk cs m) ≡ true
-  accepted cs h = let w = st cs in true-of _ (few-admitted p sized fits (LeftAfter cs) (length (w .gone)) (walk cs m) (w .valid) (w .reached) (omega (arith, w .many, few-strikes cs h)))
+  accepted cs h = let w = st cs in true-of _ (set-admitted p (LeftAfter cs) (length (w .gone)) (walk cs m) (w .valid) (w .reached) (rw (w .many) at (modest-set cs h)))
 
   pub enumerates : Enumerates p m
   enumerates =

@@ -1,12 +1,12 @@
 -- N5's count through turns: it grows by the bounds that lines set in those that were not taken back, and from an opening it stays within the limit.
-use Prim.Native.Nat.{ℕ, zero, suc, _+_, _*_, _^_, _≤_, _<_}
-use native.Mathlib.Nat.{mul-le-mul}
+use Prim.Native.Nat.{ℕ, zero, suc, _+_, _*_, _≤_}
+use native.Mathlib.Nat.{mul-le-mul, le-refl}
 use native.Mathlib.Omega.{arith}
 use mathlib.Core.Option.{Option, none, some}
 use mathlib.Core.Path.{_≡_, refl, sym, subst}
 use lib.Dec.{T, le→leb}
 use Rattle.model.specs.Problem.{Problem, variables, domainInRange}
-use Rattle.model.specs.Ranges.{maxPropagations}
+use Rattle.model.specs.Ranges.{maxPropagations, maxSlack}
 use Rattle.model.specs.Search.{Core, Status, undecided, infeasible, solved, Search}
 use Rattle.model.specs.Move.{slack, descend, propagationsIn}
 use Rattle.model.specs.Conflict.{atConflict}
@@ -17,7 +17,7 @@ use Rattle.model.specs.Propagations.{keptBy, boundsSetBy, boundsSet}
 use Rattle.format.proofs.AcceptedShape as Small
 use Rattle.integer.specs.Tests.{and-in}
 use Rattle.validity.specs.Valid.{Valid}
-use Rattle.validity.proofs.Slack.{slack-bounded}
+use Rattle.validity.proofs.Slack.{slack-most}
 use Rattle.validity.proofs.States.{sizes-fit}
 use Rattle.validity.proofs.Steps.{step-valid, spent-or-counted}
 use Rattle.soundness.proofs.Runs.{ProblemFits}
@@ -51,13 +51,16 @@ unfolding afterTurns boundsSet
 turns-set zero s v = omega arith
 turns-set (suc k) s v = omega (arith, step-sets (s .status) s refl (sizes-fit s (v .tests) .conflicts), turns-set k (step s .state) (step-valid s v))
 
--- ---- the limit: at most 10^9 dead ends and 2^32 strikes, each with at most 2^26 bounds set
-pub few-admitted : (p : Problem) → Small.Sizes p → ProblemFits p → (Left : Point → Type 0) (struck : ℕ) (s : Search) → Valid s → Reached p Left struck s → struck < 2 ^ 32 → T (admitted s)
-unfolding admitted withinLimit variables domainInRange
-few-admitted p z f Left struck s v r h =
-    let q = sizes-fit s (v .tests) in
-    let wide : slack (p .domain) ≤ 2 ^ 26 = omega (arith, slack-bounded (p .domain) (f .domain), z .few-variables) in
-    let many : suc (s .conflicts + struck) ≤ 2 ^ 33 = omega (arith, q .conflicts, q .budget) in
-    let far : suc (s .conflicts + struck) * slack (p .domain) ≤ 2 ^ 33 * 2 ^ 26 = mul-le-mul many wide in
-    let within : s .propagations ≤ maxPropagations = omega (arith, reached-creeps p Left struck s r, far) in
+-- ---- the limit
+-- with fewer than 2^62 / 2^30 dead ends and strikes together no domain has too much slack
+pub few-set : (p : Problem) → Small.Sizes p → ProblemFits p → (k : ℕ) → suc k * maxSlack ≤ maxPropagations → suc k * slack (p .domain) ≤ maxPropagations
+unfolding variables domainInRange
+few-set p z f k h =
+    let far : suc k * slack (p .domain) ≤ suc k * maxSlack = mul-le-mul (le-refl (suc k)) (slack-most (p .domain) (f .domain) (z .few-variables)) in
+    omega (arith, far)
+
+pub set-admitted : (p : Problem) (Left : Point → Type 0) (struck : ℕ) (s : Search) → Valid s → Reached p Left struck s → suc (s .conflicts + struck) * slack (p .domain) ≤ maxPropagations → T (admitted s)
+unfolding admitted
+set-admitted p Left struck s v r h =
+    let within : s .propagations ≤ maxPropagations = omega (arith, reached-creeps p Left struck s r) in
     and-in (valid s) (withinLimit s) (v .tests) (unfold withinLimit in le→leb (s .propagations) maxPropagations within)

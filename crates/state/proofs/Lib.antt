@@ -3,3 +3,4 @@ pub mod Levels
 pub mod Cores
 pub mod Positions
 pub mod Shape
+pub mod Moved

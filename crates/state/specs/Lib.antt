@@ -2,3 +2,4 @@
 pub mod View
 pub mod Change
 pub mod Position
+pub mod Moved

@@ -2,6 +2,7 @@
 // the divisor of each constraint that has one, then the constant and the coefficients of each constraint.
 use crate::number::added;
 use crate::number::plus;
+use crate::points::value;
 use problem::Problem;
 
 pub struct Family {
@@ -15,6 +16,8 @@ pub struct Family {
     pub gaps: usize,
     // Each other variable has one of the first so many boxes.
     pub boxes: usize,
+    // 1 if the boxes are moved to the ends of the limits' range, the first to 2^24, the second to −2^24, and so on; else 0
+    pub far: usize,
     // Coefficients and constants lie from minus this number, at most 3, to it.
     pub coefficient: usize,
     pub constant: usize,
@@ -34,6 +37,11 @@ const NUMBERS: [i64; 7] = [-3, -2, -1, 0, 1, 2, 3];
 
 const DIVISORS: [i64; 5] = [2, 3, 4, 6, 1048576];
 
+// What boxes far out are moved by: none of the first seven goes past the end of the range, and the widest touch it.
+const UP: i64 = 16777214;
+
+const DOWN: i64 = -16777215;
+
 pub fn of(
     n: usize,
     m: usize,
@@ -41,6 +49,7 @@ pub fn of(
     divided: usize,
     gaps: usize,
     boxes: usize,
+    far: usize,
     coefficient: usize,
     constant: usize,
     random: usize,
@@ -53,6 +62,7 @@ pub fn of(
         divided,
         gaps,
         boxes,
+        far,
         coefficient,
         constant,
         random,
@@ -204,6 +214,35 @@ fn draw_box(f: Family, i: usize, left: usize) -> Digit {
     }
 }
 
+// A number for each of six variables: the same for each second one.
+fn by_turns(even: i64, odd: i64) -> [i64; 32] {
+    let mut numbers = [0i64; 32];
+    numbers[0] = even;
+    numbers[1] = odd;
+    numbers[2] = even;
+    numbers[3] = odd;
+    numbers[4] = even;
+    numbers[5] = odd;
+    numbers
+}
+
+// The problem with its boxes far out, and constants that leave each constraint what it was at the points moved with them.
+fn moved(p: Problem) -> Problem {
+    let far = by_turns(UP, DOWN);
+    let back = by_turns(-UP, -DOWN);
+    let mut q = p;
+    let mut i: usize = 0;
+    while i < 6 {
+        if i < p.n {
+            q.lower[i] = added(p.lower[i], 1, far[i]);
+            q.upper[i] = added(p.upper[i], 1, far[i]);
+        }
+        q.constraints[33 * i] = value(&p.constraints, 33 * i, &back);
+        i += 1;
+    }
+    q
+}
+
 // Problem k of a family.
 pub fn problem_of(f: Family, k: usize) -> Problem {
     let mut lower = [0i64; 32];
@@ -226,7 +265,7 @@ pub fn problem_of(f: Family, k: usize) -> Problem {
     let divided = divisors_of(f, left);
     let divisors = divided.divisors;
     let constraints = rows_of(f, divided.rest);
-    Problem {
+    let p = Problem {
         n: f.n,
         m: f.m,
         budget: 0,
@@ -235,5 +274,9 @@ pub fn problem_of(f: Family, k: usize) -> Problem {
         constraints,
         divisors,
         thresholds,
+    };
+    if f.far == 0 {
+        return p;
     }
+    moved(p)
 }

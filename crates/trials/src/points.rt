@@ -17,7 +17,7 @@ pub struct Enumerated {
 }
 
 // The value at a point of the constraint at a place of the rows.
-fn value(rows: &[i64], start: usize, x: &[i64; 32]) -> i64
+pub(crate) fn value(rows: &[i64], start: usize, x: &[i64; 32]) -> i64
     requires { ⌜ start + 6 < length (now rows) ⌝ }
 {
     let mut sum = rows[start];

@@ -1,11 +1,2 @@
--- Laws of the tests of a search state.
-pub mod Sizes
-pub mod Numbers
-pub mod Reasons
-pub mod Inside
-pub mod LevelLoops
-pub mod Decision
-pub mod RowLoops
-pub mod Views
-pub mod Marks
+-- Laws of the whole test.
 pub mod Valid

@@ -19,14 +19,14 @@ use Rattle.state.specs.Change.{Whole}
 use Rattle.state.specs.View.{levelOf, noLevel, keptCuts, keptAt, statusOf, inputsOf, coreOf, view}
 use Rattle.state.specs.declared.Level.{Level}
 use Rattle.state.specs.declared.Search.{Search}
-use Rattle.validate.specs.Sizes.{sizesValid}
-use Rattle.validate.specs.Nested.{levelPasses, nestedIn}
-use Rattle.validate.specs.Marks.{markValid}
-use Rattle.validate.proofs.Sizes.{Sized, sized}
-use Rattle.validate.proofs.Numbers.{numbersTo}
-use Rattle.validate.proofs.LevelLoops.{level-fits, levelsTo, levels-none, levels-more, levels-fail, nestedTo, nested-none, nested-more, nested-fail}
-use Rattle.validate.proofs.Marks.{mark-view}
-use Rattle.validate.proofs.Views.{sizes-view, constraints-view, divisors-view, numbers-view, thresholds-view, levels-view, nested-view}
+use Rattle.conditions.specs.Sizes.{sizesValid}
+use Rattle.conditions.specs.Nested.{levelPasses, nestedIn}
+use Rattle.conditions.specs.Marks.{markValid}
+use Rattle.conditions.proofs.Sizes.{Sized, sized}
+use Rattle.conditions.proofs.Numbers.{numbersTo}
+use Rattle.conditions.proofs.LevelLoops.{level-fits, levelsTo, levels-none, levels-more, levels-fail, nestedTo, nested-none, nested-more, nested-fail}
+use Rattle.conditions.proofs.Marks.{mark-view}
+use Rattle.conditions.proofs.Views.{sizes-view, constraints-view, divisors-view, numbers-view, thresholds-view, levels-view, nested-view}
 
 sizesOf : Search → Bool
 sizesOf s = sizesValid (s .n) (s .m) (s .budget) (s .conflicts) (s .made) (s .depth)

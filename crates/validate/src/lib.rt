@@ -2,6 +2,9 @@
 ghost use mathlib.Core.Path.{_≡_};
 ghost use Rattle.model.specs.Validity.{admitted};
 ghost use Rattle.state.specs.View.{view};
+use conditions::levels;
+use conditions::scalars;
+use conditions::status;
 use layout::MAX_PROPAGATIONS;
 use layout::range::are_divisors_in_range;
 use layout::range::are_in_range;
@@ -9,11 +12,6 @@ use state::Search;
 use state::kept::dropped;
 use state::kept::kept_cuts;
 use threshold::range::are_thresholds;
-
-pub mod constraints;
-pub mod levels;
-pub mod scalars;
-pub mod status;
 
 // Whether a call takes a search state, made up or not: none of the conditions of a 'foreign walk' holds. Sizes come first, for indices are computed from
 // them, and ranges before any activity. The levels are taken one by one here, and arrays lent, since each function that reads a state has a copy of it.

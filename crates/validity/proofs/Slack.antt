@@ -6,7 +6,7 @@ use lib.Dec.{T}
 use lib.IntN.{negℤ, natAbs, _-ℤ_}
 use lib.ListN.{length}
 use Rattle.model.specs.Lists.{all, allOf}
-use Rattle.model.specs.Ranges.{within, maxBound}
+use Rattle.model.specs.Ranges.{within, maxVariables, maxBound, maxSlack}
 use Rattle.model.specs.Constraint.{Bounds, Box}
 use Rattle.model.specs.Problem.{boundsInRange}
 use Rattle.model.specs.Move.{slack}
@@ -29,8 +29,11 @@ gap-small b t =
     let u = and-left (within maxBound (b .upper)) _ (and-right (within maxBound (b .lower)) _ t) in
     omega (arith, abs-add (b .upper) (negℤ (b .lower)), abs-neg (b .lower), between-in maxBound (b .lower) l, between-in maxBound (b .upper) u)
 
-pub slack-bounded : (box : Box) → T (allOf boundsInRange box) → slack box ≤ 2 * maxBound * length box
+slack-bounded : (box : Box) → T (allOf boundsInRange box) → slack box ≤ 2 * maxBound * length box
 unfolding slack allOf
 slack-bounded [] t = omega arith
 slack-bounded (b ∷ box) t =
     omega (arith, gap-small b (and-left (boundsInRange b) (allOf boundsInRange box) t), slack-bounded box (and-right (boundsInRange b) (allOf boundsInRange box) t))
+
+pub slack-most : (box : Box) → T (allOf boundsInRange box) → length box ≤ maxVariables → slack box ≤ maxSlack
+slack-most box t h = omega (arith, slack-bounded box t)

@@ -1,6 +1,6 @@
 -- `backtrack::place` meets its contract. Assumes nothing.
 use mathlib.Core.Path.{sym}
-use Rattle.backtrack.proofs.Saving.{place-less, place-more}
+use Rattle.state.proofs.Moved.{place-less, place-more}
 use borrow.Author.Needs.{needs}
 use Rattle.backtrack.proofs.place.Statement.{statement}
 use Rattle.backtrack.proofs.place.Tie as tie

@@ -11,7 +11,7 @@ use Rattle.layout.specs.Rows.{numberIn}
 use Rattle.state.specs.View.{keptCuts, droppedCuts}
 use Rattle.propagate.specs.Tracked.{Known, Tracked}
 use Rattle.propagate.proofs.Tracking.{tracked-more, tracked-some}
-use Rattle.backtrack.specs.Saved.{placeOf}
+use Rattle.state.specs.Moved.{placeOf}
 use borrow.Author.Needs.{needs}
 use Rattle.backtrack.proofs.take_back.Statement.{statement}
 use Rattle.backtrack.proofs.take_back.Tie as tie

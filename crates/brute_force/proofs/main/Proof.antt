@@ -5,10 +5,10 @@ use Rattle.brute_force.proofs.main.Statement.{statement}
 use Rattle.brute_force.proofs.main.Tie as tie
 
 abbrev Inv-loop : tie.InvT-loop
-Inv-loop wrong₀ k₀ wrong k = k ≤ 33
+Inv-loop wrong₀ k₀ wrong k = k ≤ 39
 
 abbrev μ-loop : tie.MeasureT-loop
-μ-loop wrong₀ k₀ wrong k = 33 - k
+μ-loop wrong₀ k₀ wrong k = 39 - k
 
 slice-aggregate-text : tie.Need-slice-aggregate-text Inv-loop μ-loop
 slice-aggregate-text c = search needs

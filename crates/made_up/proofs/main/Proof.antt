@@ -5,10 +5,10 @@ use Rattle.made_up.proofs.main.Statement.{statement}
 use Rattle.made_up.proofs.main.Tie as tie
 
 abbrev Inv-loop : tie.InvT-loop
-Inv-loop wrong₀ kind₀ wrong kind = kind ≤ 60
+Inv-loop wrong₀ kind₀ wrong kind = kind ≤ 69
 
 abbrev μ-loop : tie.MeasureT-loop
-μ-loop wrong₀ kind₀ wrong kind = 60 - kind
+μ-loop wrong₀ kind₀ wrong kind = 69 - kind
 
 loop-holds : tie.Need-loop-holds Inv-loop μ-loop
 loop-holds c = search needs

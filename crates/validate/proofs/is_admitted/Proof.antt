@@ -6,9 +6,9 @@ use Rattle.model.specs.Lists.{allOf}
 use Rattle.model.specs.Validity.{valid}
 use Rattle.state.specs.View.{inputsOf, view}
 use Rattle.state.specs.declared.Search.{Search}
-use Rattle.validate.proofs.LevelLoops.{level-fits}
-use Rattle.validate.proofs.Numbers.{numbersTo}
-use Rattle.validate.proofs.Sizes.{Sized}
+use Rattle.conditions.proofs.LevelLoops.{level-fits}
+use Rattle.conditions.proofs.Numbers.{numbersTo}
+use Rattle.conditions.proofs.Sizes.{Sized}
 use Rattle.validate.proofs.Valid.{Reached, levelTests, first-reached, last-status, limit-left, next-reached, refuse, refuse-constraints, refuse-divisors, refuse-first, refuse-level, refuse-nested, refuse-sizes, refuse-thresholds, rows-left, sizes-passed}
 use borrow.Author.Needs.{needs}
 use borrow.Author.Tests.{not-true, not-false}

@@ -5,10 +5,10 @@ use Rattle.brute_force.proofs.print.family.Statement.{statement}
 use Rattle.brute_force.proofs.print.family.Tie as tie
 
 abbrev Inv-loop : tie.InvT-loop
-Inv-loop row i₀ t5 t6 i = i ≤ 13
+Inv-loop row i₀ t5 t6 i = i ≤ 14
 
 abbrev μ-loop : tie.MeasureT-loop
-μ-loop row i₀ t5 t6 i = 13 - i
+μ-loop row i₀ t5 t6 i = 14 - i
 
 number-requires : tie.Need-number-requires Inv-loop μ-loop
 number-requires c κs = search needs

@@ -13,8 +13,8 @@ use Rattle.model.specs.Ranges.{maxCoefficient}
 use Rattle.model.specs.Constraint.{term, activity}
 use Rattle.integer.specs.Size.{Within, weaken, fits, add-within}
 use Rattle.layout.specs.Rows.{numberIn, cell, constraintAt, boundsAt, boxOf}
-use Rattle.linear.specs.Ranges.{widestTerm}
-use Rattle.linear.proofs.Ranges.{term-fits, constant-back, coefficient-back, lower-back, upper-back}
+use Rattle.linear.specs.Ranges.{widestBound, widestTerm}
+use Rattle.linear.proofs.Ranges.{term-fits, change-fits, constant-back, coefficient-back, lower-back, upper-back}
 use Rattle.linear.proofs.Terms.{rest, rest-start, rest-step, rest-end}
 use Rattle.linear.proofs.activity.min_activity.Statement.{statement}
 use Rattle.linear.proofs.activity.min_activity.Tie as tie
@@ -74,19 +74,29 @@ term-requires c κs =
     let p = l .before .before .pre in
     let i = l .loop .i in
     let h : i < l .before .before .args .n = c .before .before .before .loop-test .taken in
-    rw (coefficient-back (p .0) i h, lower-back (p .1) i h, upper-back (p .1) i h) (term-fits (p .0) (p .1) i h)
+    rw (coefficient-back (p .0) i h, lower-back (p .1) i h, upper-back (p .1) i h) (change-fits (term-fits (p .0) (p .1) i h))
+
+-- variable i's term
+sized : (c : lts.After-term (term-reads.Asked, term-reads.Learnt) reads.Pre reads.Post Inv-loop μ-loop) → Within widestTerm (c .term .result)
+unfolding numberIn
+sized c =
+    let l = c .before .before .before .before .before in
+    let b = l .before .before .pre .1 in
+    let i = l .loop .i in
+    let h : i < l .before .before .args .n = c .before .before .before .before .loop-test .taken in
+    c .term .ensures .1 widestBound (rw (lower-back b i h) (b .low i h)) (rw (upper-back b i h) (b .high i h))
 
 -- the sum after variable i
 added : (c : lts.After-term (term-reads.Asked, term-reads.Learnt) reads.Pre reads.Post Inv-loop μ-loop) →
     Within (maxCoefficient + (c .before .before .before .before .before .loop .i + 1) * widestTerm) (toZ w64 (c .before .before .before .before .before .loop .sum) +ℤ c .term .result)
-added c = weaken (omega arith) (add-within (c .before .before .before .before .before .loop .inv .2) (c .term .ensures .1))
+added c = weaken (omega arith) (add-within (c .before .before .before .before .before .loop .inv .2) (sized c))
 
 fitting : (c : lts.After-term (term-reads.Asked, term-reads.Learnt) reads.Pre reads.Post Inv-loop μ-loop) →
     SFits w64 (toZ w64 (c .before .before .before .before .before .loop .sum) +ℤ c .term .result)
 fitting c = fits (omega (arith, c .before .before .before .before .loop-test .taken, c .before .before .before .before .before .before .before .pre .0 .few)) (added c)
 
 add-sum : tie.Need-add-sum Inv-loop μ-loop
-add-sum c = rw (toZ-ofZ (fits (lit< tt) (c .term .ensures .1))) (fitting c)
+add-sum c = rw (toZ-ofZ (fits (lit< tt) (sized c))) (fitting c)
 
 add-i : tie.Need-add-i Inv-loop μ-loop
 add-i c = search needs
@@ -105,7 +115,7 @@ loop-again c =
     let h : i < a .n = c .before .before .before .before .loop-test .taken in
     let e : c .term .result ≡ term (cell (now (a .rows)) (a .start) i) (boundsAt (now (a .lower)) (now (a .upper)) i) =
     rw (coefficient-back (p .0) i h, lower-back (p .1) i h, upper-back (p .1) i h) at (c .term .ensures .0) in
-    rw (toZ-ofZ (fits (lit< tt) (c .term .ensures .1)), toZ-ofZ (fitting c)) (
+    rw (toZ-ofZ (fits (lit< tt) (sized c)), toZ-ofZ (fitting c)) (
       omega arith,
       ap (λ (z : ℤ). (toZ w64 (l .loop .sum) +ℤ z) +ℤ rest (a .n) (now (a .rows)) (a .start) (now (a .lower)) (now (a .upper)) (i + 1)) e
           ∙ sym (rest-step (a .n) (now (a .rows)) (a .start) (now (a .lower)) (now (a .upper)) (toZ w64 (l .loop .sum)) i h) ∙ l .loop .inv .1,

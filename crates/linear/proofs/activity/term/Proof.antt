@@ -1,11 +1,21 @@
 -- `linear::activity::term` meets its contract. Assumes nothing.
 use native.Mathlib.Omega.{arith}
 use mathlib.Core.Path.{_∙_}
+use lib.Dec.{lit<}
+use lib.IntN.{ℤ, _*ℤ_}
+use mir.Syntax.{w64}
+use mir.Val.{SFits}
 use mir.Facts.{toZ-ofZ}
-use Rattle.integer.specs.Automatic.{exps, fits!, eq!, within! }
+use Rattle.model.specs.Ranges.{maxCoefficient}
+use Rattle.integer.specs.Size.{Within, fits, mul-within}
+use Rattle.integer.specs.Automatic.{exps, fits!, eq! }
+use Rattle.linear.specs.Ranges.{widestChange}
 use Rattle.linear.proofs.Terms.{term-lower, term-upper}
 use Rattle.linear.proofs.activity.term.Statement.{statement}
 use Rattle.linear.proofs.activity.term.Tie as tie
+
+product : {a b : ℤ} → Within maxCoefficient a → Within widestChange b → SFits w64 (a *ℤ b)
+product h k = fits (lit< tt) (mul-within h k)
 
 mul-result : tie.Need-mul-result
 mul-result c = fits! (search exps depth 8) tt
@@ -15,7 +25,7 @@ returns c =
     let s = c .before in (
       eq! (search exps depth 8) (search exps depth 8) tt (omega arith) ∙
           term-lower (s .args .a) (record { lower = s .args .lower; upper = s .args .upper }) (simp (toZ-ofZ, s .fits .a) at (c .if1 .taken)),
-      within! (search exps depth 8) tt,
+      λ w l u. rw (toZ-ofZ (s .fits .a), toZ-ofZ (s .fits .lower), toZ-ofZ (product (s .pre .coefficient) (s .pre .up))) (mul-within (s .pre .coefficient) l),
     )
 
 mul-result-2 : tie.Need-mul-result-2
@@ -26,7 +36,7 @@ returns-2 c =
     let s = c .before in (
       eq! (search exps depth 8) (search exps depth 8) tt (omega arith) ∙
           term-upper (s .args .a) (record { lower = s .args .lower; upper = s .args .upper }) (simp (toZ-ofZ, s .fits .a) at (c .if1 .left)),
-      within! (search exps depth 8) tt,
+      λ w l u. rw (toZ-ofZ (s .fits .a), toZ-ofZ (s .fits .upper), toZ-ofZ (product (s .pre .coefficient) (s .pre .down))) (mul-within (s .pre .coefficient) u),
     )
 
 pub term-spec : {M : Type 1} → statement M

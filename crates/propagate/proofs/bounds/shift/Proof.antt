@@ -15,7 +15,8 @@ use Rattle.model.specs.Constraint.{Bounds, term}
 use Rattle.integer.specs.Size.{Within}
 use Rattle.integer.specs.Tests.{back, ltZ-true, ltZ-false}
 use Rattle.integer.specs.Automatic.{exps, fits!, eq! }
-use Rattle.linear.specs.Ranges.{widestActivity}
+use Rattle.linear.specs.Ranges.{widestActivity, widestChange}
+use Rattle.linear.specs.Reach.{widestSpan}
 use Rattle.layout.specs.Rows.{rowLength, numberIn, cell, maxRows}
 use Rattle.propagate.proofs.Tracking.{number-same, number-other}
 use borrow.Author.Needs.{needs}
@@ -58,7 +59,7 @@ term-requires c κs =
     let l = c .before .before in
     let p = l .before .pre in
     let k = p .coefficients (l .loop .j) (c .before .loop-test .taken) in
-    rw (back (lit< tt) k, back (lit< tt) (p .up), back (lit< tt) (p .down)) (record { coefficient = k; low = p .up; high = p .down })
+    rw (back (lit< tt) k, back (lit< tt) (p .up), back (lit< tt) (p .down)) (record { coefficient = k; up = p .up; down = p .down })
 
 mul-v : tie.Need-mul-v Inv-loop μ-loop
 mul-v c = search needs
@@ -84,6 +85,11 @@ changed c =
     let l = c .before .before .before in
     rw (back (lit< tt) (l .before .pre .coefficients (l .loop .j) (c .before .before .loop-test .taken))) at (c .term .ensures .0)
 
+change-size : (c : tie.After-term Inv-loop μ-loop) → Within widestSpan (c .term .result)
+change-size c =
+    let p = c .before .before .before .before .pre in
+    c .term .ensures .1 widestChange (rw (back (lit< tt) (p .up)) (p .up)) (rw (back (lit< tt) (p .down)) (p .down))
+
 -- the sum that is stored
 stored : (c : tie.After-v Inv-loop μ-loop) →
     let l = c .before .before .before .before in
@@ -91,7 +97,7 @@ stored : (c : tie.After-v Inv-loop μ-loop) →
     toZ w64 (ofZ w64 (toZ w64 (ofZ w64 (numberIn xs (l .loop .j))) +ℤ toZ w64 (ofZ w64 (c .before .term .result)))) ≡ numberIn xs (l .loop .j) +ℤ c .before .term .result
 stored c =
     let w = old-size c in
-    let t = c .before .term .ensures .1 in
+    let t = change-size (c .before) in
     eq! (search exps depth 8) (search exps depth 8) tt (omega arith)
 
 -- the new activity, as stored
@@ -111,7 +117,7 @@ add-v : tie.Need-add-v Inv-loop μ-loop
 unfolding numberIn
 add-v c =
     let w = old-size c in
-    let t = c .before .term .ensures .1 in
+    let t = change-size (c .before) in
     fits! (search exps depth 8) tt
 
 mul-v-2 : tie.Need-mul-v-2 Inv-loop μ-loop

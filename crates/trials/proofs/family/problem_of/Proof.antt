@@ -72,6 +72,12 @@ rows-of-requires c κs = search needs
 returns : tie.Need-returns Inv-loop μ-loop
 returns c = search needs
 
+moved-requires : tie.Need-moved-requires Inv-loop μ-loop
+moved-requires c κs = search needs
+
+returns-2 : tie.Need-returns-2 Inv-loop μ-loop
+returns-2 c = search needs
+
 pub problem-of-spec : {M : Type 1} → statement M
 problem-of-spec =
     tie.close
@@ -97,4 +103,6 @@ problem-of-spec =
     loop-again
     divisors-of-requires
     rows-of-requires
-    returns)
+    returns
+    moved-requires
+    returns-2)

@@ -15,7 +15,7 @@ use Rattle.propagate.specs.Moves.{stopOf}
 use Rattle.propagate.proofs.Steps.{scan-fits}
 use Rattle.propagate.proofs.Tracking.{scan-box}
 use Rattle.propagate.proofs.Warning.{testable}
-use Rattle.backtrack.proofs.Mirroring.{mirrored-kept}
+use Rattle.levels.proofs.Mirroring.{mirrored-kept}
 use Rattle.engine.proofs.Running.{Running, running-decides}
 use Rattle.engine.proofs.Carrying.{clear-more}
 use Rattle.engine.proofs.Due.{decided-warned}

@@ -11,8 +11,8 @@ use Rattle.lists.proofs.Bools.{clash}
 use Rattle.state.specs.View.{noLevel, statusOf}
 use Rattle.state.specs.declared.Level.{Level}
 use Rattle.propagate.specs.Moves.{stopOf}
-use Rattle.backtrack.proofs.Saving.{rows-stay}
-use Rattle.backtrack.proofs.Mirroring.{mirrored-stored, mirrored-less}
+use Rattle.state.proofs.Moved.{rows-stay}
+use Rattle.levels.proofs.Mirroring.{mirrored-stored, mirrored-less}
 use Rattle.engine.proofs.Arms.{at-level, finishes}
 use Rattle.engine.proofs.Looping.{ends}
 use Rattle.engine.proofs.Striking.{last-final, not-last, none-kept, row-fits, go-on, struckTo, struck-out, struck-on, struck-less}
