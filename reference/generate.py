@@ -9,10 +9,12 @@ bounds and rows (an inequality's constant, then its coefficients; or a constrain
   jumps                   pigeonhole problems with divisors: both sorts of conflicts far down, and cuts that go back over many levels
   divisor_edges           divisors at the edges of their range, or one beyond
 and with thresholds, whose list such a function gives as well:
-  thresh, threshbig       small boxes; with limits and thresholds to 2^20
+  thresh, threshbig       small boxes; with limits and thresholds to 2^24
   threshdiv               with divisor constraints too
   gaps                    totals that variables reach only in steps, so that many have no solution
   threshold_edges         thresholds at the edges of their range, or one beyond
+and with the widest limits:
+  wide                    narrow boxes far out and wide ones; bounds that creep over all of it in strides; sums near 2^59
 """
 import random
 
@@ -125,12 +127,13 @@ def divisor_edges(rnd):
 
 # ---- problems with thresholds
 
-WIDE = 20  # Variables with a higher limit have a threshold near it: else there would be too many solutions to list.
+NARROW = 20  # Variables with a higher limit have a threshold near it: else there would be too many solutions to list.
+LIGHT = MAX_COEFFICIENT // MAX_BOUND - 4  # Coefficients that add up to this give constants in range, whatever the limits.
 
 
 def some_domain(rnd, upper):
     """Limits and a threshold, or none; the ends of their range are common."""
-    if upper > WIDE:
+    if upper > NARROW:
         return (0, upper), upper - rnd.randint(0, 4)
     lower = rnd.choice([0] * 7 + [-2, 1])
     fits = lower == 0 and upper >= 2
@@ -162,9 +165,9 @@ def thresh(rnd):
 
 
 def threshbig(rnd):
-    """With limits and thresholds to 2^20; the numbers are small enough for constants in range."""
+    """With limits and thresholds to 2^24; the numbers are small enough for constants in range."""
     limits, thresholds, point = with_thresholds(rnd, rnd.randint(1, 4), [1, 2, 9, MAX_BOUND - 1, MAX_BOUND, MAX_BOUND])
-    return limits, near_rows(rnd, rnd.randint(1, 5), 200, point), thresholds
+    return limits, near_rows(rnd, rnd.randint(1, 5), LIGHT // len(point), point), thresholds
 
 
 def threshdiv(rnd):
@@ -189,20 +192,76 @@ def threshold_edges(rnd):
     """Thresholds at the edges of their range; not always, one of them beyond, or beside a lower limit that is not 0. The first row leaves few solutions."""
     n = rnd.choice([1, 2, 31, 32])
     limits = [(0, rnd.choice([2, 3, MAX_BOUND])) for _ in range(n)]
-    thresholds = [upper if upper > WIDE else rnd.choice([0, 2, upper]) for _, upper in limits]
+    thresholds = [upper if upper > NARROW else rnd.choice([0, 2, upper]) for _, upper in limits]
     i, sort = rnd.randrange(n), rnd.randrange(5)
     if sort == 0:
         limits[i] = (rnd.choice([-1, 1]), limits[i][1])
     elif sort == 1:
         thresholds[i] = rnd.choice([1, -1, limits[i][1] + 1, MAX_BOUND + 1, 2**31 - 1, -(2**31)])
-    few = [-MAX_BOUND] + [1 if upper > WIDE else MAX_BOUND // 4 for _, upper in limits]
+    few = [-MAX_BOUND] + [1 if upper > NARROW else MAX_BOUND // 4 for _, upper in limits]
     return limits, [few] + near_rows(rnd, rnd.randint(0, 3), 3, [0] * n), thresholds
+
+
+# ---- problems with the widest limits
+
+def far_domain(rnd):
+    """A few values anywhere, most often at an end of the range, with a threshold or none."""
+    width = rnd.randint(0, 6)
+    low = rnd.choice([-MAX_BOUND, MAX_BOUND - width, rnd.randint(-MAX_BOUND, MAX_BOUND - width)])
+    return some_domain(rnd, rnd.randint(MAX_BOUND // 16, MAX_BOUND)) if rnd.random() < 0.2 else ((low, low + width), 0)
+
+
+def heavy_row(rnd, point):
+    """A row that the point meets or nearly meets, with coefficients to 2^30."""
+    numbers, i, j = [0] * len(point), rnd.randrange(len(point)), rnd.randrange(len(point))
+    factor = rnd.choice([1, -1]) * rnd.randint(1, MAX_COEFFICIENT // MAX_BOUND)
+    numbers[i] += factor * point[j]
+    numbers[j] -= factor * point[i]
+    return [rnd.choice([1, 0, 0, -1, -MAX_COEFFICIENT])] + numbers
+
+
+def far_boxes(rnd):
+    """One of the variables has all values; equations tie it to the others."""
+    limits, thresholds = map(list, zip(*(far_domain(rnd) for _ in range(rnd.randint(2, 8)))))
+    i, size = rnd.randrange(len(limits)), LIGHT // len(limits)
+    limits[i], thresholds[i] = rnd.choice([(-MAX_BOUND, MAX_BOUND), (0, MAX_BOUND), (-MAX_BOUND, 0)]), 0
+    point = [rnd.randint(threshold or lower, upper) for (lower, upper), threshold in zip(limits, thresholds)]
+    rows = near_rows(rnd, rnd.randint(0, 2), size, point) + [heavy_row(rnd, point) for _ in range(rnd.choice([0, 0, 1]))]
+    for factor in rnd.choice([[1], [-size], [size, 0]]):
+        numbers = [rnd.randint(-size, size) for _ in limits]
+        numbers[i] = factor
+        rows += equation(numbers, value(numbers, point) + rnd.choice([0] * 7 + [1]))
+    if rnd.random() < 0.3:
+        rows.append(multiple(rnd, rnd.choice([2, 3, 7, 1000, MAX_DIVISOR - 1, MAX_DIVISOR]), some_of(rnd, len(point), 3), point))
+    rnd.shuffle(rows)
+    return limits, rows, thresholds
+
+
+def far_strides(rnd):
+    """Two variables whose bounds creep over all values, up or down, to a dead end."""
+    ways = rnd.choice([[[1, -1], [-1, 1]], [[-1, 1], [1, -1]]])
+    return [(-MAX_BOUND, MAX_BOUND)] * 2, [[gap] + numbers for gap, numbers in zip([MAX_BOUND // rnd.randint(1, 999), 0], ways)]
+
+
+def far_sums(rnd):
+    """32 variables at the ends of the range: a sum near 2^59 in size, and such terms that come to nearly 0, where one variable has all values."""
+    point = [rnd.choice([-MAX_BOUND, MAX_BOUND]) for _ in range(32)]
+    limits = [(v, v) for v in point]
+    limits[rnd.randrange(1, 32, 2)] = (-MAX_BOUND, MAX_BOUND)
+    terms = [v // MAX_BOUND * (MAX_COEFFICIENT - (i == 31)) for i, v in enumerate(point)]
+    sign, balanced = rnd.choice([1, -1, -1, -1]), [a * (-1) ** i for i, a in enumerate(terms)]
+    near_zero = [rnd.choice([1, 0, 0, -1]) - value(balanced, point)] + balanced
+    return limits, rnd.sample([[rnd.choice([1, -1]) * MAX_COEFFICIENT] + [sign * a for a in terms], near_zero], 2)
+
+
+def wide(rnd):
+    return rnd.choice([far_boxes, far_boxes, far_boxes, far_strides, far_sums])(rnd)
 
 
 # ---- by name
 
 FAMILIES = by_name(tiny, tinybig, rand, pigeon, parity, market, knap, frob, creep, creepn, creepd, blue, bluew, div, divbig, passage,
-                   thresh, threshbig, threshdiv)
+                   thresh, threshbig, threshdiv, wide)
 PROBLEMS = {**FAMILIES, **by_name(heavy, small, dense, edges, sums, residues, jumps, divisor_edges, gaps, threshold_edges)}
 
 

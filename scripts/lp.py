@@ -151,7 +151,7 @@ def read_limit(tokens):
         raise LpError(token.line, "a bound has a variable on one side of each comparison and a number on the other")
     value = sign * whole(token.text, token.line)
     if not in_range(value, MAX_BOUND):
-        raise LpError(token.line, "the limit %d is out of range: limits lie in -2^20 to 2^20" % value)
+        raise LpError(token.line, "the limit %d is out of range: limits lie in -2^24 to 2^24" % value)
     return value
 
 

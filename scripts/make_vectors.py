@@ -6,13 +6,14 @@
 What is expected comes from this repository's reference/ (which takes some minutes), or from another PROGRAM (scripts/implementation.py says how it is
 called); never from this repository's programs.
 
-Written are the plan files of scripts/vector_files.py and scripts/vector_thresholds.py (crates/vectors/data), the names of these and of the other files that
-stand there already (crates/vectors/args), what `vectors` must print for them (crates/vectors/stdout), plan A with its outputs (examples, crates/verdict,
-crates/journal), and the listing of examples/blueprint.plan (crates/solutions).
+Written are the plan files of scripts/vector_files.py, scripts/vector_thresholds.py and scripts/vector_limits.py (crates/vectors/data), the names of these and
+of the other files that stand there already (crates/vectors/args), what `vectors` must print for them (crates/vectors/stdout), plan A with its outputs
+(examples, crates/verdict, crates/journal), and the listing of examples/blueprint.plan (crates/solutions).
 """
 import argparse
 
 import vector_files
+import vector_limits
 import vector_thresholds
 from implementation import ROOT, expected, expected_listing, solve
 from files import MAX_VARIABLES
@@ -20,7 +21,7 @@ from vector_files import PLAN_A
 
 DATA = ROOT / "crates/vectors/data"
 DIGEST_PRIME = 2**55 - 55
-GROUPS = vector_files.GROUPS + vector_thresholds.GROUPS
+GROUPS = vector_files.GROUPS + vector_thresholds.GROUPS + vector_limits.GROUPS
 
 
 def printed(program, name, file):

@@ -72,7 +72,8 @@ LIMITS = [
     ("Bounds\n x <= 5\n x <= 4\nGeneral\n x", (0, 4)),
     ("Binary\n x", (0, 1)),
     ("Bounds\n 0 <= x <= 1\nBinaries\n x", (0, 1)),
-    ("General\n x\nBounds\n -1048576 <= x <= 1048576", (-MAX_BOUND, MAX_BOUND)),
+    ("General\n x\nBounds\n -16777216 <= x <= 16777216", (-MAX_BOUND, MAX_BOUND)),
+    ("General\n x\nBounds\n -1048577 <= x <= 1.6777216e7", (-(2**20) - 1, 2**24)),
 ]
 
 # The same, and x's threshold too.
@@ -82,7 +83,8 @@ SEMI = [
     ("Semi\n x\nBounds\n x <= 2\n x >= 2\nInteger\n x", (0, 2), 2),
     ("Bounds\n x <= 5\nGeneral\n x\nSemis\n x x", (0, 5), 0),
     ("Bounds\n 1 <= x <= 5\nGeneral\n x\nSEMICONTINUOUS\n x", (0, 5), 0),
-    ("Bounds\n x = 1048576\nGeneral\n x\nsemi\n x", (0, MAX_BOUND), MAX_BOUND),
+    ("Bounds\n x = 16777216\nGeneral\n x\nsemi\n x", (0, MAX_BOUND), MAX_BOUND),
+    ("Bounds\n 1048577 <= x <= 16777215\nGeneral\n x\nsemi\n x", (0, 2**24 - 1), 2**20 + 1),
     ("Bounds\n 3 <= x <= 5\nGeneral\n x\nSemi-continuous", (3, 5), 0),
 ]
 
@@ -115,7 +117,9 @@ REFUSED = [
     ("Subject To\nBounds\n -inf <= x <= 3\nGeneral\n x\nEnd\n", "line 3: a limit must be finite, and this one is infinite"),
     ("Subject To\nBounds\n x <= +Infinity\nGeneral\n x\nEnd\n", "line 3: a limit must be finite, and this one is infinite"),
     ("Subject To\nBounds\n x <= -3\nGeneral\n x\nEnd\n", "line 3: the lower limit of x, 0, is above its upper limit, -3"),
-    ("Subject To\nBounds\n x <= 1048577\nGeneral\n x\nEnd\n", "line 3: the limit 1048577 is out of range: limits lie in -2^20 to 2^20"),
+    ("Subject To\nBounds\n x <= 16777217\nGeneral\n x\nEnd\n", "line 3: the limit 16777217 is out of range: limits lie in -2^24 to 2^24"),
+    ("Subject To\nBounds\n -16777217 <= x <= 0\nGeneral\n x\nEnd\n", "line 3: the limit -16777217 is out of range: limits lie in -2^24 to 2^24"),
+    ("Subject To\nSemi\n x\nBounds\n 16777217 <= x\n" + TAIL, "line 5: the limit 16777217 is out of range: limits lie in -2^24 to 2^24"),
     ("Subject To\nBounds\n 2 x <= 3\nGeneral\n x\nEnd\n",
      "line 3: a bound is written as '0 <= x <= 5', 'x <= 5', 'x >= 0' or 'x = 3', one to a line"),
     ("Subject To\nBounds\n x <= y\nGeneral\n x\nEnd\n", "line 3: a bound has a variable on one side of each comparison and a number on the other"),
@@ -282,6 +286,8 @@ def test_commands():
     assert run("journal.py", data=b"") == (0, b"", "")
     assert run("problem.py", "smt2", data=problem_file(0, [(0, 1)], [], [2])) == (
         1, b"", "this is no problem file: a threshold is negative, 1 or above its variable's upper limit, or the lower limit beside it is not 0 (error 13)\n")
+    assert run("problem.py", "lp", data=problem_file(0, [(0, MAX_BOUND + 1)], [])) == (
+        1, b"", "this is no problem file: a limit is out of range or limits are crossed (error 5)\n")
     # A text from a Windows editor.
     windows = b"\xef\xbb\xbf" + text.replace(b"\n", b"\r\n")
     assert run("problem.py", "file", data=windows) == (0, plan, "")

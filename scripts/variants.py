@@ -5,7 +5,7 @@
 
 Each variant replaces one piece of text in a module of reference/. In each round (60 unless ROUNDS says otherwise) one file of each kind is solved by the
 reference and by each variant that no earlier file has told apart. Printed are, for each variant, the round and kind of the first file with another text,
-journal or beginning of its listing. A variant that fails, or takes over a minute on a file, is told apart by it.
+journal, validity of the opened state or beginning of its listing. A variant that fails, or takes over a minute on a file, is told apart by it.
 """
 import random
 import signal
@@ -15,6 +15,7 @@ from itertools import islice
 
 from implementation import ROOT, solve
 from generate import DAMAGE, PROBLEMS, generate
+import search
 
 MODULES = ["files", "search", "solve"]
 SECONDS = 60
@@ -283,7 +284,23 @@ VARIANTS = [
     ("files", "DIVISOR_RANGE = 10", "DIVISOR_RANGE = 7", "divisors out of range as error 7"),
     ("files", "not in_range(number, MAX_COEFFICIENT) for", "not in_range(number, MAX_COEFFICIENT - 1) for", "coefficients of 2^30 refused"),
     ("files", "not in_range(number, MAX_COEFFICIENT) for", "not in_range(number, MAX_COEFFICIENT + 1) for", "coefficients of 2^30 + 1 accepted"),
-    ("files", "not in_range(upper, MAX_BOUND)", "not in_range(upper, MAX_BOUND + 1)", "upper domain bounds of 2^20 + 1 accepted"),
+    ("files", "not in_range(upper, MAX_BOUND)", "not in_range(upper, MAX_BOUND + 1)", "upper domain bounds of 2^24 + 1 accepted"),
+    ("files", "not in_range(lower, MAX_BOUND)", "not in_range(lower, MAX_BOUND + 1)", "lower domain bounds of -2^24 - 1 accepted"),
+    ("files", "not in_range(upper, MAX_BOUND)", "not in_range(upper, MAX_BOUND - 1)", "upper domain bounds of 2^24 refused"),
+    ("files", "not in_range(lower, MAX_BOUND)", "not in_range(lower, MAX_BOUND - 1)", "lower domain bounds of -2^24 refused"),
+    ("files", "not in_range(upper, MAX_BOUND)", "not in_range(upper, 2**20)", "upper domain bounds above 2^20 refused"),
+    ("files", "not in_range(lower, MAX_BOUND)", "not in_range(lower, 2**20)", "lower domain bounds below -2^20 refused"),
+    ("files", "<= divisor <= MAX_DIVISOR", "<= divisor <= MAX_BOUND", "divisors to 2^24 accepted"),
+    ("search", "in_range(lower, MAX_BOUND) and", "in_range(lower, 2**20) and", "lower bounds below -2^20 not valid in a state"),
+    ("search", "and in_range(upper, MAX_BOUND) for", "and in_range(upper, 2**20) for", "upper bounds above 2^20 not valid in a state"),
+    ("search", "<= threshold <= MAX_BOUND for", "<= threshold <= 2**20 for", "thresholds above 2^20 not valid in a state"),
+    ("search", "<= threshold <= MAX_BOUND for", "<= threshold < MAX_BOUND for", "thresholds of 2^24 not valid in a state"),
+    (
+        "search",
+        "return constraint.constant + sum(a * (level.lower[i] if a > 0 else level.upper[i]) for i, a in constraint.terms)",
+        "return (constraint.constant + sum(a * (level.lower[i] if a > 0 else level.upper[i]) for i, a in constraint.terms) + 2**57) % 2**58 - 2**57",
+        "minimum activities in 58 bits",
+    ),
     ("files", "lower > upper or ", "", "crossed domain bounds accepted"),
     ("files", " or len(blocks) != 1 + m", " or len(blocks) < 1 + m", "more blocks than 1 + m accepted"),
     ("files", "MAX_BUDGET = 10**9", "MAX_BUDGET = 10**9 + 1", "budgets of 1,000,000,001 accepted"),
@@ -300,9 +317,14 @@ VARIANTS = [
 ]
 
 
-def answers(solver):
-    """What a module `solve` makes of a file: the text and the journal, and the listing's first lines."""
-    return lambda file: (solver.solve(file), list(islice(solver.listing(file), LINES)))
+def answers(solver, searcher):
+    """What the modules `solve` and `search` make of a file: the text and the journal, the listing's first lines, and whether the opened state is valid."""
+    def given(file):
+        text, journal = solver.solve(file)
+        valid = text.startswith("refused") or searcher.valid(searcher.open_problem(solver.read_input(file)))
+        return text, journal, list(islice(solver.listing(file), LINES)), valid
+
+    return given
 
 
 def variant(module, right, wrong):
@@ -315,7 +337,7 @@ def variant(module, right, wrong):
     for name in MODULES:
         sys.modules[name] = types.ModuleType(name)
         exec(compile(texts[name], name, "exec"), sys.modules[name].__dict__)
-    wrong_answers = answers(sys.modules["solve"])
+    wrong_answers = answers(sys.modules["solve"], sys.modules["search"])
     sys.modules.update({name: module for name, module in loaded.items() if module})
     return wrong_answers
 
@@ -338,7 +360,7 @@ def main():
     rounds = int(sys.argv[1]) if len(sys.argv) > 1 else 60
     signal.signal(signal.SIGALRM, too_long)
     chosen = random.Random(5)
-    right_answers = answers(solve)
+    right_answers = answers(solve, search)
     left = {name: variant(module, right, wrong) for module, right, wrong, name in VARIANTS}
     for number in range(1, rounds + 1):
         for kind in [*PROBLEMS, *DAMAGE]:

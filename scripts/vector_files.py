@@ -1,9 +1,11 @@
-"""Plan files that scripts/make_vectors.py stores, by groups: pairs of a name and a file. Those about thresholds are in scripts/vector_thresholds.py."""
+"""Plan files that scripts/make_vectors.py stores, by groups: pairs of a name and a file. Those about thresholds are in scripts/vector_thresholds.py, those with
+limits beyond 2^20 in scripts/vector_limits.py."""
 import implementation  # it puts reference/ on the path
 from files import (CONTENT, DIVISOR_OFFSET, MAGIC, MAX_BOUND, MAX_BUDGET, MAX_COEFFICIENT, MAX_DIVISOR, Constraint, constraint_content,
                    constraint_of, head_fields, problem_file, sealed)
 
 HALF = MAX_COEFFICIENT // 2
+FAR = 2**20  # Limits that are far out and not yet at an end of their range.
 
 
 def blocks(contents):
@@ -90,16 +92,16 @@ def bad_files():
 
 
 def edge_files():
-    """Accepted, at the edges of sizes, limits and numbers."""
+    """Accepted, at the edges of sizes and numbers, with limits far out."""
     yield "no-lines", problem_file(0, [(3, 9), (-7, -7), (-2, 5)], [])
-    yield "no-lines-widest", problem_file(MAX_BUDGET, [(-MAX_BOUND, MAX_BOUND)] * 32, [])
-    yield "one-value", problem_file(MAX_BUDGET, [(MAX_BOUND, MAX_BOUND)], [[-MAX_BOUND, 1]])
+    yield "no-lines-widest", problem_file(MAX_BUDGET, [(-FAR, FAR)] * 32, [])
+    yield "one-value", problem_file(MAX_BUDGET, [(FAR, FAR)], [[-FAR, 1]])
     cover = [[1] + [-1 if i == j % 32 or i % 31 == j % 31 else 0 for i in range(32)] for j in range(64)]
     yield "n-32-m-64", problem_file(9, [(0, 1)] * 32, cover)
-    yield "lowest-value-largest", problem_file(1, [(MAX_BOUND, MAX_BOUND)] * 32, [[MAX_COEFFICIENT] * 32 + [MAX_COEFFICIENT - 1]])
-    yield "lowest-value-least", problem_file(1, [(MAX_BOUND, MAX_BOUND)] * 32, [[-MAX_COEFFICIENT] * 32 + [1 - MAX_COEFFICIENT]])
+    yield "lowest-value-largest", problem_file(1, [(FAR, FAR)] * 32, [[MAX_COEFFICIENT] * 32 + [MAX_COEFFICIENT - 1]])
+    yield "lowest-value-least", problem_file(1, [(FAR, FAR)] * 32, [[-MAX_COEFFICIENT] * 32 + [1 - MAX_COEFFICIENT]])
     negative = [MAX_COEFFICIENT] + [-MAX_COEFFICIENT] * 31 + [1 - MAX_COEFFICIENT]
-    yield "lowest-value-largest-negative", problem_file(1, [(-MAX_BOUND, -MAX_BOUND)] * 32, [negative])
+    yield "lowest-value-largest-negative", problem_file(1, [(-FAR, -FAR)] * 32, [negative])
     yield "no-coefficient-false", problem_file(5, PLAN_A_LIMITS, [[1], [-1, 1, 1]])
     yield "no-coefficient-met", problem_file(5, PLAN_A_LIMITS, [[0], [-MAX_COEFFICIENT], [1, -1, -1]])
     yield "no-coefficient-false-no-budget", problem_file(0, PLAN_A_LIMITS, [[-1, 1, 1], [MAX_COEFFICIENT]])
@@ -139,8 +141,8 @@ def walk_files():
     others = [[-1, -3, 2], [1, -2, -3], [0, 3, 1], [1, -3, -3]]
     yield "cut-is-another-line", problem_file(5, [(0, 2)] * 2, others + [[2, 0, -2], [1, 0, -1]])
     yield "cut-is-an-older-cut", problem_file(5, [(0, 3)] * 3, [[9, -2, -5, 4], [7, -3, 2, -3]])
-    yield "creep-up", problem_file(5, [(0, MAX_BOUND)] * 2, [[1, 1, -1], [0, -1, 1]])
-    yield "creep-down", problem_file(5, [(-MAX_BOUND, 0)] * 2, [[0, 1, -1], [1, -1, 1]])
+    yield "creep-up", problem_file(5, [(0, FAR)] * 2, [[1, 1, -1], [0, -1, 1]])
+    yield "creep-down", problem_file(5, [(-FAR, 0)] * 2, [[0, 1, -1], [1, -1, 1]])
 
 
 def range_files():
@@ -157,13 +159,14 @@ def range_files():
     yield "outcome-constant-negative", problem_file(5, fixed, [[-HALF, HALF + 1, 0, -1], [-HALF, HALF - 1, 1, 1]])
     fixed[1] = (2, 2)
     yield "outcome-constant-negative-one-more", problem_file(5, fixed, [[-HALF, HALF + 1, 0, -1], [-HALF - 1, HALF - 1, 1, 1]])
-    # The outcomes' coefficients have 61 bits and their lowest values 83: they must be refused before those are computed.
-    rows = [
-        [371378013, -1073741817, -1073741819, 1073741823, -1073741820, 1073741817, 1073741821, 1073741819, 1073741817],
-        [-558807171, -1073741819, -1073741817, -1073741819, -1073741821, -1073741816, -1073741818, -1073741820, -1073741817],
-    ]
-    yield "outcome-83-bits", problem_file(6, [(-MAX_BOUND, MAX_BOUND)] * 8, rows)
+    yield "outcome-83-bits", problem_file(6, [(-FAR, FAR)] * 8, BEYOND)
 
+
+# The outcomes' coefficients have 61 bits, and with limits of 2^20 their lowest values 83: they must be refused before those are computed.
+BEYOND = [
+    [371378013, -1073741817, -1073741819, 1073741823, -1073741820, 1073741817, 1073741821, 1073741819, 1073741817],
+    [-558807171, -1073741819, -1073741817, -1073741819, -1073741821, -1073741816, -1073741818, -1073741820, -1073741817],
+]
 
 CUTS = [
     [42, 0, 0, 6, 6, -13, 0, -11, 3, 19, -6, -7],
@@ -261,11 +264,11 @@ def divisor_files():
     yield "cut-with-the-numbers-of-a-divisor-line", problem_file(9, [(0, 2)] * 3, [[2, -2, -2, 2], [0, -1, 2, -1], divided(2, 2, -3, 0, 1)])
     yield "false-line-with-a-divisor-twin", problem_file(5, PLAN_A_LIMITS, [divided(2, 3, 2, -1), [3, 2, -1]])
     yield "divisor-2", problem_file(9, [(0, 1)] * 3, [divided(2, 0, 1, 1, 1), [1, -1, 0, -1]])
-    far = [(MAX_BOUND - 3, MAX_BOUND)]
+    far = [(FAR - 3, FAR)]
     yield "divisor-largest", problem_file(9, far * 2, [divided(MAX_DIVISOR, 0, 1, 0), divided(MAX_DIVISOR, MAX_DIVISOR // 2, 0, MAX_DIVISOR // 2)])
-    yield "divisor-largest-none", problem_file(9, [(-MAX_BOUND, 3 - MAX_BOUND)], [divided(MAX_DIVISOR, 4, 1)])
+    yield "divisor-largest-none", problem_file(9, [(-FAR, 3 - FAR)], [divided(MAX_DIVISOR, 4, 1)])
     heaviest = [MAX_COEFFICIENT] * 31 + [MAX_COEFFICIENT - 1]
-    corner = [(MAX_BOUND, MAX_BOUND)] * 32
+    corner = [(FAR, FAR)] * 32
     yield "rest-largest", problem_file(9, corner, [divided(MAX_DIVISOR - 1, MAX_COEFFICIENT, *heaviest)])
     yield "rest-largest-met", problem_file(9, corner, [divided(MAX_DIVISOR, MAX_COEFFICIENT, *heaviest)])
     yield "rest-least", problem_file(9, corner, [divided(MAX_DIVISOR - 1, -MAX_COEFFICIENT, *[-a for a in heaviest])])

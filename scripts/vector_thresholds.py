@@ -1,7 +1,7 @@
 """Plan files about thresholds ('unused, or at least so many') that scripts/make_vectors.py stores."""
 import implementation  # it puts reference/ on the path
-from files import MAX_BOUND, MAX_COEFFICIENT, THRESHOLD_OFFSET, problem_file
-from vector_files import PLAN_A_LIMITS, PLAN_A_LINES, blocks, divided, head, line, with_byte
+from files import MAX_COEFFICIENT, THRESHOLD_OFFSET, problem_file
+from vector_files import FAR, PLAN_A_LIMITS, PLAN_A_LINES, blocks, divided, head, line, with_byte
 
 PAIR = [(0, 4)] * 2
 
@@ -43,7 +43,7 @@ def threshold_files():
     yield "threshold-none-by-the-gap", problem_file(9, PAIR, equation(5, 1, 1), [3, 3])
     # v1 >= 1 becomes v1 >= 3, which makes line 2 false; their outcome, - v2, is not false and so not taken.
     yield "threshold-outcome-not-false", problem_file(9, [(0, 4), (0, 1)], [[1, -1, 0], [-1, 1, -1]], [3])
-    yield "threshold-largest", problem_file(9, [(0, MAX_BOUND)] * 32, [[MAX_BOUND] + [-1] * 31 + [0], [1] + [0] * 31 + [-1]], [MAX_BOUND] * 32)
+    yield "threshold-largest", problem_file(9, [(0, FAR)] * 32, [[FAR] + [-1] * 31 + [0], [1] + [0] * 31 + [-1]], [FAR] * 32)
 
 
 def threshold_divisor_files():

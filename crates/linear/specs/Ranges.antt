@@ -8,7 +8,7 @@ use Rattle.model.specs.Ranges.{maxVariables, maxCoefficient, maxDivisor}
 use Rattle.integer.specs.Size.{Within}
 use Rattle.layout.specs.Rows.{numberIn, cell}
 
--- bounds: the model's, and this crate's own number, which may be larger
+-- bounds: the crate's own number, at least the model's maxBound, so that a smaller limit changes nothing here
 abbrev pub widestBound : ℕ
 widestBound = 2 ^ 24
 

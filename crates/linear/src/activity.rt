@@ -15,7 +15,8 @@ ghost use Rattle.linear.specs.Ranges.{TermFits, ChangeFits, RowFits, Box
 ghost use Rattle.linear.specs.Reach.{spanOf, widestSpan, Further};
 ghost use Rattle.linear.specs.Improvement.{moveOf, Improves};
 
-// What a variable with coefficient a and these bounds adds to its constraint's minimum activity; and of what bounds change by, what the activity does.
+// What a variable with coefficient a and these bounds adds to its constraint's minimum activity. Of what the bounds change by it is what the activity
+// changes by.
 pub fn term(a: i64, lower: i64, upper: i64) -> i64
     requires { ⌜ ChangeFits a lower upper ⌝ }
     ensures { λ r. ⌜ r ≡ termOf a (record { lower = lower; upper = upper }) ⌝ }
