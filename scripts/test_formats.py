@@ -20,6 +20,7 @@ ROOT = Path(__file__).resolve().parent.parent
 PLAN_A = ROOT / "examples/plan-a.plan"
 PLAN_A_JOURNAL = ROOT / "crates/journal/stdout"
 RANDOM_TEXTS = 10000
+RANDOM_PROBLEMS = 400
 TAIL = "Bounds\n x <= 5\n y <= 5\nGeneral\n x y\nEnd\n"
 TAIL_FREE = "Bounds\n x <= 5\n y <= 5\n k free\nGeneral\n x k y\nEnd\n"
 
@@ -246,13 +247,14 @@ def some_problem(random_source):
 
 def test_round_trips():
     random_source = random.Random(17)
-    files = [write_problem(some_problem(random_source)) for _ in range(400)]
+    files = [write_problem(some_problem(random_source)) for _ in range(RANDOM_PROBLEMS)]
     files += [path.read_bytes() for folder in ("examples", "crates/vectors/data") for path in sorted((ROOT / folder).glob("*.plan"))]
     tried = 0
-    for data in files:
+    for k, data in enumerate(files):
         try:
             problem = read_problem(data)
         except FileError:
+            assert k >= RANDOM_PROBLEMS, k
             continue
         text = write_lp(problem)
         assert write_problem(read_lp(text)[0]) == data
