@@ -323,7 +323,7 @@ def test_journal_text():
 
 def test_examples():
     """The stored pictures are those of the stored journals, and README tells the shorter journal."""
-    for name in ("none", "blueprint", "passages", "headings"):
+    for name in ("none", "blueprint", "passages", "headings", "words"):
         path = ROOT / "examples" / name
         arguments, data = ["--names", str(path.with_suffix(".lp"))], path.with_suffix(".journal").read_bytes()
         assert run("journal.py", *arguments, "--svg", data=data) == (0, path.with_suffix(".svg").read_bytes(), "")
