@@ -7,14 +7,14 @@ use mathlib.Core.Path.{_≡_, refl, sym, ap, ap₂, _∙_}
 use borrow.Author.Tests.{not-true}
 use lib.IntN.{ℤ, pos, negsuc, negℤ, natAbs, _+ℤ_, _*ℤ_, zero-*ℤ}
 use lib.Signed.{ltZ}
-use Rattle.model.specs.Division.{ceilDiv, exactDiv}
-use Rattle.model.specs.Constraint.{Constraint, Bounds, Box, modulus, term, terms, activity, falsifiedBy, falsified, commonDivisor, roundedBy, rounded}
-use Rattle.model.specs.Points.{Point, dot, value}
+use Rattle.model_problems.specs.Division.{ceilDiv, exactDiv}
+use Rattle.model_problems.specs.Constraint.{Constraint, Bounds, Box, modulus, term, terms, activity, falsifiedBy, falsified, commonDivisor, roundedBy, rounded}
+use Rattle.model_problems.specs.Points.{Point, dot, value}
 use Rattle.integer.specs.Parts.{nlt-in, nlt-out}
 use Rattle.integer.specs.Tests.{of-false}
 use Rattle.lists.proofs.Bools.{true-of}
 use Rattle.validity.proofs.Constraints.{meets-in, meets-out, rounded-meets, rounded-divisor}
-use Rattle.linear.proofs.RoundingLaws.{rounded-by}
+use Rattle.derivation.proofs.RoundingLaws.{rounded-by}
 
 -- ---- where the lowest value of coefficient a is, and of each coefficient
 bound : ℤ → Bounds → ℤ

@@ -8,11 +8,11 @@ use mathlib.Core.Option.{Option}
 use mathlib.Core.Path.{_≡_, ap, ap₂, _∙_}
 use borrow.Author.Tests.{lt-ltb, le-ltb}
 use lib.IntN.{ℤ}
-use Rattle.model.specs.Lists.{tab}
-use Rattle.model.specs.Ranges.{maxVariables}
-use Rattle.model.specs.Constraint.{Constraint, equal}
-use Rattle.model.specs.Search.{Level, Core, kept, numberAt, nextNumber, keep}
-use Rattle.model.specs.Conflict.{firstEqual, numberedBy, numbered}
+use Rattle.model_problems.specs.Lists.{tab}
+use Rattle.model_problems.specs.Ranges.{maxVariables}
+use Rattle.model_problems.specs.Constraint.{Constraint, equal}
+use Rattle.model_walk.specs.Search.{Level, Core, kept, numberAt, nextNumber, keep}
+use Rattle.model_walk.specs.Conflict.{firstEqual, numberedBy, numbered}
 use Rattle.lists.proofs.Tab.{length-tab, tab-step, tab-end}
 use Rattle.layout.specs.Rows.{constraintAt, rowAt}
 use Rattle.state.specs.View.{keptCuts, coreOver, coreWith}

@@ -12,17 +12,17 @@ use lib.IntN.{ℤ, pos, negsuc}
 use lib.ListN.{getD, length, set, length-set, replicate}
 use lib.Signed.{ltZ}
 use lib.Seq.{getD-set-same, getD-set-other}
-use Rattle.model.specs.Lists.{tab}
-use Rattle.model.specs.Ranges.{maxVariables, maxConstraints, maxBudget}
-use Rattle.model.specs.Constraint.{Constraint, Box, modulus, isInequality, coefficientAt, falsified, rounded, resolvent, opposite, inRange}
-use Rattle.model.specs.Search.{domain, decision, flipped, constraint, noReasons, Level, Core, reasonsAt, keptNumber}
-use Rattle.model.specs.Conflict.{Resolved, unchanged, takeIf, resolveWith, resolveBy, resolveKept, usedReason, resolveAt, analyzeFrom, analyze}
+use Rattle.model_problems.specs.Lists.{tab}
+use Rattle.model_problems.specs.Ranges.{maxVariables, maxConstraints, maxBudget}
+use Rattle.model_problems.specs.Constraint.{Constraint, Box, modulus, isInequality, coefficientAt, falsified, rounded, resolvent, opposite, inRange}
+use Rattle.model_walk.specs.Search.{domain, decision, flipped, constraint, noReasons, Level, Core, reasonsAt, keptNumber}
+use Rattle.model_walk.specs.Conflict.{Resolved, unchanged, takeIf, resolveWith, resolveBy, resolveKept, usedReason, resolveAt, analyzeFrom, analyze}
 use Rattle.lists.proofs.Bools.{true-of, clash}
 use Rattle.lists.proofs.Loops.{every-at}
 use Rattle.lists.proofs.Tab.{getD-tab, tab-ext, tab-end, tab-down, getD-const}
 use Rattle.layout.specs.Rows.{rowLength, constraintAt, rowAt, boxOf}
-use Rattle.linear.specs.Excess.{RoundedOrOut}
-use Rattle.linear.proofs.Sizes.{rounded-range}
+use Rattle.derivation.specs.Excess.{RoundedOrOut}
+use Rattle.derivation.proofs.Sizes.{rounded-range}
 use Rattle.layout.specs.Copies.{Copied}
 use Rattle.state.specs.View.{domainReason, decisionReason, flippedReason, reasonOf, reasonsIn, keptCuts, coreOver, coreWith}
 use Rattle.state.specs.Position.{absent, constraintIn, PositionOf}

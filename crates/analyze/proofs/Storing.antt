@@ -9,9 +9,9 @@ use mathlib.Core.Path.{_≡_, refl, sym, ap, ap₂, _∙_}
 use lib.IntN.{ℤ, pos}
 use lib.ListN.{getD, length, set, length-set, length-append}
 use lib.Seq.{getD-set-same, getD-set-other}
-use Rattle.model.specs.Lists.{tab}
-use Rattle.model.specs.Ranges.{maxVariables, maxCuts}
-use Rattle.model.specs.Search.{newest}
+use Rattle.model_problems.specs.Lists.{tab}
+use Rattle.model_problems.specs.Ranges.{maxVariables, maxCuts}
+use Rattle.model_walk.specs.Search.{newest}
 use Rattle.lists.proofs.Tab.{length-tab, tab-ext, tab-shift, tab-snoc}
 use Rattle.layout.specs.Rows.{rowLength, numberIn, constraintAt, rowAt}
 use Rattle.layout.proofs.Rows.{row-same}

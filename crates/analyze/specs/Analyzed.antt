@@ -6,12 +6,12 @@ use mathlib.Core.Path.{_≡_}
 use lib.Dec.{T}
 use lib.IntN.{ℤ, pos}
 use lib.ListN.{getD, length}
-use Rattle.model.specs.Lists.{tab, allOf}
-use Rattle.model.specs.Ranges.{maxVariables, maxConstraints, maxBudget}
-use Rattle.model.specs.Constraint.{inRange}
-use Rattle.model.specs.Problem.{boundsInRange}
-use Rattle.model.specs.Search.{Level, Core}
-use Rattle.model.specs.Conflict as model
+use Rattle.model_problems.specs.Lists.{tab, allOf}
+use Rattle.model_problems.specs.Ranges.{maxVariables, maxConstraints, maxBudget}
+use Rattle.model_problems.specs.Constraint.{inRange}
+use Rattle.model_problems.specs.Problem.{boundsInRange}
+use Rattle.model_walk.specs.Search.{Level, Core}
+use Rattle.model_walk.specs.Conflict as model
 use Rattle.layout.specs.Rows.{rowLength, numberIn, constraintAt, rowAt, boxOf, maxRows, rowsLength}
 use Rattle.state.specs.View.{keptCuts, reasonsIn, coreWith}
 use Rattle.analyze.specs.declared.analysis.Analysis.{Analysis}

@@ -7,9 +7,9 @@ ghost use mathlib.Core.Path.{_≡_};
 ghost use Prim.Native.Nat.{_+_, _*_, _≤_, _<_};
 ghost use lib.IntN.{pos};
 ghost use lib.ListN.{length};
-ghost use Rattle.model.specs.Lists.{tab};
-ghost use Rattle.model.specs.Ranges.{maxVariables, maxConstraints, maxCuts};
-ghost use Rattle.model.specs.Conflict.{firstEqual};
+ghost use Rattle.model_problems.specs.Lists.{tab};
+ghost use Rattle.model_problems.specs.Ranges.{maxVariables, maxConstraints, maxCuts};
+ghost use Rattle.model_walk.specs.Conflict.{firstEqual};
 ghost use Rattle.layout.specs.Rows.{rowLength, constraintAt, rowAt, maxRows, rowsLength};
 ghost use Rattle.analyze.specs.Storing.{lastCut, Moved, RowKept, NumberKept, foundBelow};
 

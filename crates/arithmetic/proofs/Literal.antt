@@ -7,15 +7,15 @@ use mathlib.Core.Path.{_≡_}
 use lib.Dec.{lit≤}
 use lib.IntN.{ℤ, pos}
 use lib.ListN.{length, getD}
-use Rattle.model.specs.Ranges.{within, maxVariables, maxCoefficient}
-use Rattle.model.specs.Lists.{allOf}
-use Rattle.model.specs.Constraint.{Constraint, inRange}
+use Rattle.model_problems.specs.Ranges.{within, maxVariables, maxCoefficient}
+use Rattle.model_problems.specs.Lists.{allOf}
+use Rattle.model_problems.specs.Constraint.{Constraint, inRange}
 use Rattle.integer.specs.Size.{Within, weaken, between-in}
 use Rattle.integer.specs.Tests.{of-true}
 use Rattle.lists.proofs.AllOf.{allOf-getD}
 use Rattle.layout.specs.Rows.{numberIn, constraintAt}
 use Rattle.linear.specs.Ranges.{widestBound, RowFits, BoxFits}
-use Rattle.linear.specs.Sized.{maxCombined, Sized}
+use Rattle.derivation.specs.Sized.{maxCombined, Sized}
 use Rattle.linear.proofs.Ranges.{row-fits}
 
 bound-at : (xs : List ℤ) (i : ℕ) → allOf (within widestBound) xs ≡ true → i < length xs → Within widestBound (numberIn xs i)

@@ -9,10 +9,10 @@ use linear::activity::implied_lower;
 use linear::activity::implied_upper;
 use linear::activity::min_activity;
 use linear::activity::term;
-use linear::resolving::combine_at;
-use linear::resolving::is_opposite;
-use linear::rounding::round;
-use linear::rounding::round_into_range;
+use derivation::resolving::combine_at;
+use derivation::resolving::is_opposite;
+use derivation::rounding::round;
+use derivation::rounding::round_into_range;
 ghost use Rattle.linear.specs.Ranges.{RowFits, BoxFits};
 
 // The ends of the range of constants and coefficients, 2^30, and of the bounds that `linear` takes, 2^24.

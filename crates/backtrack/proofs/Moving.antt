@@ -6,7 +6,7 @@ use mathlib.Core.Path.{_≡_, _∙_}
 use lib.Dec.{lit≤}
 use lib.IntN.{ℤ, _-ℤ_}
 use lib.ListN.{length, set}
-use Rattle.model.specs.Ranges.{maxVariables}
+use Rattle.model_problems.specs.Ranges.{maxVariables}
 use Rattle.integer.specs.Parts.{_⊑_}
 use Rattle.integer.specs.Size.{Within, weaken}
 use Rattle.lists.proofs.Bools.{true-of}

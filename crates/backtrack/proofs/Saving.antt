@@ -12,8 +12,8 @@ use lib.IntN.{ℤ, pos}
 use lib.ListN.{getD, set, length, replicate, length-set}
 use lib.Seq.{getD-set-same, getD-set-other}
 use lib.Signed.{_≤ℤ_}
-use Rattle.model.specs.Ranges.{maxConstraints, maxCuts}
-use Rattle.model.specs.Constraint.{Constraint, activity, coefficientAt}
+use Rattle.model_problems.specs.Ranges.{maxConstraints, maxCuts}
+use Rattle.model_problems.specs.Constraint.{Constraint, activity, coefficientAt}
 use Rattle.lists.proofs.Bools.{lt-or-le}
 use Rattle.lists.proofs.Tab.{getD-const}
 use Rattle.linear.specs.Reach.{Reaches, spanOf}

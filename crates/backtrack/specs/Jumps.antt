@@ -4,8 +4,8 @@ use mathlib.Core.List.{List}
 use mathlib.Core.Path.{_≡_}
 use lib.IntN.{ℤ}
 use lib.ListN.{getD, set, length}
-use Rattle.model.specs.Ranges.{maxVariables, maxConstraints, maxBudget}
-use Rattle.model.specs.Threshold.{nextValue}
+use Rattle.model_problems.specs.Ranges.{maxVariables, maxConstraints, maxBudget}
+use Rattle.model_problems.specs.Threshold.{nextValue}
 use Rattle.layout.specs.Rows.{numberIn}
 use Rattle.state.specs.View.{keptCuts, decisionReason, flippedReason}
 use Rattle.state.specs.declared.Level.{Level}

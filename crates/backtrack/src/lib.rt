@@ -15,7 +15,7 @@ ghost use mathlib.Core.Path.{_≡_};
 ghost use Prim.Native.Nat.{_+_, _-_, _*_, _≤_, _<_};
 ghost use lib.IntN.{_-ℤ_};
 ghost use lib.ListN.{length};
-ghost use Rattle.model.specs.Ranges.{maxVariables, maxConstraints, maxBudget};
+ghost use Rattle.model_problems.specs.Ranges.{maxVariables, maxConstraints, maxBudget};
 ghost use Rattle.integer.specs.Size.{Within};
 ghost use Rattle.linear.specs.Ranges.{widestBound, widestChange};
 ghost use Rattle.layout.specs.Rows.{numberIn};

@@ -10,8 +10,8 @@ use lib.Dec.{eqb}
 use lib.ListN.{getD, take, length, length-take, drop-of-length-le}
 use lib.Seq.{drop-cons, getD-take, length-take-le}
 use borrow.Author.Tests.{eq-eqb, ne-eqb}
-use Rattle.model.specs.Lists.{tab, sum, allOf}
-use Rattle.model.specs.Bytes.{u32At, checkOffset, wordAt, checksum, isZero, zeroBetween}
+use Rattle.model_problems.specs.Lists.{tab, sum, allOf}
+use Rattle.model_files.specs.Bytes.{u32At, checkOffset, wordAt, checksum, isZero, zeroBetween}
 use Rattle.lists.proofs.Sum.{sum-more}
 
 -- ---- the check: the sum of the first w words plus k + 1, modulo 2^32

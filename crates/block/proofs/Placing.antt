@@ -9,8 +9,8 @@ use mathlib.Core.List.{List, [], _∷_, _++_, append-assoc, append-nil}
 use lib.ListN.{length, take, drop, set, length-append, length-drop, take-append-drop, drop-of-length-le}
 use lib.Seq.{take-all, drop-nil, take-append-seam, drop-append-add, drop-drop, length-take-le, sets-eq}
 use borrow.Rule.Slice.PartMut.{putMid, post-is}
-use Rattle.model.specs.Lists.{parts}
-use Rattle.model.specs.Bytes.{u16Bytes, u32Bytes}
+use Rattle.model_problems.specs.Lists.{parts}
+use Rattle.model_files.specs.Bytes.{u16Bytes, u32Bytes}
 use Rattle.lists.proofs.Parts.{parts-snoc}
 use Rattle.block.specs.Placed.{Placed}
 

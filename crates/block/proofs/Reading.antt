@@ -12,7 +12,7 @@ use mir.Val.{SFits, toZ, ofZ}
 use mir.Facts.{toZ-ofZ, toZ-pos}
 use borrow.Author.Tests.{lt-ltb, le-ltb, ltb-true, ltb-false}
 use Rattle.integer.specs.Size.{Within, fits}
-use Rattle.model.specs.Bytes.{u16At, u32At, i32At, signed}
+use Rattle.model_files.specs.Bytes.{u16At, u32At, i32At, signed}
 
 pub u16-is : (s : List ℕ) (i a b : ℕ) → a ≡ getD s i 0 → b ≡ getD s (i + 1) 0 → a + 256 * b ≡ u16At s i
 unfolding u16At

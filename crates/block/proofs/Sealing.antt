@@ -6,7 +6,7 @@ use mathlib.Core.List.{List, _++_, append-assoc, append-nil}
 use lib.ListN.{length, take, drop, set, replicate, length-replicate, replicate-append-replicate, take-append-drop, drop-of-length-le}
 use lib.Seq.{take-at, drop-drop, length-take-le}
 use borrow.Author.Fill.{fill-more}
-use Rattle.model.specs.Bytes.{u32Bytes, blockLength, checkOffset, checksum, paddedTo, padded, sealed}
+use Rattle.model_files.specs.Bytes.{u32Bytes, blockLength, checkOffset, checksum, paddedTo, padded, sealed}
 use Rattle.format.proofs.ByteLaws.{place}
 use Rattle.format.proofs.BlockLaws.{checksum-take, length-padded-to, length-padded}
 use Rattle.block.specs.Placed.{Placed, cleared}

@@ -14,7 +14,7 @@ use mir.Facts.{toZ-ofZ}
 use Rattle.integer.specs.Automatic.{exps, eq! }
 use Rattle.integer.specs.Size.{Within, weaken, fits}
 use Rattle.lists.proofs.Bools.{clash}
-use Rattle.model.specs.Bytes.{unsigned, u32Bytes, i32Bytes}
+use Rattle.model_files.specs.Bytes.{unsigned, u32Bytes, i32Bytes}
 use Rattle.block.proofs.Placing.{then}
 use Rattle.block.specs.Placed.{Placed}
 

@@ -6,7 +6,7 @@ ghost use mathlib.Core.Path.{_≡_};
 ghost use Prim.Native.Nat.{_+_, _≤_, _^_};
 ghost use lib.ListN.{length, take};
 ghost use Rattle.integer.specs.Size.{Within};
-ghost use Rattle.model.specs.Bytes.{u16Bytes, u32Bytes, i32Bytes, unsigned, blockLength, checkOffset, sealed};
+ghost use Rattle.model_files.specs.Bytes.{u16Bytes, u32Bytes, i32Bytes, unsigned, blockLength, checkOffset, sealed};
 ghost use Rattle.block.specs.Placed.{Placed, cleared};
 
 // Puts 16 bits of a number at a place.

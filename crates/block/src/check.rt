@@ -5,7 +5,7 @@ ghost use mathlib.Core.Path.{_≡_};
 ghost use Prim.Native.Nat.{_≤_};
 ghost use lib.Dec.{eqb};
 ghost use lib.ListN.{length};
-ghost use Rattle.model.specs.Bytes.{u32At, blockLength, checkOffset, checksum, zeroBetween, zeroFrom};
+ghost use Rattle.model_files.specs.Bytes.{u32At, blockLength, checkOffset, checksum, zeroBetween, zeroFrom};
 
 // How many words stand before the check.
 const WORDS: usize = CHECK / 4;

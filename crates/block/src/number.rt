@@ -3,7 +3,7 @@ ghost use mathlib.Core.Path.{_≡_};
 ghost use Prim.Native.Nat.{_+_, _<_, _≤_, _^_};
 ghost use lib.ListN.{length};
 ghost use Rattle.integer.specs.Size.{Within};
-ghost use Rattle.model.specs.Bytes.{u16At, u32At, i32At, signed};
+ghost use Rattle.model_files.specs.Bytes.{u16At, u32At, i32At, signed};
 
 fn wide(x: u8) -> usize
     ensures { λ r. ⌜ (r ≡ x) × (r < 256) ⌝ }

@@ -2,8 +2,8 @@
 use crate::agree::are_blocks_right;
 use crate::agree::budget_of;
 use problem::Problem;
-use search::Traced;
-use search::Verdict;
+use answers::Traced;
+use answers::Verdict;
 use state::Search;
 use trials::compare::counts_same;
 use trials::compare::numbers_same;

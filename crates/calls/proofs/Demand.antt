@@ -7,15 +7,15 @@ use mathlib.Core.Logic.{_⊎_, inl, inr, ⊎-elim}
 use mathlib.Core.Path.{_≡_, refl, sym, ap, subst, _∙_}
 use lib.Dec.{eqb}
 use lib.ListN.{length, take}
-use Rattle.model.specs.Problem.{Problem, Result, ok, error}
-use Rattle.model.specs.File.{problemIn}
-use Rattle.model.specs.Search as model
-use Rattle.model.specs.Search.{openProblem, openFile}
-use Rattle.model.specs.Move.{slack}
-use Rattle.model.specs.Propagations.{boundsSet}
-use Rattle.model.specs.Points.{Point, points, Solution, First}
-use Rattle.model.specs.Step.{Verdict as ModelVerdict, Outcome, outOfBudget, solution, step, run}
-use Rattle.model.specs.Demand.{stateAfter, journal, withBudget, verdictWith, Decides, Agree, SameSolutions, Steps, Accepted}
+use Rattle.model_problems.specs.Problem.{Problem, Result, ok, error}
+use Rattle.model_files.specs.File.{problemIn}
+use Rattle.model_walk.specs.Search as model
+use Rattle.model_walk.specs.Search.{openProblem, openFile}
+use Rattle.model_walk.specs.Move.{slack}
+use Rattle.model_walk.specs.Propagations.{boundsSet}
+use Rattle.model_problems.specs.Points.{Point, points, Solution, First}
+use Rattle.model_walk.specs.Step.{Verdict as ModelVerdict, Outcome, outOfBudget, solution, step, run}
+use Rattle.model_claims.specs.Demand.{stateAfter, journal, withBudget, verdictWith, Decides, Agree, SameSolutions, Steps, Accepted}
 use Rattle.problem.specs.declared.Answer.{Answer}
 use Rattle.problem.specs.declared.Answer.the-variants.{Done, Truncated, BadChecksum, BadMagic, SizeRange, DomainRange, CoefficientRange, NonzeroPadding, ShortBuffer, InvalidSearch, DivisorRange, ThresholdRange}
 use Rattle.problem.specs.Answer.{number}
@@ -28,9 +28,9 @@ use Rattle.soundness.proofs.Demand.{demand-3}
 use Rattle.search.specs.Opening.{SeenOpening, seenOpened, opening}
 use Rattle.search.specs.Seen.{valuesOf}
 use Rattle.search.specs.declared.Opened.{Opened}
-use Rattle.search.specs.declared.Ran.{Ran}
-use Rattle.search.specs.declared.Verdict.the-variants as verdict
-use Rattle.calls.specs.Calls.{Opens, Call, ran, Makes, told, ListFrom, stateIn, journalOf, NoRun, untilRun, stepsIn, stepsOf, SameAnswer, CallAfter, Decided, Opening, RunOf, CallsHold}
+use Rattle.answers.specs.declared.Ran.{Ran}
+use Rattle.answers.specs.declared.Verdict.the-variants as verdict
+use Rattle.calls.specs.Calls.{Opens, Call, ran, Makes, told, ListFrom, stateIn, journalOf, NoRun, untilRun, stepsIn, stepsOf, SameAnswer, CallAfter, Decided, Opening, RunOf, CallsHold, WithEnough}
 use Rattle.calls.proofs.Shown.{caseOf, case-valid, case-plain}
 use Rattle.calls.proofs.Lists.{journal-end, set-end, journal-prefix, CallTells, call-tells, Follows, follows, one-more, steps-more, no-run}
 
@@ -256,8 +256,7 @@ not-spent f q r n e =
     let s = d .else-first (λ h. impossible (cc)) .0 in
     impossible (cc)
 
--- the answer under another budget, smaller or larger, is that under one of at least the points, or 'spent'
-pub smaller-enough : (f g : List ℕ) (q u : Ran) → RunOf f q → RunOf g u → problemIn g ≡ withBudget (problemIn f) (problemIn g .budget) → points (problemIn f) ≤ problemIn f .budget →
+smaller-enough : (f g : List ℕ) (q u : Ran) → RunOf f q → RunOf g u → problemIn g ≡ withBudget (problemIn f) (problemIn g .budget) → points (problemIn f) ≤ problemIn f .budget →
     SameAnswer u q ⊎ (u .verdict ≡ verdict.OutOfBudget)
 smaller-enough f g q u r s b n =
     ⊎-elim (λ (l : problemIn f .budget < problemIn g .budget). larger (demand-3 .steps f (r .fine) .smaller (problemIn f .budget) (problemIn g .budget) (omega arith)))
@@ -268,7 +267,7 @@ smaller-enough f g q u r s b n =
     larger (inl e) = inl (same-answer g f u q s r (under-budget f g s b ∙ sym e))
     larger (inr e) = absurd (not-spent f q r n (spent f q r e))
 
-pub same-enough : (f g : List ℕ) (q u : Ran) → RunOf f q → RunOf g u → SameSolutions (problemIn f) (problemIn g) → points (problemIn f) ≤ problemIn f .budget →
+same-enough : (f g : List ℕ) (q u : Ran) → RunOf f q → RunOf g u → SameSolutions (problemIn f) (problemIn g) → points (problemIn f) ≤ problemIn f .budget →
     points (problemIn g) ≤ problemIn g .budget → SameAnswer q u
 same-enough f g q u r s e n k = by (calls-hold .same f g q u r s e)
   where
@@ -276,3 +275,6 @@ same-enough f g q u r s e n k = by (calls-hold .same f g q u r s e)
     by (inl x) = x
     by (inr (inl x)) = absurd (not-spent f q r n x)
     by (inr (inr x)) = absurd (not-spent g u s k x)
+
+pub with-enough : WithEnough
+with-enough = record { smaller = smaller-enough; same = same-enough }

@@ -10,15 +10,15 @@ use mathlib.Core.Path.{_≡_, refl, sym, ap, ap₂, subst, _∙_}
 use lib.IntN.{ℤ}
 use lib.ListN.{length, take, drop, getElem?, length-append, length-drop}
 use lib.Seq.{take-at, drop-at, drop-append-add}
-use Rattle.model.specs.Problem.{Problem, variables, ok, error}
-use Rattle.model.specs.Search as model
-use Rattle.model.specs.Validity.{admitted}
-use Rattle.model.specs.Points.{Point, allSolutions}
-use Rattle.model.specs.Step.{Verdict as ModelVerdict, goOn, Outcome, blockIn, withoutBlock, run}
-use Rattle.model.specs.Trace.{lastStep, joined}
-use Rattle.model.specs.Listing as listing
-use Rattle.model.specs.Listing.{Listing, listedIn, listedBy, listCall}
-use Rattle.model.specs.Enumeration.{Call, allTurns, verdict, traced, taken, answeredBy, answer, walk, says, stands, shown, strikes, setBy, setIn, Enumerates}
+use Rattle.model_problems.specs.Problem.{Problem, variables, ok, error}
+use Rattle.model_walk.specs.Search as model
+use Rattle.model_walk.specs.Validity.{admitted}
+use Rattle.model_problems.specs.Points.{Point, allSolutions}
+use Rattle.model_walk.specs.Step.{Verdict as ModelVerdict, goOn, Outcome, blockIn, withoutBlock, run}
+use Rattle.model_walk.specs.Trace.{lastStep, joined}
+use Rattle.model_walk.specs.Listing as listing
+use Rattle.model_walk.specs.Listing.{Listing, listedIn, listedBy, listCall}
+use Rattle.model_claims.specs.Enumeration.{Call, allTurns, verdict, traced, taken, answeredBy, answer, walk, says, stands, shown, strikes, setBy, setIn, Enumerates}
 use Rattle.validity.proofs.Every.{Every}
 use Rattle.validity.proofs.Steps.{impossible}
 use Rattle.soundness.proofs.Standing.{answered, refusing}
@@ -29,9 +29,9 @@ use Rattle.state.specs.declared.Search.{Search}
 use Rattle.search.specs.Seen.{seenRan, turn}
 use Rattle.search.specs.Seen as seen
 use Rattle.search.specs.Listing.{SeenListing, seenListed, struckIn, lastIn, listSeen}
-use Rattle.search.specs.declared.Listed.{Listed}
-use Rattle.search.specs.declared.Traced.{Traced}
-use Rattle.search.specs.declared.Verdict.the-variants as said
+use Rattle.answers.specs.declared.Listed.{Listed}
+use Rattle.answers.specs.declared.Traced.{Traced}
+use Rattle.answers.specs.declared.Verdict.the-variants as said
 use Rattle.calls.specs.Calls.{partsAt}
 use Rattle.calls.specs.Listing as own
 use Rattle.calls.specs.Listing.{Action, listed, Does, lastRun, stateOf, givenBy, padded, rowsOf, setInRuns, TurnAfter, ListAfter}

@@ -1,4 +1,5 @@
 -- What each call shows of the model's answer, and the claims.
+pub mod RoundTrips
 pub mod Shown
 pub mod Lists
 pub mod Demand

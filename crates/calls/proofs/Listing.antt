@@ -10,17 +10,17 @@ use lib.Dec.{leb}
 use lib.IntN.{ℤ}
 use lib.ListN.{length, take, length-map}
 use borrow.Author.Tests.{leb-true, leb-false, le-leb, lt-leb}
-use Rattle.model.specs.Ranges.{maxPropagations}
-use Rattle.model.specs.Problem.{Problem, variables}
-use Rattle.model.specs.File.{problemIn}
-use Rattle.model.specs.Search as model
-use Rattle.model.specs.Search.{openProblem}
-use Rattle.model.specs.Validity.{admitted}
-use Rattle.model.specs.Points.{Point, allSolutions}
-use Rattle.model.specs.Step.{Verdict as ModelVerdict}
-use Rattle.model.specs.Demand.{MeetsCuts}
-use Rattle.model.specs.Enumeration as list
-use Rattle.model.specs.Enumeration.{allTurns, strike, Reply, verdict, exclusion, refused, Answer, answeredBy, answer, walk, says, shownIn, struckIn, Enumerates}
+use Rattle.model_problems.specs.Ranges.{maxPropagations}
+use Rattle.model_problems.specs.Problem.{Problem, variables}
+use Rattle.model_files.specs.File.{problemIn}
+use Rattle.model_walk.specs.Search as model
+use Rattle.model_walk.specs.Search.{openProblem}
+use Rattle.model_walk.specs.Validity.{admitted}
+use Rattle.model_problems.specs.Points.{Point, allSolutions}
+use Rattle.model_walk.specs.Step.{Verdict as ModelVerdict}
+use Rattle.model_claims.specs.Demand.{MeetsCuts}
+use Rattle.model_claims.specs.Enumeration as list
+use Rattle.model_claims.specs.Enumeration.{allTurns, strike, Reply, verdict, exclusion, refused, Answer, answeredBy, answer, walk, says, shownIn, struckIn, Enumerates}
 use Rattle.lists.proofs.Bools.{clash}
 use Rattle.validity.proofs.Steps.{impossible}
 use Rattle.soundness.proofs.Standing.{refusing, said-admitted, refused-only}
@@ -31,9 +31,9 @@ use Rattle.state.specs.View.{view}
 use Rattle.state.specs.declared.Search.{Search}
 use Rattle.search.specs.Seen.{valuesOf}
 use Rattle.search.specs.declared.Excluded.{Excluded}
-use Rattle.search.specs.declared.Listed.{Listed}
-use Rattle.search.specs.declared.Ran.{Ran}
-use Rattle.search.specs.declared.Verdict.the-variants as said
+use Rattle.answers.specs.declared.Listed.{Listed}
+use Rattle.answers.specs.declared.Ran.{Ran}
+use Rattle.answers.specs.declared.Verdict.the-variants as said
 use Rattle.calls.specs.Calls.{stepped, traced as tracing, ran, told, SameAnswer, SameCounts}
 use Rattle.calls.specs.Listing as own
 use Rattle.calls.specs.Listing.{Action, called, listed, Does, lastRun, stateOf, stateAfter, DoneFrom, blocksOf, padded, stands, shown, strikes, setInRuns, setBy, setIn, Lists, SaysAgain, TurnAfter, ListAfter, StrikeAfter, ListingOf, ListingsHold}

@@ -8,13 +8,13 @@ use mathlib.Core.Logic.{⊎-elim}
 use mathlib.Core.Path.{_≡_, refl, sym, ap, ap₂, _∙_}
 use lib.ListN.{length, take, length-append}
 use lib.Seq.{take-at, drop-at, take-append-seam, take-length}
-use Rattle.model.specs.Bytes.{blockLength}
-use Rattle.model.specs.Problem.{Problem, ok}
-use Rattle.model.specs.Search as model
-use Rattle.model.specs.Step.{blockIn, step, stepCall, checked, runCall, run}
-use Rattle.model.specs.Trace.{Trace, lastStep, advance, joined, written, tracedBy, traceCall}
-use Rattle.model.specs.Propagations.{boundsSet}
-use Rattle.model.specs.Demand.{after, stateAfter, answerAt, blocksIn, journal, stepsTogether, Steps}
+use Rattle.model_files.specs.Bytes.{blockLength}
+use Rattle.model_problems.specs.Problem.{Problem, ok}
+use Rattle.model_walk.specs.Search as model
+use Rattle.model_walk.specs.Step.{blockIn, step, stepCall, checked, runCall, run}
+use Rattle.model_walk.specs.Trace.{Trace, lastStep, advance, joined, written, tracedBy, traceCall}
+use Rattle.model_walk.specs.Propagations.{boundsSet}
+use Rattle.model_claims.specs.Demand.{after, stateAfter, answerAt, blocksIn, journal, stepsTogether, Steps}
 use Rattle.lists.proofs.Bools.{lt-or-le}
 use Rattle.validity.proofs.Every.{Every}
 use Rattle.soundness.proofs.Unrefused.{state-add, journal-add, journal-long}
@@ -22,9 +22,9 @@ use Rattle.state.specs.View.{view}
 use Rattle.state.specs.declared.Search.{Search}
 use Rattle.search.specs.Seen.{valuesOf}
 use Rattle.search.specs.declared.Stepped.{Stepped}
-use Rattle.search.specs.declared.Ran.{Ran}
-use Rattle.search.specs.declared.Traced.{Traced}
-use Rattle.search.specs.declared.Verdict.the-variants.{GoOn}
+use Rattle.answers.specs.declared.Ran.{Ran}
+use Rattle.answers.specs.declared.Traced.{Traced}
+use Rattle.answers.specs.declared.Verdict.the-variants.{GoOn}
 use Rattle.calls.specs.Calls.{Call, stepped, traced, ran, Makes, told, ListFrom, stateIn, partsAt, given, journalOf, NoRun, untilRun, stepsIn, stepsOf}
 use Rattle.calls.proofs.Shown.{caseOf, Tells, run-tells, trace-tells, step-tells}
 

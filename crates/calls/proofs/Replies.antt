@@ -8,16 +8,16 @@ use mathlib.Core.Option.{none}
 use mathlib.Core.Path.{_≡_, refl, sym, ap, subst, _∙_}
 use lib.IntN.{ℤ}
 use lib.ListN.{length}
-use Rattle.model.specs.Bytes.{blockLength}
-use Rattle.model.specs.Problem.{Result, ok, error}
-use Rattle.model.specs.Search as model
-use Rattle.model.specs.Validity.{admitted}
-use Rattle.model.specs.Points.{Point}
-use Rattle.model.specs.Step.{goOn, noSolution, outOfBudget, solution, blockIn, step, withoutBlock, run, checked, stepCall, runCall}
-use Rattle.model.specs.Trace.{lastStep, advance, written, tracedBy, traceCall}
-use Rattle.model.specs.Exclude.{Exclusion as ModelExclusion, struck, ended, unsolved, exclude, excludeCall}
-use Rattle.model.specs.Enumeration as list
-use Rattle.model.specs.Enumeration.{oneTurn, allTurns, strike, turns, Reply, verdict, exclusion, refused, Answer, traced, excluded, taken, answeredBy, answer, shownIn, struckIn}
+use Rattle.model_files.specs.Bytes.{blockLength}
+use Rattle.model_problems.specs.Problem.{Result, ok, error}
+use Rattle.model_walk.specs.Search as model
+use Rattle.model_walk.specs.Validity.{admitted}
+use Rattle.model_problems.specs.Points.{Point}
+use Rattle.model_walk.specs.Step.{goOn, noSolution, outOfBudget, solution, blockIn, step, withoutBlock, run, checked, stepCall, runCall}
+use Rattle.model_walk.specs.Trace.{lastStep, advance, written, tracedBy, traceCall}
+use Rattle.model_walk.specs.Exclude.{Exclusion as ModelExclusion, struck, ended, unsolved, exclude, excludeCall}
+use Rattle.model_claims.specs.Enumeration as list
+use Rattle.model_claims.specs.Enumeration.{oneTurn, allTurns, strike, turns, Reply, verdict, exclusion, refused, Answer, traced, excluded, taken, answeredBy, answer, shownIn, struckIn}
 use Rattle.validity.proofs.Steps.{impossible}
 use Rattle.soundness.proofs.Together.{advance-long}
 use Rattle.state.specs.View.{view}
@@ -28,9 +28,9 @@ use Rattle.search.specs.Excluding.{SeenExclusion, exclusionOf, seenExcluded, sh
 use Rattle.search.specs.declared.Excluded.{Excluded}
 use Rattle.search.specs.declared.Exclusion.{Exclusion}
 use Rattle.search.specs.declared.Exclusion.the-variants as out
-use Rattle.search.specs.declared.Listed.{Listed}
-use Rattle.search.specs.declared.Ran.{Ran}
-use Rattle.search.specs.declared.Verdict.the-variants as said
+use Rattle.answers.specs.declared.Listed.{Listed}
+use Rattle.answers.specs.declared.Ran.{Ran}
+use Rattle.answers.specs.declared.Verdict.the-variants as said
 use Rattle.calls.specs.Calls.{Call, stepped, traced as tracing, ran, Makes, told, partsAt, given}
 use Rattle.calls.specs.Listing as own
 use Rattle.calls.specs.Listing.{Action, called, listed, lastRun, stateOf, givenBy, padded, solutionIn, rowsOf, shownBy, standsAt, standsBehind, standsPast, standsAfter, strikesIn, strikesBy}

@@ -7,20 +7,20 @@ use mathlib.Core.Option.{Option, none, some}
 use mathlib.Core.Path.{_≡_, refl, sym, ap, subst, _∙_}
 use lib.IntN.{ℤ}
 use lib.ListN.{length}
-use Rattle.model.specs.Problem.{Result, ok, error}
-use Rattle.model.specs.Search as model
-use Rattle.model.specs.Step.{Verdict as ModelVerdict, goOn, noSolution, outOfBudget, solution, Outcome, blockIn as blocksIn, stepCall, runCall}
-use Rattle.model.specs.Trace.{Trace, lastStep, written, traceCall}
+use Rattle.model_problems.specs.Problem.{Result, ok, error}
+use Rattle.model_walk.specs.Search as model
+use Rattle.model_walk.specs.Step.{Verdict as ModelVerdict, goOn, noSolution, outOfBudget, solution, Outcome, blockIn as blocksIn, stepCall, runCall}
+use Rattle.model_walk.specs.Trace.{Trace, lastStep, written, traceCall}
 use Rattle.fields.specs.Fields.{room, zeros}
 use Rattle.state.specs.View.{view}
 use Rattle.state.specs.declared.Search.{Search}
 use Rattle.validity.proofs.Steps.{impossible}
 use Rattle.search.specs.Seen.{Seen, verdictOf, seenTraced, stepTrace, runTrace, seenStepped, seenRan, valuesOf, blockOr, shown, turn, blockIn, stepSeen, runSeen, traceSeen}
 use Rattle.search.specs.declared.Stepped.{Stepped}
-use Rattle.search.specs.declared.Ran.{Ran}
-use Rattle.search.specs.declared.Traced.{Traced}
-use Rattle.search.specs.declared.Verdict.{Verdict}
-use Rattle.search.specs.declared.Verdict.the-variants.{GoOn, NoSolution, OutOfBudget, Solution, Invalid}
+use Rattle.answers.specs.declared.Ran.{Ran}
+use Rattle.answers.specs.declared.Traced.{Traced}
+use Rattle.answers.specs.declared.Verdict.{Verdict}
+use Rattle.answers.specs.declared.Verdict.the-variants.{GoOn, NoSolution, OutOfBudget, Solution, Invalid}
 use Rattle.calls.specs.Calls.{Makes, stepped, traced, ran}
 
 -- ---- the case of a verdict

@@ -5,15 +5,15 @@ use mathlib.Core.Bool.{true, cond}
 use mathlib.Core.List.{List, _∷_}
 use mathlib.Core.Path.{_≡_, refl, sym, ap, _∙_}
 use lib.Dec.{leb}
-use Rattle.model.specs.Ranges.{maxPropagations}
-use Rattle.model.specs.Search as model
-use Rattle.model.specs.Validity.{valid, withinLimit, admitted}
-use Rattle.model.specs.Step.{run}
-use Rattle.model.specs.Trace.{lastStep}
-use Rattle.model.specs.Exclude.{exclude}
-use Rattle.model.specs.Propagations.{boundsSet}
-use Rattle.model.specs.Enumeration as list
-use Rattle.model.specs.Enumeration.{allTurns, strike, Answer, traced, excluded, taken, walk, turnsOf, setBy, setIn}
+use Rattle.model_problems.specs.Ranges.{maxPropagations}
+use Rattle.model_walk.specs.Search as model
+use Rattle.model_walk.specs.Validity.{valid, withinLimit, admitted}
+use Rattle.model_walk.specs.Step.{run}
+use Rattle.model_walk.specs.Trace.{lastStep}
+use Rattle.model_walk.specs.Exclude.{exclude}
+use Rattle.model_walk.specs.Propagations.{boundsSet}
+use Rattle.model_claims.specs.Enumeration as list
+use Rattle.model_claims.specs.Enumeration.{allTurns, strike, Answer, traced, excluded, taken, walk, turnsOf, setBy, setIn}
 use Rattle.soundness.proofs.Standing.{answered}
 use Rattle.soundness.proofs.InPlace.{rounds, Ready}
 use Rattle.state.specs.View.{view}

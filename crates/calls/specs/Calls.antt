@@ -5,14 +5,14 @@ use mathlib.Core.List.{List, [], _∷_, _++_}
 use mathlib.Core.Logic.{_⊎_, _↔_}
 use mathlib.Core.Path.{_≡_}
 use lib.ListN.{length, take, drop}
-use Rattle.model.specs.Bytes.{blockLength}
-use Rattle.model.specs.Problem.{Problem, variables}
-use Rattle.model.specs.File.{problemIn}
-use Rattle.model.specs.Search.{openProblem, openFile}
-use Rattle.model.specs.Move.{slack}
-use Rattle.model.specs.Propagations.{boundsSet}
-use Rattle.model.specs.Points.{Point, points, Solution, First}
-use Rattle.model.specs.Demand.{Accepted, SameSolutions, MeetsCuts, withBudget}
+use Rattle.model_files.specs.Bytes.{blockLength}
+use Rattle.model_problems.specs.Problem.{Problem, variables}
+use Rattle.model_files.specs.File.{problemIn}
+use Rattle.model_walk.specs.Search.{openProblem, openFile}
+use Rattle.model_walk.specs.Move.{slack}
+use Rattle.model_walk.specs.Propagations.{boundsSet}
+use Rattle.model_problems.specs.Points.{Point, points, Solution, First}
+use Rattle.model_claims.specs.Demand.{Accepted, SameSolutions, MeetsCuts, withBudget}
 use Rattle.fields.specs.Fields.{room, zeros}
 use Rattle.problem.specs.declared.Answer.the-variants.{Done}
 use Rattle.state.specs.declared.Search.{Search}
@@ -20,9 +20,9 @@ use Rattle.search.specs.Opening.{seenOpened, opening}
 use Rattle.search.specs.Seen.{seenStepped, seenRan, seenTraced, stepSeen, runSeen, traceSeen}
 use Rattle.search.specs.declared.Opened.{Opened}
 use Rattle.search.specs.declared.Stepped.{Stepped}
-use Rattle.search.specs.declared.Ran.{Ran}
-use Rattle.search.specs.declared.Traced.{Traced}
-use Rattle.search.specs.declared.Verdict.the-variants as verdict
+use Rattle.answers.specs.declared.Ran.{Ran}
+use Rattle.answers.specs.declared.Traced.{Traced}
+use Rattle.answers.specs.declared.Verdict.the-variants as verdict
 
 -- ---- the calls: what their contracts say of an answer
 abbrev pub Opens : List ℕ → Opened → Type 0
@@ -161,3 +161,12 @@ pub record CallsHold : Type 0 where
   -- equal answers for equal solution sets, whatever the budgets, but for 'spent'
   pub same : (f g : List ℕ) (q u : Ran) → RunOf f q → RunOf g u → SameSolutions (problemIn f) (problemIn g) →
       SameAnswer q u ⊎ ((q .verdict ≡ verdict.OutOfBudget) ⊎ (u .verdict ≡ verdict.OutOfBudget))
+
+-- with enough budget: at least the points
+pub record WithEnough : Type 0 where
+  -- the answer under another budget, smaller or larger, is that under one of at least the points, or 'spent'
+  pub smaller : (f g : List ℕ) (q u : Ran) → RunOf f q → RunOf g u → problemIn g ≡ withBudget (problemIn f) (problemIn g .budget) → points (problemIn f) ≤ problemIn f .budget →
+      SameAnswer u q ⊎ (u .verdict ≡ verdict.OutOfBudget)
+  -- equal answers for equal solution sets
+  pub same : (f g : List ℕ) (q u : Ran) → RunOf f q → RunOf g u → SameSolutions (problemIn f) (problemIn g) → points (problemIn f) ≤ problemIn f .budget →
+      points (problemIn g) ≤ problemIn g .budget → SameAnswer q u

@@ -7,31 +7,31 @@ use mathlib.Core.Option.{some}
 use mathlib.Core.Path.{_≡_}
 use lib.IntN.{ℤ}
 use lib.ListN.{length, take, drop, getElem?}
-use Rattle.model.specs.Bytes.{blockLength}
-use Rattle.model.specs.Problem.{Problem, variables}
-use Rattle.model.specs.File.{problemIn}
-use Rattle.model.specs.Ranges.{maxPropagations}
-use Rattle.model.specs.Search as model
-use Rattle.model.specs.Move.{slack}
-use Rattle.model.specs.Validity.{admitted}
-use Rattle.model.specs.Step.{run}
-use Rattle.model.specs.Exclude.{exclude}
-use Rattle.model.specs.Propagations.{boundsSet}
-use Rattle.model.specs.Points.{Point, points, Solution, allSolutions}
-use Rattle.model.specs.Demand.{Accepted, MeetsCuts}
+use Rattle.model_files.specs.Bytes.{blockLength}
+use Rattle.model_problems.specs.Problem.{Problem, variables}
+use Rattle.model_files.specs.File.{problemIn}
+use Rattle.model_problems.specs.Ranges.{maxPropagations}
+use Rattle.model_walk.specs.Search as model
+use Rattle.model_walk.specs.Move.{slack}
+use Rattle.model_walk.specs.Validity.{admitted}
+use Rattle.model_walk.specs.Step.{run}
+use Rattle.model_walk.specs.Exclude.{exclude}
+use Rattle.model_walk.specs.Propagations.{boundsSet}
+use Rattle.model_problems.specs.Points.{Point, points, Solution, allSolutions}
+use Rattle.model_claims.specs.Demand.{Accepted, MeetsCuts}
 use Rattle.fields.specs.Fields.{room, zeros}
 use Rattle.state.specs.View.{view}
 use Rattle.state.specs.declared.Search.{Search}
 use Rattle.search.specs.Excluding.{seenExcluded, excludeSeen}
 use Rattle.search.specs.Listing.{seenListed, listSeen}
 use Rattle.search.specs.declared.Opened.{Opened}
-use Rattle.search.specs.declared.Ran.{Ran}
+use Rattle.answers.specs.declared.Ran.{Ran}
 use Rattle.search.specs.declared.Excluded.{Excluded}
 use Rattle.search.specs.declared.Exclusion.{Exclusion}
 use Rattle.search.specs.declared.Exclusion.the-variants as exclusion
-use Rattle.search.specs.declared.Listed.{Listed}
-use Rattle.search.specs.declared.Verdict.{Verdict}
-use Rattle.search.specs.declared.Verdict.the-variants as verdict
+use Rattle.answers.specs.declared.Listed.{Listed}
+use Rattle.answers.specs.declared.Verdict.{Verdict}
+use Rattle.answers.specs.declared.Verdict.the-variants as verdict
 use Rattle.calls.specs.Calls.{Opens, Call, stepped, traced, ran, Makes, told, partsAt, given, SameAnswer, SameCounts}
 
 -- ---- the calls, strikes and listings among them: what their contracts say of an answer

@@ -11,9 +11,9 @@ use mir.Syntax.{w64}
 use mir.Val.{SFits, ofZ}
 use mir.Facts.{toZ-ofZ}
 use borrow.Author.Tests.{lt-ltb, le-ltb}
-use Rattle.model.specs.Lists.{all}
-use Rattle.model.specs.Constraint.{equalℤ}
-use Rattle.model.specs.Validity.{decisionValid}
+use Rattle.model_problems.specs.Lists.{all}
+use Rattle.model_problems.specs.Constraint.{equalℤ}
+use Rattle.model_walk.specs.Validity.{decisionValid}
 use Rattle.integer.specs.Tests.{leZ-true, leZ-false, lt-ltZ, le-ltZ}
 use Rattle.layout.specs.Rows.{numberIn, boxOf}
 use Rattle.layout.proofs.Rows.{lower-at, upper-at}

@@ -10,7 +10,7 @@ use mir.Syntax.{w64}
 use mir.Val.{SFits}
 use mir.Facts.{toZ-ofZ}
 use borrow.Author.Tests.{not-true, not-false}
-use Rattle.model.specs.Validity.{inside, boxInside}
+use Rattle.model_walk.specs.Validity.{inside, boxInside}
 use Rattle.integer.specs.Tests.{ltZ-true, ltZ-false, lt-leZ, le-leZ}
 use Rattle.layout.specs.Rows.{numberIn, boundsAt, boxOf}
 use Rattle.lists.proofs.Loops.{pairs-none, pairs-more, pairs-end, pairs-fails}

@@ -9,11 +9,11 @@ use mathlib.Core.Path.{_≡_, refl, sym, _∙_}
 use lib.IntN.{ℤ}
 use lib.ListN.{getD, length}
 use borrow.Author.Tests.{not-true, not-false}
-use Rattle.model.specs.Lists.{tab, allOf, allPairs}
-use Rattle.model.specs.Ranges.{maxVariables}
-use Rattle.model.specs.Problem.{boundsInRange}
-use Rattle.model.specs.Threshold.{outsideGap}
-use Rattle.model.specs.Validity.{reasonsValid, levelValid, levelAllowed, boxInside, decisionValid, nestedValid}
+use Rattle.model_problems.specs.Lists.{tab, allOf, allPairs}
+use Rattle.model_problems.specs.Ranges.{maxVariables}
+use Rattle.model_problems.specs.Problem.{boundsInRange}
+use Rattle.model_problems.specs.Threshold.{outsideGap}
+use Rattle.model_walk.specs.Validity.{reasonsValid, levelValid, levelAllowed, boxInside, decisionValid, nestedValid}
 use Rattle.lists.proofs.Bools.{said-yes, and-true, and-both, lt-or-le}
 use Rattle.layout.specs.Rows.{boxOf, thresholdsOf}
 use Rattle.linear.specs.Ranges.{BoxFits}

@@ -9,10 +9,10 @@ use lib.ListN.{getD}
 use mir.Syntax.{w64}
 use mir.Val.{SFits}
 use mir.Facts.{toZ-ofZ}
-use Rattle.model.specs.Lists.{tab, anyOf}
-use Rattle.model.specs.Search as model
-use Rattle.model.specs.Constraint.{Constraint, Box, isOpen}
-use Rattle.model.specs.Validity.{falsifies, anyFalsified, outermost, statusValid}
+use Rattle.model_problems.specs.Lists.{tab, anyOf}
+use Rattle.model_walk.specs.Search as model
+use Rattle.model_problems.specs.Constraint.{Constraint, Box, isOpen}
+use Rattle.model_walk.specs.Validity.{falsifies, anyFalsified, outermost, statusValid}
 use Rattle.layout.specs.Rows.{numberIn, boundsAt, boxOf}
 use Rattle.state.specs.View.{levelOf, noLevel, levelAt, levelsFrom, statusOf, keptCuts, keptAt, coreOver, coreOf}
 use Rattle.state.specs.declared.Level.{Level}

@@ -6,7 +6,7 @@ use mathlib.Core.Path.{_≡_}
 use lib.Dec.{eqb}
 use lib.ListN.{getD}
 use borrow.Author.Tests.{eq-eqb, ne-eqb}
-use Rattle.model.specs.Lists.{tab, allPairs}
+use Rattle.model_problems.specs.Lists.{tab, allPairs}
 use Rattle.state.specs.View.{storedNumber}
 use Rattle.conditions.specs.Sizes.{numberFrom}
 use Rattle.lists.proofs.Loops.{pairs-none, pairs-more, pairs-end, pairs-fails}

@@ -7,8 +7,8 @@ use mathlib.Core.Path.{_≡_}
 use lib.Dec.{leb}
 use lib.ListN.{getD}
 use borrow.Author.Tests.{le-leb, eq-eqb, ne-eqb, not-true, not-false}
-use Rattle.model.specs.Lists.{tab, allOf}
-use Rattle.model.specs.Validity.{reasonValid, reasonsValid}
+use Rattle.model_problems.specs.Lists.{tab, allOf}
+use Rattle.model_walk.specs.Validity.{reasonValid, reasonsValid}
 use Rattle.state.specs.View.{reasonOf, reasonsIn, domainReason, decisionReason, flippedReason}
 use Rattle.lists.proofs.Loops.{every-none, every-more, every-end, every-fails}
 

@@ -8,10 +8,10 @@ use mathlib.Core.Path.{_≡_, sym, _∙_}
 use borrow.Author.Tests.{lt-ltb, le-ltb}
 use lib.IntN.{ℤ}
 use lib.ListN.{length}
-use Rattle.model.specs.Lists.{tab, allOf, anyOf}
-use Rattle.model.specs.Ranges.{maxVariables}
-use Rattle.model.specs.Constraint.{Box, inRange, divisorInRange, falsified}
-use Rattle.model.specs.Validity.{falsifies}
+use Rattle.model_problems.specs.Lists.{tab, allOf, anyOf}
+use Rattle.model_problems.specs.Ranges.{maxVariables}
+use Rattle.model_problems.specs.Constraint.{Box, inRange, divisorInRange, falsified}
+use Rattle.model_walk.specs.Validity.{falsifies}
 use Rattle.layout.specs.Rows.{rowLength, numberIn, rowAt, dividedAt, inputAt}
 use Rattle.linear.specs.Ranges.{RowFits, DivisorFits}
 use Rattle.linear.proofs.Ranges.{row-fits, divisor-fits}

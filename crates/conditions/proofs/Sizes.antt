@@ -5,8 +5,8 @@ use mathlib.Core.Bool.{Bool, true, false, not, and-true as and-one}
 use mathlib.Core.Path.{_≡_, sym}
 use lib.Dec.{leb}
 use borrow.Author.Tests.{lt-leb, le-leb, leb-true}
-use Rattle.model.specs.Lists.{all}
-use Rattle.model.specs.Ranges.{maxVariables, maxConstraints, maxBudget}
+use Rattle.model_problems.specs.Lists.{all}
+use Rattle.model_problems.specs.Ranges.{maxVariables, maxConstraints, maxBudget}
 use Rattle.lists.proofs.Bools.{and-true, said-no, said-yes}
 use Rattle.layout.specs.Sizes.{sizesFit}
 use Rattle.layout.proofs.Limits.{fit-sizes}

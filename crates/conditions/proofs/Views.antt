@@ -7,12 +7,12 @@ use mathlib.Core.Path.{_≡_, refl, sym, ap, ap₂, _∙_}
 use mathlib.Core.List.{List, [], _∷_}
 use lib.Dec.{leb, eqb}
 use lib.ListN.{length}
-use Rattle.model.specs.Lists.{tab, all, allOf, allPairs}
-use Rattle.model.specs.Ranges.{maxVariables, maxConstraints, maxCuts, maxBudget}
-use Rattle.model.specs.Constraint.{inRange, divisorInRange}
-use Rattle.model.specs.Threshold.{isThreshold}
-use Rattle.model.specs.Search as model
-use Rattle.model.specs.Validity.{scalarsValid, constraintsValid, divisorsValid, cutNumber, numbersValid, levelValid, levelsValid, nestedValid, levelAllowed, thresholdsValid}
+use Rattle.model_problems.specs.Lists.{tab, all, allOf, allPairs}
+use Rattle.model_problems.specs.Ranges.{maxVariables, maxConstraints, maxCuts, maxBudget}
+use Rattle.model_problems.specs.Constraint.{inRange, divisorInRange}
+use Rattle.model_problems.specs.Threshold.{isThreshold}
+use Rattle.model_walk.specs.Search as model
+use Rattle.model_walk.specs.Validity.{scalarsValid, constraintsValid, divisorsValid, cutNumber, numbersValid, levelValid, levelsValid, nestedValid, levelAllowed, thresholdsValid}
 use Rattle.lists.proofs.Tab.{length-tab, tab-ext-0}
 use Rattle.lists.proofs.AllOf.{allOf-tab}
 use Rattle.layout.specs.Rows.{constraintAt, dividedAt, rowAt, inputAt, thresholdsOf}

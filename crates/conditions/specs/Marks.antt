@@ -1,10 +1,10 @@
 -- The mark in the terms of the kept constraints and the bounds of the outermost and the deepest level.
 use mathlib.Core.Bool.{Bool, true, not, _&&_}
 use mathlib.Core.List.{List}
-use Rattle.model.specs.Constraint.{Constraint, Box, isOpen}
-use Rattle.model.specs.Lists.{anyOf}
-use Rattle.model.specs.Search.{Status, undecided, infeasible, solved}
-use Rattle.model.specs.Validity.{falsifies}
+use Rattle.model_problems.specs.Constraint.{Constraint, Box, isOpen}
+use Rattle.model_problems.specs.Lists.{anyOf}
+use Rattle.model_walk.specs.Search.{Status, undecided, infeasible, solved}
+use Rattle.model_walk.specs.Validity.{falsifies}
 
 unfoldable pub markValid : Status → List Constraint → Box → Box → Bool
 markValid undecided kept outermost deepest = true

@@ -3,8 +3,8 @@ use Prim.Native.Nat.{ℕ}
 use mathlib.Core.Bool.{Bool, _&&_}
 use mathlib.Core.List.{List}
 use lib.IntN.{ℤ}
-use Rattle.model.specs.Search as model
-use Rattle.model.specs.Validity.{levelValid, levelAllowed, boxInside, decisionValid}
+use Rattle.model_walk.specs.Search as model
+use Rattle.model_walk.specs.Validity.{levelValid, levelAllowed, boxInside, decisionValid}
 
 unfoldable pub levelPasses : ℕ → List ℤ → model.Level → Bool
 levelPasses last ts l = levelValid last l && levelAllowed ts l

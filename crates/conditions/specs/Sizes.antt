@@ -3,8 +3,8 @@ use Prim.Native.Nat.{ℕ, _+_}
 use mathlib.Core.Bool.{Bool, _&&_}
 use mathlib.Core.List.{[], _∷_}
 use lib.Dec.{leb}
-use Rattle.model.specs.Lists.{all}
-use Rattle.model.specs.Ranges.{maxConstraints, maxBudget}
+use Rattle.model_problems.specs.Lists.{all}
+use Rattle.model_problems.specs.Ranges.{maxConstraints, maxBudget}
 use Rattle.layout.specs.Sizes.{sizesFit}
 
 unfoldable pub sizesValid : ℕ → ℕ → ℕ → ℕ → ℕ → ℕ → Bool

@@ -4,8 +4,8 @@ ghost use mathlib.Core.Path.{_≡_};
 ghost use Prim.Native.Nat.{_≤_};
 ghost use lib.Dec.{eqb};
 ghost use lib.ListN.{length};
-ghost use Rattle.model.specs.Ranges.{maxCuts};
-ghost use Rattle.model.specs.Lists.{tab, allPairs};
+ghost use Rattle.model_problems.specs.Ranges.{maxCuts};
+ghost use Rattle.model_problems.specs.Lists.{tab, allPairs};
 ghost use Rattle.state.specs.View.{storedNumber};
 ghost use Rattle.conditions.specs.Sizes.{sizesValid, numberFrom, maxFirst};
 

@@ -7,11 +7,11 @@ use mathlib.Core.Path.{_≡_, sym, ap, _∙_}
 use lib.IntN.{ℤ}
 use lib.ListN.{getD, length, drop, length-append, List·getD-append}
 use lib.Seq.{getD-drop}
-use Rattle.model.specs.Lists.{tab}
-use Rattle.model.specs.Ranges.{maxVariables, maxCuts}
-use Rattle.model.specs.Constraint.{Constraint}
-use Rattle.model.specs.File.{noConstraint}
-use Rattle.model.specs.Search.{newest}
+use Rattle.model_problems.specs.Lists.{tab}
+use Rattle.model_problems.specs.Ranges.{maxVariables, maxCuts}
+use Rattle.model_problems.specs.Constraint.{Constraint}
+use Rattle.model_files.specs.File.{noConstraint}
+use Rattle.model_walk.specs.Search.{newest}
 use Rattle.lists.proofs.Bools.{lt-or-le}
 use Rattle.lists.proofs.Tab.{length-tab, getD-tab, getD-tab-from}
 use Rattle.layout.specs.Rows.{constraintAt, rowAt}

@@ -8,13 +8,13 @@ use mathlib.Core.Path.{_≡_, sym, ap, subst, _∙_}
 use lib.Dec.{T, lit≤}
 use lib.IntN.{ℤ, pos}
 use lib.ListN.{getD}
-use Rattle.model.specs.Lists.{tab}
-use Rattle.model.specs.Ranges.{maxVariables, maxCoefficient}
-use Rattle.model.specs.Constraint.{Constraint, falsified}
-use Rattle.model.specs.File.{noConstraint}
-use Rattle.model.specs.Search as model
-use Rattle.model.specs.Conflict.{analyze, firstEqual}
-use Rattle.model.specs.Conflict as model-conflict
+use Rattle.model_problems.specs.Lists.{tab}
+use Rattle.model_problems.specs.Ranges.{maxVariables, maxCoefficient}
+use Rattle.model_problems.specs.Constraint.{Constraint, falsified}
+use Rattle.model_files.specs.File.{noConstraint}
+use Rattle.model_walk.specs.Search as model
+use Rattle.model_walk.specs.Conflict.{analyze, firstEqual}
+use Rattle.model_walk.specs.Conflict as model-conflict
 use Rattle.integer.specs.Size.{Within}
 use Rattle.lists.proofs.Bools.{true-of, lt-or-le}
 use Rattle.lists.proofs.Tab.{getD-tab}

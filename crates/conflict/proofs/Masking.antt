@@ -8,16 +8,16 @@ use mathlib.Core.Path.{_≡_, sym, ap, ap₂, subst, _∙_}
 use lib.IntN.{ℤ, pos}
 use lib.ListN.{getD, length, length-append, List·getD-append}
 use lib.Seq.{getD-drop, getD-append-seam}
-use Rattle.model.specs.Lists.{tab}
-use Rattle.model.specs.Ranges.{maxVariables, maxConstraints, maxCuts}
-use Rattle.model.specs.Constraint.{Constraint, coefficientAt}
-use Rattle.model.specs.File.{noConstraint}
-use Rattle.model.specs.Search.{newest}
+use Rattle.model_problems.specs.Lists.{tab}
+use Rattle.model_problems.specs.Ranges.{maxVariables, maxConstraints, maxCuts}
+use Rattle.model_problems.specs.Constraint.{Constraint, coefficientAt}
+use Rattle.model_files.specs.File.{noConstraint}
+use Rattle.model_walk.specs.Search.{newest}
 use Rattle.lists.proofs.Tab.{length-tab, getD-tab, getD-tab-from}
 use Rattle.layout.specs.Rows.{rowLength, constraintAt, rowAt}
 use Rattle.layout.proofs.Rows.{coefficient-at}
 use Rattle.state.specs.View.{keptCuts, storedNumber}
-use Rattle.propagate.specs.Masks.{bit, Mentions, Masked}
+use Rattle.bits.specs.Masks.{bit, Mentions, Masked}
 use Rattle.analyze.specs.Storing.{RowKept, NumberKept}
 use Rattle.conflict.proofs.Keeping.{input}
 

@@ -6,18 +6,18 @@ use mathlib.Core.Logic.{_⊎_}
 use mathlib.Core.Path.{_≡_}
 use lib.IntN.{ℤ, pos}
 use lib.ListN.{getD, length}
-use Rattle.model.specs.Ranges.{maxVariables, maxConstraints, maxCuts}
-use Rattle.model.specs.Bytes.{blockLength}
-use Rattle.model.specs.Constraint.{falsified, inRange}
-use Rattle.model.specs.File.{noConstraint}
-use Rattle.model.specs.Journal.{recordBytes}
+use Rattle.model_problems.specs.Ranges.{maxVariables, maxConstraints, maxCuts}
+use Rattle.model_files.specs.Bytes.{blockLength}
+use Rattle.model_problems.specs.Constraint.{falsified, inRange}
+use Rattle.model_files.specs.File.{noConstraint}
+use Rattle.model_files.specs.Journal.{recordBytes}
 use Rattle.layout.specs.Rows.{rowLength, numberIn, constraintAt, rowAt, dividedAt, inputAt, boxOf, rowsLength}
 use Rattle.linear.specs.Ranges.{DivisorFits}
 use Rattle.state.specs.View.{keptCuts, numberFor, divisorFor}
 use Rattle.state.specs.declared.Level.{Level}
 use Rattle.record.specs.Written.{recordOf, Emitted}
-use Rattle.propagate.specs.Masks.{Masked}
-use Rattle.propagate.specs.Divided.{keptOver, Apart}
+use Rattle.bits.specs.Masks.{Masked}
+use Rattle.propagate.specs.Apart.{keptOver, Apart}
 use Rattle.levels.specs.Mirror.{boxIn, BoundsKept}
 use Rattle.levels.specs.Level.{LevelsNested, LeastFalsifying}
 use Rattle.conflict.specs.Learning.{Learnable, LearnedFrom}

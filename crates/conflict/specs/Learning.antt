@@ -6,13 +6,13 @@ use mathlib.Core.Path.{_≡_}
 use lib.Dec.{T}
 use lib.IntN.{ℤ, pos}
 use lib.ListN.{getD, length}
-use Rattle.model.specs.Lists.{tab, allOf}
-use Rattle.model.specs.Ranges.{maxVariables, maxConstraints, maxCuts, maxBudget}
-use Rattle.model.specs.Constraint.{Constraint, inRange}
-use Rattle.model.specs.File.{noConstraint}
-use Rattle.model.specs.Problem.{boundsInRange}
-use Rattle.model.specs.Search as model
-use Rattle.model.specs.Conflict.{analyze, numbered}
+use Rattle.model_problems.specs.Lists.{tab, allOf}
+use Rattle.model_problems.specs.Ranges.{maxVariables, maxConstraints, maxCuts, maxBudget}
+use Rattle.model_problems.specs.Constraint.{Constraint, inRange}
+use Rattle.model_files.specs.File.{noConstraint}
+use Rattle.model_problems.specs.Problem.{boundsInRange}
+use Rattle.model_walk.specs.Search as model
+use Rattle.model_walk.specs.Conflict.{analyze, numbered}
 use Rattle.layout.specs.Rows.{rowLength, numberIn, constraintAt, rowAt, boxOf}
 use Rattle.state.specs.View.{levelOf, keptCuts, coreWith}
 use Rattle.state.specs.Change.{Whole}

@@ -3,17 +3,17 @@ use analyze::analysis;
 use analyze::keeping::equal_row;
 use analyze::keeping::keep_number;
 use analyze::keeping::keep_row;
-use propagate::masks::row_mask;
+use bits::masks::row_mask;
 use state::kept::kept_count;
 use state::kept::number_of;
 ghost use mathlib.Core.List.{List};
 ghost use mathlib.Core.Path.{_≡_};
 ghost use Prim.Native.Nat.{ℕ, _+_};
 ghost use lib.ListN.{length};
-ghost use Rattle.model.specs.Ranges.{maxCuts};
+ghost use Rattle.model_problems.specs.Ranges.{maxCuts};
 ghost use Rattle.state.specs.View.{keptCuts};
 ghost use Rattle.state.specs.Change.{held};
-ghost use Rattle.propagate.specs.Masks.{Masked};
+ghost use Rattle.bits.specs.Masks.{Masked};
 ghost use Rattle.conflict.specs.Learning.{Learnable, LearnedFrom};
 
 // The cut and what it was resolved from, its number, and how many cuts are made now.

@@ -4,7 +4,7 @@ use libc::STDOUT_FILENO;
 use problem::Answer;
 use report::LONGEST_LINE;
 use search::Exclusion;
-use search::Verdict;
+use answers::Verdict;
 ghost use Prim.Native.Nat.{_+_, _≤_};
 ghost use lib.ListN.{length};
 ghost use Rattle.report.specs.Room.{longestLine};

@@ -19,7 +19,7 @@ ghost use Rattle.edges.specs.Space.{space};
 // Whether a problem is written as the file's bytes.
 fn is_written_as(problem: Problem, file: &[u8]) -> bool {
     let mut buffer = io::large_buffer();
-    problem::write(problem, &mut buffer);
+    writing::write(problem, &mut buffer);
     compare::starts_with(&buffer, file)
 }
 
@@ -31,7 +31,7 @@ fn is_empty(problem: Problem) -> bool {
 
 // Reads a file and prints the answer's number. What was read must give the file again, and an error must come with no problem.
 fn read(label: &[u8], file: &[u8]) {
-    let reading = problem::read(file);
+    let reading = reading::read(file);
     let answer = reading.answer;
     let number = problem::error_number(answer);
     let problem = reading.problem;
@@ -61,7 +61,7 @@ fn kept_from(number: usize, m: usize) -> usize {
 // Prints a number that depends on every byte of a written file, and reads the file: the problem must come back.
 fn read_back(label: &[u8], problem: Problem, file: &[u8]) {
     print::show(b"bytes of ", label, compare::digest(file), b"");
-    let reading = problem::read(file);
+    let reading = reading::read(file);
     let answer = reading.answer;
     let back = reading.problem;
     if problem::error_number(answer) != 0 {
@@ -76,7 +76,7 @@ fn read_back(label: &[u8], problem: Problem, file: &[u8]) {
 // Writes a problem into a buffer that is no longer empty; the answer's number.
 fn written(problem: Problem, buffer: &mut [u8]) -> usize {
     compare::fill(buffer);
-    let answer = problem::write(problem, buffer);
+    let answer = writing::write(problem, buffer);
     problem::error_number(answer)
 }
 
@@ -112,7 +112,7 @@ fn write_into(label: &[u8], problem: Problem, end: usize)
 
 // The problem of a file made by hand is the one made by hand, and its bytes come back.
 fn file_trip(label: &[u8], problem: Problem, file: &[u8]) {
-    let reading = problem::read(file);
+    let reading = reading::read(file);
     let answer = reading.answer;
     let number = problem::error_number(answer);
     let read = reading.problem;
@@ -124,7 +124,7 @@ fn file_trip(label: &[u8], problem: Problem, file: &[u8]) {
 
 // Reads a written file: its problem is the one that was written.
 fn trip_back(label: &[u8], problem: Problem, file: &[u8]) {
-    let reading = problem::read(file);
+    let reading = reading::read(file);
     let answer = reading.answer;
     let number = problem::error_number(answer);
     let back = reading.problem;

@@ -1,10 +1,10 @@
 // Turns repeated in place: the loop that `step`, `run`, `trace` and `list` share.
-use crate::Advanced;
-use crate::Ending;
-use crate::apart::lesser;
-use crate::apart::put_rows;
-use crate::back::go_back;
-use crate::track::track;
+use turns::Advanced;
+use turns::Ending;
+use turns::apart::lesser;
+use turns::apart::put_rows;
+use turns::back::go_back;
+use turns::track::track;
 use backtrack::decide;
 use conflict::conflict;
 use conflict::is_spent;
@@ -12,16 +12,16 @@ use levels::mirror::keep_bounds;
 use levels::mirror::mirror;
 use levels::struck::is_last;
 use levels::struck::put_values;
-use propagate::divided::columns;
-use propagate::divided::divided_mask;
-use propagate::divided::first_indivisible;
+use bits::divided::columns;
+use bits::divided::divided_mask;
+use bits::divided::first_indivisible;
 use propagate::propagate::Found;
 use propagate::propagate::propagate;
 use state::Level;
 use state::Search;
 use state::Status;
 ghost use Rattle.state.specs.View.{view};
-ghost use Rattle.engine.specs.Advancing.{Starts, Advances};
+ghost use Rattle.turns.specs.Advancing.{Starts, Advances};
 
 // At most `limit` turns, to a verdict, the first `room` solutions struck out on the way. The level in hand lies in arrays of its own, and is stored when a
 // decision leaves it; `before` is the level where the turn started, at depth `start`, with the bounds set in `earlier` turns counted, and what the call

@@ -1,23 +1,2 @@
-// Turns repeated in place, on a valid state.
-use state::Search;
-
+// Turns repeated in place, on a valid state: the loop under the calls.
 pub mod advance;
-pub mod apart;
-pub mod back;
-pub mod track;
-
-// How turns repeated end: after as many as were asked for, or with a verdict.
-pub enum Ending {
-    GoOn,
-    NoSolution,
-    OutOfBudget,
-    Solution,
-}
-
-// The ending, how many solutions were struck out, how many conflicts were counted since the last of them, and the state.
-pub struct Advanced {
-    pub ending: Ending,
-    pub struck: usize,
-    pub blocks: usize,
-    pub state: Search,
-}

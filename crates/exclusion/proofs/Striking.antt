@@ -7,14 +7,14 @@ use mathlib.Core.Path.{_≡_, sym, ap, ap₂, _∙_}
 use lib.Dec.{lit≤}
 use lib.IntN.{ℤ, _-ℤ_}
 use lib.ListN.{getD, set, length}
-use Rattle.model.specs.Lists.{allOf}
-use Rattle.model.specs.Ranges.{maxVariables}
-use Rattle.model.specs.Constraint.{lowerAt, upperAt}
-use Rattle.model.specs.Threshold.{thresholdAt}
-use Rattle.model.specs.Problem.{boundsInRange}
-use Rattle.model.specs.Search as model
-use Rattle.model.specs.Conflict.{backUp}
-use Rattle.model.specs.Step.{withStatus}
+use Rattle.model_problems.specs.Lists.{allOf}
+use Rattle.model_problems.specs.Ranges.{maxVariables}
+use Rattle.model_problems.specs.Constraint.{lowerAt, upperAt}
+use Rattle.model_problems.specs.Threshold.{thresholdAt}
+use Rattle.model_problems.specs.Problem.{boundsInRange}
+use Rattle.model_walk.specs.Search as model
+use Rattle.model_walk.specs.Conflict.{backUp}
+use Rattle.model_walk.specs.Step.{withStatus}
 use Rattle.integer.specs.Parts.{_⊑_, _⊏_, abs-parts}
 use Rattle.integer.specs.Size.{Within, weaken}
 use Rattle.lists.proofs.Bools.{true-of}

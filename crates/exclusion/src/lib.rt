@@ -5,9 +5,9 @@ use state::Search;
 use state::Status;
 ghost use mathlib.Core.Path.{_≡_};
 ghost use Prim.Native.Nat.{_<_};
-ghost use Rattle.model.specs.Search.{undecided};
-ghost use Rattle.model.specs.Conflict.{backUp};
-ghost use Rattle.model.specs.Step.{withStatus};
+ghost use Rattle.model_walk.specs.Search.{undecided};
+ghost use Rattle.model_walk.specs.Conflict.{backUp};
+ghost use Rattle.model_walk.specs.Step.{withStatus};
 ghost use Rattle.state.specs.View.{view};
 ghost use Rattle.validity.specs.Valid.{Valid};
 

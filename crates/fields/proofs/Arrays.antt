@@ -11,10 +11,10 @@ use lib.Seq.{set-at}
 use mir.Syntax.{w64}
 use mir.Val.{SFits, toZ, ofZ}
 use mir.Facts.{toZ-ofZ}
-use Rattle.model.specs.Bytes.{i32At, block}
-use Rattle.model.specs.Constraint.{coefficientAt}
-use Rattle.model.specs.File.{variablesIn, boundsOffset, thresholdOffset, thresholdIn, coefficientOffset, divisorOffset, coefficientIn, constraintIn, constraintOf}
-use Rattle.model.specs.Lists.{tab}
+use Rattle.model_files.specs.Bytes.{i32At, block}
+use Rattle.model_problems.specs.Constraint.{coefficientAt}
+use Rattle.model_files.specs.File.{variablesIn, boundsOffset, thresholdOffset, thresholdIn, coefficientOffset, divisorOffset, coefficientIn, constraintIn, constraintOf}
+use Rattle.model_problems.specs.Lists.{tab}
 use Rattle.lists.proofs.Tab.{length-tab, getD-tab, getD-tab-past, tab-more}
 use Rattle.layout.specs.Rows.{rowLength}
 use Rattle.fields.specs.Fields.{zeros, inRow, filled, boundIn, cellIn, divisorIn}

@@ -8,10 +8,10 @@ use mathlib.Core.List.{List}
 use lib.Dec.{eqb}
 use lib.ListN.{take, drop, length}
 use borrow.Author.Tests.{le-leb, lt-leb, eq-eqb, eqb-true, not-true, not-false}
-use Rattle.model.specs.Bytes.{Bytes, u32At, u32Bytes, u16Bytes, blockLength, checkOffset, block, checksum, zeroBetween, zeroFrom}
-use Rattle.model.specs.File.{magic, variablesIn, constraintsIn, budgetIn, boundsOffset, coefficientOffset, divisorOffset, thresholdOffset, problemIn, wholeBlocks, checkMatches, checksMatch, magicMatches, blockCountMatches, blockPadded, constraintPadded, headPadded, paddingZero}
-use Rattle.model.specs.Lists.{tab, all}
-use Rattle.model.specs.Problem.{sizesInRange}
+use Rattle.model_files.specs.Bytes.{Bytes, u32At, u32Bytes, u16Bytes, blockLength, checkOffset, block, checksum, zeroBetween, zeroFrom}
+use Rattle.model_files.specs.File.{magic, variablesIn, constraintsIn, budgetIn, boundsOffset, coefficientOffset, divisorOffset, thresholdOffset, problemIn, wholeBlocks, checkMatches, checksMatch, magicMatches, blockCountMatches, blockPadded, constraintPadded, headPadded, paddingZero}
+use Rattle.model_problems.specs.Lists.{tab, all}
+use Rattle.model_problems.specs.Problem.{sizesInRange}
 use Rattle.lists.proofs.All.{all-more, all-end, all-fails}
 use Rattle.lists.proofs.AllPairs.{pairs-equal, pairs-refl}
 use Rattle.lists.proofs.Bools.{same-test}

@@ -9,11 +9,11 @@ use lib.ListN.{getD, take}
 use mir.Syntax.{w64}
 use mir.Val.{SFits, toZ, ofZ}
 use mir.Facts.{toZ-ofZ}
-use Rattle.model.specs.Bytes.{u16Bytes, u32Bytes, i32Bytes, checkOffset, sealed}
-use Rattle.model.specs.Constraint.{coefficientAt, inRange, isDivisor}
-use Rattle.model.specs.File.{magic, divisorOffset, coefficientBytes, numbersBytes, constraintBytes}
-use Rattle.model.specs.Lists.{tab, parts, all}
-use Rattle.model.specs.Ranges.{within, maxVariables, maxCoefficient}
+use Rattle.model_files.specs.Bytes.{u16Bytes, u32Bytes, i32Bytes, checkOffset, sealed}
+use Rattle.model_problems.specs.Constraint.{coefficientAt, inRange, isDivisor}
+use Rattle.model_files.specs.File.{magic, divisorOffset, coefficientBytes, numbersBytes, constraintBytes}
+use Rattle.model_problems.specs.Lists.{tab, parts, all}
+use Rattle.model_problems.specs.Ranges.{within, maxVariables, maxCoefficient}
 use Rattle.integer.specs.Size.{Within}
 use Rattle.lists.proofs.All.{all-at}
 use Rattle.lists.proofs.Bools.{and-true}

@@ -4,12 +4,12 @@ use mathlib.Core.Bool.{Bool, _&&_}
 use mathlib.Core.List.{List, _++_}
 use lib.IntN.{ℤ, pos}
 use lib.ListN.{length, replicate}
-use Rattle.model.specs.Bytes.{i32At, blockLength}
-use Rattle.model.specs.File.{variablesIn, constraintsIn, boundsOffset, constraintOf, problemIn, blockCountMatches}
-use Rattle.model.specs.Lists.{tab}
-use Rattle.model.specs.Constraint.{Constraint, coefficientAt}
-use Rattle.model.specs.Problem.{sizesInRange}
-use Rattle.model.specs.Ranges.{maxVariables, maxConstraints}
+use Rattle.model_files.specs.Bytes.{i32At, blockLength}
+use Rattle.model_files.specs.File.{variablesIn, constraintsIn, boundsOffset, constraintOf, problemIn, blockCountMatches}
+use Rattle.model_problems.specs.Lists.{tab}
+use Rattle.model_problems.specs.Constraint.{Constraint, coefficientAt}
+use Rattle.model_problems.specs.Problem.{sizesInRange}
+use Rattle.model_problems.specs.Ranges.{maxVariables, maxConstraints}
 use Rattle.layout.specs.Rows.{rowLength}
 
 -- 4 does not hold

@@ -1,8 +1,8 @@
 // Where the fields of a file stand, document 01's 'plan file': one description for reading and for writing.
 ghost use mathlib.Core.Path.{_≡_};
 ghost use Prim.Native.Nat.{_*_, _≤_};
-ghost use Rattle.model.specs.Ranges.{maxVariables};
-ghost use Rattle.model.specs.File.{boundsOffset, thresholdOffset};
+ghost use Rattle.model_problems.specs.Ranges.{maxVariables};
+ghost use Rattle.model_files.specs.File.{boundsOffset, thresholdOffset};
 ghost use Rattle.layout.specs.Rows.{rowLength};
 
 // The letters BLUE, as a number of four bytes at the head's start.

@@ -7,9 +7,9 @@ use layout::range::sizes_in_range;
 ghost use mathlib.Core.Path.{_≡_};
 ghost use Prim.Native.Nat.{_*_, _<_, _≤_};
 ghost use lib.ListN.{length};
-ghost use Rattle.model.specs.Ranges.{maxVariables};
-ghost use Rattle.model.specs.Bytes.{blockLength};
-ghost use Rattle.model.specs.File.{variablesIn, constraintsIn, budgetIn, wholeBlocks, checksMatch, magicMatches, blockPadded, headPadded, thresholdIn, paddingZero};
+ghost use Rattle.model_problems.specs.Ranges.{maxVariables};
+ghost use Rattle.model_files.specs.Bytes.{blockLength};
+ghost use Rattle.model_files.specs.File.{variablesIn, constraintsIn, budgetIn, wholeBlocks, checksMatch, magicMatches, blockPadded, headPadded, thresholdIn, paddingZero};
 ghost use Rattle.layout.specs.Rows.{rowLength};
 ghost use Rattle.fields.specs.Fields.{sizesMatch, Blocks, room, cells, divisorRoom, filled, boundIn, cellIn, divisorIn};
 

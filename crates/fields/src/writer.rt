@@ -6,10 +6,10 @@ ghost use mathlib.Core.Bool.{true};
 ghost use mathlib.Core.List.{_++_};
 ghost use Prim.Native.Nat.{_+_, _*_, _≤_};
 ghost use lib.ListN.{length};
-ghost use Rattle.model.specs.Ranges.{maxVariables};
-ghost use Rattle.model.specs.Bytes.{u16Bytes, u32Bytes, blockLength, sealed};
-ghost use Rattle.model.specs.Constraint.{inRange, isDivisor};
-ghost use Rattle.model.specs.File.{magic, numbersBytes, constraintBytes};
+ghost use Rattle.model_problems.specs.Ranges.{maxVariables};
+ghost use Rattle.model_files.specs.Bytes.{u16Bytes, u32Bytes, blockLength, sealed};
+ghost use Rattle.model_problems.specs.Constraint.{inRange, isDivisor};
+ghost use Rattle.model_files.specs.File.{magic, numbersBytes, constraintBytes};
 ghost use Rattle.layout.specs.Rows.{constraintAt, dividedAt};
 ghost use Rattle.block.specs.Placed.{Placed};
 

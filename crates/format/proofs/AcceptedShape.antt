@@ -6,12 +6,12 @@ use mathlib.Core.List.{List}
 use lib.Dec.{T}
 use lib.ListN.{length}
 use borrow.Author.Tests.{leb-true, eq-eqb}
-use Rattle.model.specs.Ranges.{maxVariables, maxConstraints, maxBudget}
-use Rattle.model.specs.Lists.{all, allOf}
-use Rattle.model.specs.Bytes.{block}
-use Rattle.model.specs.Problem.{Problem, variables, sizesInRange, domainInRange, thresholdsInRange, constraintsInRange, divisorsInRange, firstError}
-use Rattle.model.specs.File.{variablesIn, constraintsIn, boundsIn, thresholdIn, constraintIn, coefficientIn, constraintOf, problemIn, wholeBlocks, checksMatch, magicMatches, blockCountMatches, paddingZero, readError}
-use Rattle.model.specs.Validity.{constraintShaped}
+use Rattle.model_problems.specs.Ranges.{maxVariables, maxConstraints, maxBudget}
+use Rattle.model_problems.specs.Lists.{all, allOf}
+use Rattle.model_files.specs.Bytes.{block}
+use Rattle.model_problems.specs.Problem.{Problem, variables, sizesInRange, domainInRange, thresholdsInRange, constraintsInRange, divisorsInRange, firstError}
+use Rattle.model_files.specs.File.{variablesIn, constraintsIn, boundsIn, thresholdIn, constraintIn, coefficientIn, constraintOf, problemIn, wholeBlocks, checksMatch, magicMatches, blockCountMatches, paddingZero, readError}
+use Rattle.model_walk.specs.Validity.{constraintShaped}
 use Rattle.lists.proofs.Bools.{T-of, and-true}
 use Rattle.lists.proofs.Tab.{length-tab}
 use Rattle.lists.proofs.All.{all-of}

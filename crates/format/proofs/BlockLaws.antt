@@ -8,8 +8,8 @@ use mathlib.Core.List.{List, [], _∷_, _++_, append-assoc}
 use borrow.Author.Tests.{eqb-true}
 use lib.ListN.{take, drop, length, replicate, length-append, length-replicate, length-drop, take-append-drop}
 use lib.Seq.{take-add, take-all, take-at, drop-at, take-take, drop-append-seam, length-take-le}
-use Rattle.model.specs.Lists.{tab, sum, allOf}
-use Rattle.model.specs.Bytes.{Bytes, u32At, u32Bytes, blockLength, checkOffset, block, wordAt, checksum, isZero, zeroBetween, zeroFrom, paddedTo, padded, sealed}
+use Rattle.model_problems.specs.Lists.{tab, sum, allOf}
+use Rattle.model_files.specs.Bytes.{Bytes, u32At, u32Bytes, blockLength, checkOffset, block, wordAt, checksum, isZero, zeroBetween, zeroFrom, paddedTo, padded, sealed}
 use Rattle.lists.proofs.Bools.{and-true, and-both}
 use Rattle.lists.proofs.Tab.{tab-ext-0}
 use Rattle.lists.proofs.AllOf.{allOf-replicate}

@@ -6,13 +6,13 @@ use mathlib.Core.Path.{_≡_, refl, sym, _∙_}
 use mathlib.Core.List.{List, [], _++_, append-assoc}
 use lib.IntN.{pos}
 use lib.ListN.{take, drop, length}
-use Rattle.model.specs.Lists.{tab, parts, all, allOf}
-use Rattle.model.specs.Ranges.{maxVariables, maxBound, maxCoefficient, within}
-use Rattle.model.specs.Constraint.{Constraint, noBounds, coefficientAt, lowerAt, upperAt, inRange, divisorInRange}
-use Rattle.model.specs.Threshold.{thresholdAt}
-use Rattle.model.specs.Problem.{Problem, variables, boundsInRange, domainInRange, thresholdsInRange}
-use Rattle.model.specs.Bytes.{u16At, u32At, i32At, u16Bytes, u32Bytes, i32Bytes, paddedTo, padded, sealed}
-use Rattle.model.specs.File.{magic, boundsOffset, thresholdOffset, coefficientOffset, divisorOffset, coefficientIn, constraintIn, blockPadded, headPadded, boundsBytes, thresholdBytes, limitsBytes, headBytes, coefficientBytes, numbersBytes, constraintBytes}
+use Rattle.model_problems.specs.Lists.{tab, parts, all, allOf}
+use Rattle.model_problems.specs.Ranges.{maxVariables, maxBound, maxCoefficient, within}
+use Rattle.model_problems.specs.Constraint.{Constraint, noBounds, coefficientAt, lowerAt, upperAt, inRange, divisorInRange}
+use Rattle.model_problems.specs.Threshold.{thresholdAt}
+use Rattle.model_problems.specs.Problem.{Problem, variables, boundsInRange, domainInRange, thresholdsInRange}
+use Rattle.model_files.specs.Bytes.{u16At, u32At, i32At, u16Bytes, u32Bytes, i32Bytes, paddedTo, padded, sealed}
+use Rattle.model_files.specs.File.{magic, boundsOffset, thresholdOffset, coefficientOffset, divisorOffset, coefficientIn, constraintIn, blockPadded, headPadded, boundsBytes, thresholdBytes, limitsBytes, headBytes, coefficientBytes, numbersBytes, constraintBytes}
 use Rattle.integer.specs.Size.{mag-abs}
 use Rattle.lists.proofs.Bools.{and-true}
 use Rattle.lists.proofs.Tab.{tab-is}

@@ -5,8 +5,8 @@ use mathlib.Core.Path.{_≡_, refl, _∙_}
 use mathlib.Core.List.{List}
 use lib.ListN.{drop, length, length-append, length-drop}
 use lib.Seq.{drop-at}
-use Rattle.model.specs.Problem.{Problem}
-use Rattle.model.specs.File.{fileOf, fileLength, writeError, writtenBy, writeFile}
+use Rattle.model_problems.specs.Problem.{Problem}
+use Rattle.model_files.specs.File.{fileOf, fileLength, writeError, writtenBy, writeFile}
 use Rattle.format.proofs.AcceptedShape.{sizes}
 use Rattle.format.proofs.FileShape.{length-file}
 use Rattle.format.proofs.WrittenIsRead.{writable}

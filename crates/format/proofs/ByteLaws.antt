@@ -12,8 +12,8 @@ use lib.Signed.{mag}
 use borrow.Author.Tests.{ltb-true, ltb-false, lt-ltb, le-ltb}
 use lib.ListN.{getD, take, drop, length, replicate}
 use lib.Seq.{getD-take, getD-drop, drop-cons, take-add, take-take, take-at, drop-at, drop-drop}
-use Rattle.model.specs.Lists.{parts}
-use Rattle.model.specs.Bytes.{Bytes, u16At, u32At, signed, i32At, u16Bytes, u32Bytes, unsigned, i32Bytes}
+use Rattle.model_problems.specs.Lists.{parts}
+use Rattle.model_files.specs.Bytes.{Bytes, u16At, u32At, signed, i32At, u16Bytes, u32Bytes, unsigned, i32Bytes}
 
 -- ---- bytes
 pub bytes-at : (s : List ℕ) → Bytes s → (i : ℕ) → getD s i 0 < 256

@@ -4,7 +4,7 @@ use native.Mathlib.Omega.{arith}
 use mathlib.Core.Bool.{Bool, true, false}
 use mathlib.Core.Path.{_≡_, refl}
 use mathlib.Core.List.{List, [], _∷_}
-use Rattle.model.specs.Problem.{firstError, ok, resultOf}
+use Rattle.model_problems.specs.Problem.{firstError, ok, resultOf}
 
 -- ---- the test at the front fails, or passes
 pub error-here : (n : ℕ) {t : Bool} (ts : List (ℕ × Bool)) → t ≡ false → firstError ((n, t) ∷ ts) ≡ n

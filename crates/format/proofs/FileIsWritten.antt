@@ -10,13 +10,13 @@ use lib.Dec.{eqb}
 use lib.ListN.{getD, take, drop, length}
 use lib.Seq.{take-all, take-take}
 use borrow.Author.Tests.{eqb-true, le-leb}
-use Rattle.model.specs.Lists.{tab, parts, all}
-use Rattle.model.specs.Ranges.{maxVariables}
-use Rattle.model.specs.Constraint.{Bounds, noBounds, lowerAt, upperAt, coefficientAt}
-use Rattle.model.specs.Threshold.{thresholdAt}
-use Rattle.model.specs.Problem.{firstError}
-use Rattle.model.specs.Bytes.{Bytes, u16At, u32At, i32Bytes, checkOffset, block, checksum, zeroBetween, zeroFrom}
-use Rattle.model.specs.File.{magic, variablesIn, constraintsIn, budgetIn, boundsOffset, boundsIn, thresholdOffset, thresholdIn, coefficientOffset, divisorOffset, coefficientIn, constraintIn, constraintOf, problemIn, checkMatches, checksMatch, magicMatches, blockCountMatches, blockPadded, constraintPadded, headPadded, paddingZero, readError, boundsBytes, thresholdBytes, limitsBytes, headBytes, coefficientBytes, numbersBytes, constraintBytes, noConstraint, blockOf, fileOf, fileLength, writeError, writtenBy, writeFile}
+use Rattle.model_problems.specs.Lists.{tab, parts, all}
+use Rattle.model_problems.specs.Ranges.{maxVariables}
+use Rattle.model_problems.specs.Constraint.{Bounds, noBounds, lowerAt, upperAt, coefficientAt}
+use Rattle.model_problems.specs.Threshold.{thresholdAt}
+use Rattle.model_problems.specs.Problem.{firstError}
+use Rattle.model_files.specs.Bytes.{Bytes, u16At, u32At, i32Bytes, checkOffset, block, checksum, zeroBetween, zeroFrom}
+use Rattle.model_files.specs.File.{magic, variablesIn, constraintsIn, budgetIn, boundsOffset, boundsIn, thresholdOffset, thresholdIn, coefficientOffset, divisorOffset, coefficientIn, constraintIn, constraintOf, problemIn, checkMatches, checksMatch, magicMatches, blockCountMatches, blockPadded, constraintPadded, headPadded, paddingZero, readError, boundsBytes, thresholdBytes, limitsBytes, headBytes, coefficientBytes, numbersBytes, constraintBytes, noConstraint, blockOf, fileOf, fileLength, writeError, writtenBy, writeFile}
 use Rattle.lists.proofs.Bools.{and-true}
 use Rattle.lists.proofs.Tab.{getD-tab}
 use Rattle.lists.proofs.Parts.{parts-of}

@@ -5,13 +5,13 @@ use native.Mathlib.Nat.{zero-add}
 use mathlib.Core.Path.{_≡_, _∙_}
 use mathlib.Core.List.{[], append-nil}
 use lib.ListN.{getD, length, length-append}
-use Rattle.model.specs.Lists.{parts}
-use Rattle.model.specs.Ranges.{maxVariables}
-use Rattle.model.specs.Constraint.{Constraint, coefficientAt, lowerAt, upperAt}
-use Rattle.model.specs.Problem.{Problem, variables}
-use Rattle.model.specs.Bytes.{Bytes, u16Bytes, u32Bytes, i32Bytes, blockLength, checkOffset, block}
-use Rattle.model.specs.Threshold.{thresholdAt}
-use Rattle.model.specs.File.{magic, thresholdOffset, divisorOffset, boundsBytes, thresholdBytes, limitsBytes, headBytes, coefficientBytes, numbersBytes, constraintBytes, noConstraint, blockOf, fileOf, fileLength}
+use Rattle.model_problems.specs.Lists.{parts}
+use Rattle.model_problems.specs.Ranges.{maxVariables}
+use Rattle.model_problems.specs.Constraint.{Constraint, coefficientAt, lowerAt, upperAt}
+use Rattle.model_problems.specs.Problem.{Problem, variables}
+use Rattle.model_files.specs.Bytes.{Bytes, u16Bytes, u32Bytes, i32Bytes, blockLength, checkOffset, block}
+use Rattle.model_problems.specs.Threshold.{thresholdAt}
+use Rattle.model_files.specs.File.{magic, thresholdOffset, divisorOffset, boundsBytes, thresholdBytes, limitsBytes, headBytes, coefficientBytes, numbersBytes, constraintBytes, noConstraint, blockOf, fileOf, fileLength}
 use Rattle.lists.proofs.Parts.{length-parts, part-of}
 use Rattle.format.proofs.ByteLaws.{bytes-append, bytes-parts, bytes-u16, bytes-u32, bytes-i32, length-i32}
 use Rattle.format.proofs.BlockLaws.{length-two, bytes-padded-to, length-sealed, bytes-sealed}

@@ -7,12 +7,12 @@ use mathlib.Core.List.{List, _++_, append-assoc}
 use lib.IntN.{pos}
 use lib.Dec.{T}
 use lib.ListN.{getD, take, drop, length, replicate, length-append}
-use Rattle.model.specs.Lists.{tab, parts, allOf}
-use Rattle.model.specs.Ranges.{maxVariables, maxCoefficient, within}
-use Rattle.model.specs.Constraint.{coefficientAt, inRange}
-use Rattle.model.specs.Bytes.{Bytes, i32At, u16Bytes, u32Bytes, i32Bytes, blockLength, checkOffset, checksum, paddedTo, padded, sealed}
-use Rattle.model.specs.File.{coefficientBytes}
-use Rattle.model.specs.Journal.{Record, recordMagic, usedBytes, recordHead, recordContent, recordBytes, cutOffset, cutCoefficient, cutIn}
+use Rattle.model_problems.specs.Lists.{tab, parts, allOf}
+use Rattle.model_problems.specs.Ranges.{maxVariables, maxCoefficient, within}
+use Rattle.model_problems.specs.Constraint.{coefficientAt, inRange}
+use Rattle.model_files.specs.Bytes.{Bytes, i32At, u16Bytes, u32Bytes, i32Bytes, blockLength, checkOffset, checksum, paddedTo, padded, sealed}
+use Rattle.model_files.specs.File.{coefficientBytes}
+use Rattle.model_files.specs.Journal.{Record, recordMagic, usedBytes, recordHead, recordContent, recordBytes, cutOffset, cutCoefficient, cutIn}
 use Rattle.lists.proofs.Bools.{true-of, and-true}
 use Rattle.lists.proofs.Tab.{tab-is}
 use Rattle.lists.proofs.Parts.{length-parts, part-of}

@@ -9,11 +9,11 @@ use lib.IntN.{ℤ, pos, negsuc, natAbs}
 use lib.Signed.{mag}
 use lib.ListN.{getD}
 use borrow.Author.Tests.{eqb-true, leb-true}
-use Rattle.model.specs.Constraint.{Bounds, noBounds, equalℤ, noneOrFromTwo, isDivisor}
-use Rattle.model.specs.Ranges.{within, maxDivisor, maxBound}
-use Rattle.model.specs.Threshold.{thresholdAt, thresholdFits}
-use Rattle.model.specs.Lists.{all}
-use Rattle.model.specs.Problem.{Problem, variables, boundsInRange, domainInRange, thresholdsInRange}
+use Rattle.model_problems.specs.Constraint.{Bounds, noBounds, equalℤ, noneOrFromTwo, isDivisor}
+use Rattle.model_problems.specs.Ranges.{within, maxDivisor, maxBound}
+use Rattle.model_problems.specs.Threshold.{thresholdAt, thresholdFits}
+use Rattle.model_problems.specs.Lists.{all}
+use Rattle.model_problems.specs.Problem.{Problem, variables, boundsInRange, domainInRange, thresholdsInRange}
 use Rattle.integer.specs.Size.{mag-abs, between-in}
 use Rattle.lists.proofs.Bools.{T-of, and-true, or-true, clash}
 use Rattle.lists.proofs.AllOf.{allOf-getD}

@@ -10,14 +10,14 @@ use lib.Dec.{T, eqb, leb}
 use lib.ListN.{getD, take, length}
 use lib.Seq.{take-take}
 use borrow.Author.Tests.{leb-true, le-leb, eqb-true, eq-eqb}
-use Rattle.model.specs.Lists.{tab, allOf}
-use Rattle.model.specs.Ranges.{maxVariables}
-use Rattle.model.specs.Constraint.{noBounds, lowerAt, upperAt, inRange, divisorInRange}
-use Rattle.model.specs.Threshold.{thresholdAt, thresholdFits}
-use Rattle.model.specs.Problem.{Problem, variables, sizesInRange, domainInRange, thresholdsInRange, constraintsInRange, divisorsInRange, ok}
-use Rattle.model.specs.Bytes.{u16At, u32At, i32At, checkOffset, block, checksum}
-use Rattle.model.specs.File.{magic, variablesIn, constraintsIn, budgetIn, boundsOffset, boundsIn, thresholdOffset, thresholdIn, constraintOf, problemIn, wholeBlocks, checkMatches, checksMatch, magicMatches, blockCountMatches, constraintPadded, paddingZero, readError, readFile, headBytes, constraintBytes, noConstraint, blockOf, fileOf, fileLength, writeError}
-use Rattle.model.specs.Validity.{constraintShaped}
+use Rattle.model_problems.specs.Lists.{tab, allOf}
+use Rattle.model_problems.specs.Ranges.{maxVariables}
+use Rattle.model_problems.specs.Constraint.{noBounds, lowerAt, upperAt, inRange, divisorInRange}
+use Rattle.model_problems.specs.Threshold.{thresholdAt, thresholdFits}
+use Rattle.model_problems.specs.Problem.{Problem, variables, sizesInRange, domainInRange, thresholdsInRange, constraintsInRange, divisorsInRange, ok}
+use Rattle.model_files.specs.Bytes.{u16At, u32At, i32At, checkOffset, block, checksum}
+use Rattle.model_files.specs.File.{magic, variablesIn, constraintsIn, budgetIn, boundsOffset, boundsIn, thresholdOffset, thresholdIn, constraintOf, problemIn, wholeBlocks, checkMatches, checksMatch, magicMatches, blockCountMatches, constraintPadded, paddingZero, readError, readFile, headBytes, constraintBytes, noConstraint, blockOf, fileOf, fileLength, writeError}
+use Rattle.model_walk.specs.Validity.{constraintShaped}
 use Rattle.lists.proofs.Bools.{true-of}
 use Rattle.lists.proofs.Tab.{tab-is}
 use Rattle.lists.proofs.All.{all-of}

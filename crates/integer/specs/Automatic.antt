@@ -13,7 +13,7 @@ use lib.Signed.{_≤ℤ_, _<ℤ_, quotZ, remZ, nonNeg, yes-nonNeg}
 use mir.Syntax.{w64}
 use mir.Val.{Fits, SFits, toZ, ofZ}
 use mir.Facts.{toZ-ofZ}
-use Rattle.model.specs.Division.{floorDiv, ceilDiv, exactDiv}
+use Rattle.model_problems.specs.Division.{floorDiv, ceilDiv, exactDiv}
 use Rattle.integer.specs.Parts.{up, down}
 use Rattle.integer.specs.Expression as E
 use Rattle.integer.specs.Expression.{Rep, add-ok, mul-ok, neg-ok, nat-ok}

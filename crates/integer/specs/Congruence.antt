@@ -5,7 +5,7 @@ use native.Mathlib.Nat.{dvd-mul-right, dvd-of-mod-eq-zero, mod-eq-zero-of-dvd, m
 use native.Mathlib.Omega.{arith}
 use lib.Dec.{T, eqb→eq}
 use lib.IntN.{ℤ, pos, negℤ, natAbs, _+ℤ_, _*ℤ_, +ℤ-idr, +ℤ-assoc, *ℤ-zero}
-use Rattle.model.specs.Division.{exactDiv, divides}
+use Rattle.model_problems.specs.Division.{exactDiv, divides}
 use Rattle.integer.specs.Ring.{ring, *ℤ-assoc}
 use Rattle.integer.specs.Expression.{rep, var, eq}
 use Rattle.integer.specs.Size.{abs-mul}

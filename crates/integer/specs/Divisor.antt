@@ -5,7 +5,7 @@ use Prim.Native.Nat.{ℕ, zero, suc, _*_, _/_, _%_, _≤_, _<_, _∣_}
 use native.Mathlib.Nat.{mod-lt, zero-lt-suc, mul-div-cancel', dvd-refl, dvd-zero, dvd-mod-iff, dvd-antisymm, le-of-dvd, pos-of-dvd-of-pos}
 use native.Mathlib.Omega.{arith}
 use lib.IntN.{ℤ, pos, negsuc, negℤ, natAbs, _*ℤ_}
-use Rattle.model.specs.Division.{exactDiv, gcdWith, gcd}
+use Rattle.model_problems.specs.Division.{exactDiv, gcdWith, gcd}
 use Rattle.integer.specs.Parts.{neg-up, neg-down, mul-parts, eq-out}
 
 -- ---- it divides both: `gcd-left a b`, `gcd-right a b`

@@ -5,7 +5,7 @@ use native.Mathlib.Nat.{div-add-mod, mod-lt, mul-le-mul-left, lt-of-mul-lt-mul-l
 use native.Mathlib.Omega.{arith}
 use lib.IntN.{ℤ, pos, negsuc, negℤ, natAbs, _+ℤ_, _-ℤ_, +ℤ-one, -ℤ-one, negℤ-sucℤ}
 use lib.Signed.{_≤ℤ_, _<ℤ_, quotZ}
-use Rattle.model.specs.Division.{floorDiv, ceilDiv, exactDiv}
+use Rattle.model_problems.specs.Division.{floorDiv, ceilDiv, exactDiv}
 use Rattle.integer.specs.Parts.{up, down, _⊑_, neg-up, neg-down, le-in, lt-in}
 use Rattle.integer.specs.Size.{abs-neg}
 

@@ -2,7 +2,7 @@
 ghost use mathlib.Core.Path.{_≡_};
 ghost use Prim.Native.Nat.{_<_, _^_};
 ghost use lib.IntN.{natAbs};
-ghost use Rattle.model.specs.Division.{floorDiv, ceilDiv, exactDiv, gcd as gcdOf};
+ghost use Rattle.model_problems.specs.Division.{floorDiv, ceilDiv, exactDiv, gcd as gcdOf};
 ghost use Rattle.integer.specs.Size.{Within};
 ghost use Rattle.integer.specs.Divisor.{Above};
 

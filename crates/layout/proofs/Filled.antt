@@ -7,7 +7,7 @@ use borrow.Author.Count.{below-more}
 use lib.IntN.{ℤ, pos}
 use lib.ListN.{set, length, length-set}
 use lib.Seq.{getD-set-same, getD-set-other}
-use Rattle.model.specs.Lists.{tab}
+use Rattle.model_problems.specs.Lists.{tab}
 use Rattle.lists.proofs.Tab.{tab-ext-0}
 use Rattle.layout.specs.Rows.{rowLength, numberIn, cell, constraintAt}
 use Rattle.layout.proofs.Rows.{constraint-eq}

@@ -11,10 +11,10 @@ use mir.Syntax.{w32, w64}
 use mir.Val.{Fits, SFits, toZ, ofZ}
 use mir.Facts.{toZ-ofZ, toZ-pos}
 use borrow.Author.Tests.{le-leb, lt-leb, leb-true}
-use Rattle.model.specs.Lists.{all}
-use Rattle.model.specs.Problem.{Problem, variables, sizesInRange}
-use Rattle.model.specs.Ranges.{within, maxVariables, maxConstraints, maxBudget, maxDivisor}
-use Rattle.model.specs.Constraint.{equalℤ, noneOrFromTwo, isDivisor}
+use Rattle.model_problems.specs.Lists.{all}
+use Rattle.model_problems.specs.Problem.{Problem, variables, sizesInRange}
+use Rattle.model_problems.specs.Ranges.{within, maxVariables, maxConstraints, maxBudget, maxDivisor}
+use Rattle.model_problems.specs.Constraint.{equalℤ, noneOrFromTwo, isDivisor}
 use Rattle.lists.proofs.Bools.{and-true as and-parts}
 use Rattle.integer.specs.Size.{fits, size, neg-within}
 use Rattle.integer.specs.Tests.{ltZ-true, ltZ-false, lt-leZ, le-leZ}

@@ -7,7 +7,7 @@ use borrow.Author.Count.{below-more}
 use lib.IntN.{ℤ, pos}
 use lib.ListN.{length, set, length-set}
 use lib.Seq.{getD-set-same, getD-set-other}
-use Rattle.model.specs.Ranges.{maxVariables}
+use Rattle.model_problems.specs.Ranges.{maxVariables}
 use Rattle.layout.specs.Rows.{rowLength, numberIn, constraintAt, rowAt}
 use Rattle.layout.proofs.Rows.{row-same}
 use Rattle.layout.specs.Copies.{Placed}

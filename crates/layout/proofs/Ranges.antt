@@ -10,10 +10,10 @@ use lib.Signed.{leZ}
 use mir.Syntax.{w64}
 use mir.Val.{SFits}
 use mir.Facts.{toZ-ofZ}
-use Rattle.model.specs.Lists.{tab, all, allOf}
-use Rattle.model.specs.Ranges.{within, maxBound}
-use Rattle.model.specs.Constraint.{inRange, isDivisor, divisorInRange}
-use Rattle.model.specs.Problem.{boundsInRange}
+use Rattle.model_problems.specs.Lists.{tab, all, allOf}
+use Rattle.model_problems.specs.Ranges.{within, maxBound}
+use Rattle.model_problems.specs.Constraint.{inRange, isDivisor, divisorInRange}
+use Rattle.model_problems.specs.Problem.{boundsInRange}
 use Rattle.lists.proofs.AllOf.{allOf-tab}
 use Rattle.lists.proofs.Bools.{said-no, said-yes}
 use Rattle.lists.proofs.Loops.{every-none, every-more, every-end, every-fails}

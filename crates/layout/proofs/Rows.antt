@@ -5,7 +5,7 @@ use mathlib.Core.List.{List}
 use mathlib.Core.Path.{_≡_, refl, sym, ap, ap₂, _∙_}
 use lib.IntN.{ℤ, pos}
 use lib.ListN.{getD, set, length}
-use Rattle.model.specs.Constraint.{Constraint, Bounds, noBounds, coefficientAt, lowerAt, upperAt, setLower, setUpper}
+use Rattle.model_problems.specs.Constraint.{Constraint, Bounds, noBounds, coefficientAt, lowerAt, upperAt, setLower, setUpper}
 use lib.Seq.{getD-set-same, getD-set-other}
 use Rattle.lists.proofs.Tab.{length-tab, getD-tab, tab-ext-0, set-tab}
 use Rattle.layout.specs.Rows.{numberIn, cell, constraintAt, boundsAt, boxOf}

@@ -5,9 +5,9 @@ use mathlib.Core.List.{List}
 use mathlib.Core.Path.{_≡_, refl, sym, ap}
 use lib.Dec.{eqb, eqb→eq, eqb-refl}
 use lib.IntN.{ℤ, pos, negsuc}
-use Rattle.model.specs.Ranges.{within, maxCoefficient}
-use Rattle.model.specs.Lists.{tab, all}
-use Rattle.model.specs.Constraint.{inRange, equalℤ, equal}
+use Rattle.model_problems.specs.Ranges.{within, maxCoefficient}
+use Rattle.model_problems.specs.Lists.{tab, all}
+use Rattle.model_problems.specs.Constraint.{inRange, equalℤ, equal}
 use Rattle.lists.proofs.Bools.{true-of, T-of, clash, and-both}
 use Rattle.lists.proofs.All.{all-end, all-fails}
 use Rattle.lists.proofs.AllOf.{allOf-tab}

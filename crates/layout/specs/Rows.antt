@@ -4,9 +4,9 @@ use Prim.Native.Nat.{ℕ, _+_, _*_}
 use mathlib.Core.List.{List}
 use lib.IntN.{ℤ, pos}
 use lib.ListN.{getD}
-use Rattle.model.specs.Lists.{tab}
-use Rattle.model.specs.Ranges.{maxVariables, maxConstraints, maxCuts}
-use Rattle.model.specs.Constraint.{Constraint, Bounds, Box}
+use Rattle.model_problems.specs.Lists.{tab}
+use Rattle.model_problems.specs.Ranges.{maxVariables, maxConstraints, maxCuts}
+use Rattle.model_problems.specs.Constraint.{Constraint, Bounds, Box}
 
 -- the numbers of a row
 abbrev pub rowLength : ℕ

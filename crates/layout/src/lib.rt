@@ -3,8 +3,8 @@
 ghost use Prim.Native.Nat.{_+_, _*_, _≤_, _<_};
 ghost use mathlib.Core.Path.{_≡_};
 ghost use lib.ListN.{length};
-ghost use Rattle.model.specs.Ranges.{maxVariables};
-ghost use Rattle.model.specs.Constraint.{equal, equalℤ};
+ghost use Rattle.model_problems.specs.Ranges.{maxVariables};
+ghost use Rattle.model_problems.specs.Constraint.{equal, equalℤ};
 ghost use Rattle.layout.specs.Rows.{rowLength, maxRows, rowsLength, constraintAt};
 ghost use Rattle.layout.specs.Copies.{Copied, Placed};
 

@@ -12,10 +12,10 @@ ghost use mathlib.Core.List.{List};
 ghost use Prim.Native.Nat.{ℕ, _+_, _*_, _≤_, _<_};
 ghost use lib.IntN.{ℤ};
 ghost use lib.ListN.{length};
-ghost use Rattle.model.specs.Lists.{tab, allOf};
-ghost use Rattle.model.specs.Ranges.{within, maxVariables, maxConstraints};
-ghost use Rattle.model.specs.Problem.{boundsInRange};
-ghost use Rattle.model.specs.Constraint.{inRange, noneOrFromTwo, isDivisor, divisorInRange};
+ghost use Rattle.model_problems.specs.Lists.{tab, allOf};
+ghost use Rattle.model_problems.specs.Ranges.{within, maxVariables, maxConstraints};
+ghost use Rattle.model_problems.specs.Problem.{boundsInRange};
+ghost use Rattle.model_problems.specs.Constraint.{inRange, noneOrFromTwo, isDivisor, divisorInRange};
 ghost use Rattle.layout.specs.Rows.{rowLength, constraintAt, rowAt, inputAt};
 ghost use Rattle.layout.specs.Sizes.{sizesFit};
 

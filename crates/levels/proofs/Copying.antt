@@ -8,7 +8,7 @@ use mathlib.Core.Path.{_≡_, refl, sym, ap, ap₂, _∙_}
 use lib.IntN.{ℤ, pos}
 use lib.ListN.{length, set, take, drop, length-set}
 use lib.Seq.{getD-set-same, getD-set-other}
-use Rattle.model.specs.Lists.{tab}
+use Rattle.model_problems.specs.Lists.{tab}
 use Rattle.lists.proofs.Tab.{tab-append, tab-drop, tab-take, tab-ext, tab-ext-0, tab-shift, tab-of}
 use Rattle.layout.specs.Rows.{numberIn}
 use Rattle.levels.specs.Copied.{Copied}

@@ -8,7 +8,7 @@ use mathlib.Core.Path.{_≡_, sym, ap, _∙_}
 use lib.IntN.{ℤ, pos}
 use lib.ListN.{getD, set, length, drop}
 use lib.Seq.{getD-drop, getD-set-same, getD-set-other}
-use Rattle.model.specs.Ranges.{maxVariables}
+use Rattle.model_problems.specs.Ranges.{maxVariables}
 use Rattle.lists.proofs.Tab.{tab-ext-0}
 use Rattle.layout.specs.Rows.{numberIn, boundsAt, boxOf}
 use Rattle.state.specs.View.{noLevel}

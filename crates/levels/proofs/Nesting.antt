@@ -9,8 +9,8 @@ use mathlib.Core.Path.{_≡_, refl}
 use lib.Dec.{T}
 use lib.IntN.{ℤ}
 use lib.ListN.{drop, length-drop}
-use Rattle.model.specs.Ranges.{maxVariables}
-use Rattle.model.specs.Constraint.{Constraint, falsified}
+use Rattle.model_problems.specs.Ranges.{maxVariables}
+use Rattle.model_problems.specs.Constraint.{Constraint, falsified}
 use Rattle.lists.proofs.Bools.{true-of, clash}
 use Rattle.linear.specs.Ranges.{BoxFits}
 use Rattle.linear.proofs.Ranges.{box-fits}

@@ -6,10 +6,10 @@ use mathlib.Core.Path.{_≡_}
 use lib.Dec.{T}
 use lib.IntN.{ℤ}
 use lib.ListN.{length}
-use Rattle.model.specs.Lists.{allOf}
-use Rattle.model.specs.Constraint.{Constraint, falsified}
-use Rattle.model.specs.Problem.{boundsInRange}
-use Rattle.model.specs.Validity.{boxInside}
+use Rattle.model_problems.specs.Lists.{allOf}
+use Rattle.model_problems.specs.Constraint.{Constraint, falsified}
+use Rattle.model_problems.specs.Problem.{boundsInRange}
+use Rattle.model_walk.specs.Validity.{boxInside}
 use Rattle.levels.specs.Mirror.{mirrorLength, boxIn}
 
 -- the levels from 0 to depth, as validity asks: bounds in range, no L above its U, each level inside the one above it

@@ -6,8 +6,8 @@ use mathlib.Core.Path.{_≡_}
 use lib.Dec.{eqb, ltb}
 use lib.IntN.{ℤ}
 use lib.ListN.{take, drop}
-use Rattle.model.specs.Ranges.{maxPropagations}
-use Rattle.model.specs.Lists.{tab}
+use Rattle.model_problems.specs.Ranges.{maxPropagations}
+use Rattle.model_problems.specs.Lists.{tab}
 use Rattle.layout.specs.Rows.{numberIn}
 
 -- a solution at this depth is not struck out: no decision led to it, there is no room, or N5's count passed its limit

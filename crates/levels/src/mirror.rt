@@ -5,7 +5,7 @@ use state::Level;
 ghost use mathlib.Core.Path.{_≡_};
 ghost use Prim.Native.Nat.{ℕ, _<_, _≤_};
 ghost use lib.ListN.{length};
-ghost use Rattle.model.specs.Ranges.{maxVariables};
+ghost use Rattle.model_problems.specs.Ranges.{maxVariables};
 ghost use Rattle.levels.specs.Mirror.{mirrorLength, BoundsKept, Mirrored};
 
 // The numbers of one level.

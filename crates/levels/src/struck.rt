@@ -4,7 +4,7 @@ use layout::MAX_PROPAGATIONS;
 ghost use mathlib.Core.Path.{_≡_};
 ghost use Prim.Native.Nat.{_+_, _*_, _≤_};
 ghost use lib.ListN.{length};
-ghost use Rattle.model.specs.Ranges.{maxVariables};
+ghost use Rattle.model_problems.specs.Ranges.{maxVariables};
 ghost use Rattle.levels.specs.Struck.{ValuesPut, lastOf};
 
 // Whether a solution at this depth stays: no decision led to it, there is no room for it, or a call would refuse the state for its count of bounds set.

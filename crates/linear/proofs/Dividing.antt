@@ -8,9 +8,9 @@ use mathlib.Core.Path.{_≡_, refl, sym, ap, ap₂, _∙_}
 use lib.Dec.{eqb}
 use lib.IntN.{ℤ, pos, negsuc, natAbs, _+ℤ_, _*ℤ_}
 use lib.Signed.{ltZ}
-use Rattle.model.specs.Lists.{tab}
-use Rattle.model.specs.Division.{gcd, divides}
-use Rattle.model.specs.Constraint.{Constraint, Box, modulus, isOpen, activity, openDivisor, fixedTerms, fixedValue, falsifiedBy, falsified}
+use Rattle.model_problems.specs.Lists.{tab}
+use Rattle.model_problems.specs.Division.{gcd, divides}
+use Rattle.model_problems.specs.Constraint.{Constraint, Box, modulus, isOpen, activity, openDivisor, fixedTerms, fixedValue, falsifiedBy, falsified}
 use Rattle.integer.specs.Divisor.{gcd-right}
 use Rattle.lists.proofs.Tab.{tab-down, tab-end}
 use Rattle.layout.specs.Rows.{numberIn, cell, constraintAt, dividedAt, boundsAt, boxOf}

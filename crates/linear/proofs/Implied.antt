@@ -5,9 +5,9 @@ use mathlib.Core.Logic.{⊎-elim}
 use mathlib.Core.Path.{_≡_, refl, ap, _∙_}
 use lib.IntN.{ℤ, pos, negsuc, negℤ, natAbs, _+ℤ_, _-ℤ_, _*ℤ_, +ℤ-comm, +ℤ-idl}
 use lib.Signed.{_≤ℤ_, _<ℤ_, quotZ}
-use Rattle.model.specs.Division.{floorDiv, ceilDiv}
-use Rattle.model.specs.Constraint.{Bounds, term, impliedUpper, impliedLower}
-use Rattle.model.specs.Move.{improvementAt}
+use Rattle.model_problems.specs.Division.{floorDiv, ceilDiv}
+use Rattle.model_problems.specs.Constraint.{Bounds, term, impliedUpper, impliedLower}
+use Rattle.model_walk.specs.Move.{improvementAt}
 use Rattle.integer.specs.Parts.{le-in, le-out}
 use Rattle.integer.specs.Expression as E
 use Rattle.integer.specs.Expression.{Rep, rep, var, nat, lt, of-le, of-lt}

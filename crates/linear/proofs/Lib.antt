@@ -4,6 +4,4 @@ pub mod Terms
 pub mod Implied
 pub mod Reaching
 pub mod Dividing
-pub mod Sizes
-pub mod RoundingLaws
-pub mod ResolvingLaws
+pub mod Quotients

@@ -11,10 +11,10 @@ use lib.IntN.{ℤ, pos, negsuc}
 use lib.ListN.{length}
 use mir.Syntax.{w64}
 use mir.Val.{toZ, ofZ}
-use Rattle.model.specs.Ranges.{within, maxVariables, maxCoefficient, maxDivisor, maxBound}
-use Rattle.model.specs.Lists.{all, allOf}
-use Rattle.model.specs.Constraint.{equalℤ, inRange, noneOrFromTwo, isDivisor, noBounds}
-use Rattle.model.specs.Problem.{boundsInRange}
+use Rattle.model_problems.specs.Ranges.{within, maxVariables, maxCoefficient, maxDivisor, maxBound}
+use Rattle.model_problems.specs.Lists.{all, allOf}
+use Rattle.model_problems.specs.Constraint.{equalℤ, inRange, noneOrFromTwo, isDivisor, noBounds}
+use Rattle.model_problems.specs.Problem.{boundsInRange}
 use Rattle.integer.specs.Size.{Within, weaken, between-in}
 use Rattle.integer.specs.Tests.{back, of-true}
 use Rattle.lists.proofs.Bools.{clash, and-true, or-true}

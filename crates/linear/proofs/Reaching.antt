@@ -10,10 +10,10 @@ use lib.Dec.{leb·zero, lit≤}
 use lib.IntN.{ℤ, pos, negsuc, negℤ, natAbs, _+ℤ_, _-ℤ_, _*ℤ_, +ℤ-assoc, +ℤ-comm, +ℤ-idl}
 use lib.ListN.{getD, set, length}
 use lib.Signed.{_≤ℤ_, leZ}
-use Rattle.model.specs.Lists.{tab}
-use Rattle.model.specs.Ranges.{maxCoefficient}
-use Rattle.model.specs.Constraint.{Constraint, Bounds, Box, noBounds, coefficientAt, lowerAt, upperAt, setLower, setUpper, term, terms, activity}
-use Rattle.model.specs.Move.{improvementAt}
+use Rattle.model_problems.specs.Lists.{tab}
+use Rattle.model_problems.specs.Ranges.{maxCoefficient}
+use Rattle.model_problems.specs.Constraint.{Constraint, Bounds, Box, noBounds, coefficientAt, lowerAt, upperAt, setLower, setUpper, term, terms, activity}
+use Rattle.model_walk.specs.Move.{improvementAt}
 use Rattle.integer.specs.Parts.{_⊑_, sub-parts, mul-parts, le-out}
 use Rattle.integer.specs.Expression as E
 use Rattle.integer.specs.Expression.{rep, var, nat}

@@ -7,8 +7,8 @@ use native.Mathlib.Nat.{sub-zero}
 use lib.Dec.{leb·zero}
 use lib.IntN.{ℤ, pos, negsuc, _+ℤ_, _*ℤ_, +ℤ-assoc, +ℤ-idr}
 use lib.Signed.{leZ}
-use Rattle.model.specs.Lists.{tab}
-use Rattle.model.specs.Constraint.{Bounds, term, terms, activity}
+use Rattle.model_problems.specs.Lists.{tab}
+use Rattle.model_problems.specs.Constraint.{Bounds, term, terms, activity}
 use Rattle.lists.proofs.Bools.{clash}
 use Rattle.lists.proofs.Tab.{tab-step, tab-end}
 use Rattle.layout.specs.Rows.{numberIn, cell, constraintAt, boundsAt, boxOf}

@@ -3,7 +3,7 @@ use Prim.Native.Nat.{ℕ}
 use mathlib.Core.Option.{Option, none, some}
 use lib.IntN.{ℤ}
 use lib.Signed.{_≤ℤ_, _<ℤ_}
-use Rattle.model.specs.Move.{Move, newLower, newUpper}
+use Rattle.model_walk.specs.Move.{Move, newLower, newUpper}
 use Rattle.linear.specs.declared.activity.Improvement.{Improvement}
 use Rattle.linear.specs.declared.activity.Improvement.the-variants.{Lower, Upper, Nothing}
 

@@ -2,6 +2,3 @@
 pub mod Ranges
 pub mod Reach
 pub mod Improvement
-pub mod Sized
-pub mod Resolvable
-pub mod Excess

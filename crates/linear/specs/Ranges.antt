@@ -4,7 +4,7 @@ use mathlib.Core.List.{List}
 use lib.IntN.{ℤ, pos, natAbs}
 use lib.ListN.{length}
 use lib.Signed.{_≤ℤ_}
-use Rattle.model.specs.Ranges.{maxVariables, maxCoefficient, maxDivisor}
+use Rattle.model_problems.specs.Ranges.{maxVariables, maxCoefficient, maxDivisor}
 use Rattle.integer.specs.Size.{Within}
 use Rattle.layout.specs.Rows.{numberIn, cell}
 

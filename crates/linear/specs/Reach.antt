@@ -3,8 +3,8 @@ use Prim.Native.Nat.{ℕ, _*_, _<_}
 use mathlib.Core.List.{List}
 use lib.IntN.{ℤ, pos, natAbs, _-ℤ_, _*ℤ_}
 use lib.Signed.{_≤ℤ_}
-use Rattle.model.specs.Ranges.{maxCoefficient}
-use Rattle.model.specs.Constraint.{Bounds}
+use Rattle.model_problems.specs.Ranges.{maxCoefficient}
+use Rattle.model_problems.specs.Constraint.{Bounds}
 use Rattle.integer.specs.Size.{Within}
 use Rattle.layout.specs.Rows.{cell, boundsAt}
 use Rattle.linear.specs.Ranges.{widestChange}

@@ -4,8 +4,8 @@ use integer::gcd;
 use integer::magnitude;
 ghost use mathlib.Core.Path.{_≡_};
 ghost use Prim.Native.Nat.{_≤_, _<_};
-ghost use Rattle.model.specs.Ranges.{maxDivisor};
-ghost use Rattle.model.specs.Constraint.{falsified, falsifiedBy};
+ghost use Rattle.model_problems.specs.Ranges.{maxDivisor};
+ghost use Rattle.model_problems.specs.Constraint.{falsified, falsifiedBy};
 ghost use Rattle.layout.specs.Rows.{constraintAt, dividedAt, boxOf};
 ghost use Rattle.linear.specs.Ranges.{RowFits, BoxFits, DivisorFits};
 

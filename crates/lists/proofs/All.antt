@@ -4,7 +4,7 @@ use native.Mathlib.Omega.{arith}
 use mathlib.Core.Bool.{Bool, true, false, _&&_, and-assoc, and-false}
 use mathlib.Core.Path.{_≡_, refl, sym, ap, _∙_}
 use mathlib.Core.List.{List, [], _∷_, _++_}
-use Rattle.model.specs.Lists.{tab, all}
+use Rattle.model_problems.specs.Lists.{tab, all}
 use Rattle.lists.proofs.Bools.{and-true, and-both}
 use Rattle.lists.proofs.Tab.{tab-more}
 

@@ -5,7 +5,7 @@ use mathlib.Core.Bool.{Bool, true, false, _&&_, and-assoc, and-false}
 use mathlib.Core.Path.{_≡_, refl, sym, ap, _∙_}
 use mathlib.Core.List.{List, [], _∷_, _++_, map}
 use lib.ListN.{length, getD, set, take, drop, replicate}
-use Rattle.model.specs.Lists.{tab, all, allOf}
+use Rattle.model_problems.specs.Lists.{tab, all, allOf}
 use Rattle.lists.proofs.Bools.{and-true, and-both}
 
 module _ {A : Type 0} (t : A → Bool) where

@@ -6,7 +6,7 @@ use mathlib.Core.Path.{_≡_, refl, ap, ap₂}
 use mathlib.Core.Logic.{_≢_}
 use mathlib.Core.List.{List, [], _∷_}
 use lib.ListN.{length, getD, set}
-use Rattle.model.specs.Lists.{tab, all, allPairs}
+use Rattle.model_problems.specs.Lists.{tab, all, allPairs}
 use Rattle.lists.proofs.Bools.{clash, and-true, and-both}
 
 module _ {A B : Type 0} (t : A → B → Bool) where

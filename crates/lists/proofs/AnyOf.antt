@@ -6,7 +6,7 @@ use mathlib.Core.Path.{_≡_, refl, sym, ap}
 use mathlib.Core.Logic.{⊎-elim}
 use mathlib.Core.List.{List, [], _∷_, _++_, map}
 use lib.ListN.{length, getD}
-use Rattle.model.specs.Lists.{anyOf}
+use Rattle.model_problems.specs.Lists.{anyOf}
 use Rattle.lists.proofs.Bools.{clash, or-true, or-false, or-right}
 
 module _ {A : Type 0} (t : A → Bool) where

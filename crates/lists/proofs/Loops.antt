@@ -4,7 +4,7 @@ use native.Mathlib.Omega.{arith}
 use mathlib.Core.Bool.{Bool, true, false}
 use mathlib.Core.Path.{_≡_, refl, sym, ap, _∙_}
 use mathlib.Core.List.{[], _∷_}
-use Rattle.model.specs.Lists.{tab, all, allOf, anyOf, allPairs}
+use Rattle.model_problems.specs.Lists.{tab, all, allOf, anyOf, allPairs}
 use Rattle.lists.proofs.Tab.{length-tab, getD-tab, tab-more}
 use Rattle.lists.proofs.All.{all-none, all-at, all-more, all-fails}
 use Rattle.lists.proofs.AllOf.{allOf-tab}

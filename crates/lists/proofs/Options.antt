@@ -4,7 +4,7 @@ use mathlib.Core.Logic.{_⊎_, inl, inr}
 use mathlib.Core.Option.{Option, none, some}
 use Prim.Native.Nat.{ℕ}
 use native.Mathlib.Omega.{arith}
-use Rattle.model.specs.Lists.{orElse, withDefault}
+use Rattle.model_problems.specs.Lists.{orElse, withDefault}
 
 module _ {A : Type 0} where
   pub orElse-none : (x : Option A) → orElse x none ≡ x

@@ -6,7 +6,7 @@ use mathlib.Core.Path.{_≡_, refl, sym, ap, ap₂, _∙_}
 use mathlib.Core.List.{List, _++_, append-assoc, append-nil}
 use lib.ListN.{length, take, drop, length-append}
 use lib.Seq.{take-add, drop-drop, take-at, drop-at, drop-append-add}
-use Rattle.model.specs.Lists.{parts}
+use Rattle.model_problems.specs.Lists.{parts}
 
 module _ {A : Type 0} where
   -- ---- one more, and equal parts

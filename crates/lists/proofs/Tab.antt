@@ -7,7 +7,7 @@ use mathlib.Core.Logic.{_≢_}
 use mathlib.Core.List.{List, [], _∷_, _++_, map}
 use lib.ListN.{length, getD, take, drop, set, replicate, length-drop}
 use lib.Seq.{ext-getD, getD-drop}
-use Rattle.model.specs.Lists.{tab}
+use Rattle.model_problems.specs.Lists.{tab}
 
 module _ {A : Type 0} (f : ℕ → A) where
   pub tab-none : (i : ℕ) → tab f i 0 ≡ []

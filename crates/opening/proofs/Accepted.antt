@@ -2,7 +2,7 @@
 use Prim.Native.Nat.{ℕ}
 use mathlib.Core.List.{List}
 use mathlib.Core.Path.{_≡_}
-use Rattle.model.specs.File.{problemIn, readError}
+use Rattle.model_files.specs.File.{problemIn, readError}
 use Rattle.format.proofs.AcceptedShape.{sizes, tests, accepted-constraints}
 use Rattle.problem.specs.View.{packed}
 use Rattle.problem.proofs.Views.{view-of-accepted}

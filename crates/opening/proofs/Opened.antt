@@ -4,10 +4,10 @@ use mathlib.Core.List.{List, [], map}
 use mathlib.Core.Path.{_≡_, sym, ap, _∙_}
 use lib.IntN.{ℤ}
 use lib.ListN.{getD, replicate}
-use Rattle.model.specs.Lists.{tab}
-use Rattle.model.specs.Constraint.{rounded}
-use Rattle.model.specs.Problem.{variables}
-use Rattle.model.specs.Search as model
+use Rattle.model_problems.specs.Lists.{tab}
+use Rattle.model_problems.specs.Constraint.{rounded}
+use Rattle.model_problems.specs.Problem.{variables}
+use Rattle.model_walk.specs.Search as model
 use Rattle.lists.proofs.Tab.{tab-ext-0, tab-const, getD-const}
 use Rattle.layout.specs.Rows.{inputAt, boxOf, thresholdsOf}
 use Rattle.layout.proofs.Rows.{length-box}

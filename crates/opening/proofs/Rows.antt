@@ -7,10 +7,10 @@ use mathlib.Core.Path.{_≡_, refl, sym, ap, _∙_}
 use borrow.Author.Count.{below-more}
 use lib.IntN.{ℤ, pos, negsuc, natAbs}
 use lib.ListN.{length}
-use Rattle.model.specs.Lists.{tab}
-use Rattle.model.specs.Ranges.{maxVariables}
-use Rattle.model.specs.Constraint.{Constraint, modulus, inRange, roundedAs, rounded}
-use Rattle.model.specs.Problem.{constraintsInRange}
+use Rattle.model_problems.specs.Lists.{tab}
+use Rattle.model_problems.specs.Ranges.{maxVariables}
+use Rattle.model_problems.specs.Constraint.{Constraint, modulus, inRange, roundedAs, rounded}
+use Rattle.model_problems.specs.Problem.{constraintsInRange}
 use Rattle.integer.specs.Size.{weaken}
 use Rattle.lists.proofs.Bools.{true-of}
 use Rattle.lists.proofs.Tab.{tab-ext-0, tab-map}
@@ -19,8 +19,8 @@ use Rattle.layout.specs.Rows.{rowLength, numberIn, constraintAt, dividedAt, row
 use Rattle.layout.specs.Copies.{Placed}
 use Rattle.layout.proofs.Placing.{placed-here, placed-before}
 use Rattle.layout.proofs.Ranges.{inputs-range}
-use Rattle.linear.specs.Sized.{maxCombined, Sized}
-use Rattle.linear.proofs.Sizes.{range-sized}
+use Rattle.derivation.specs.Sized.{maxCombined, Sized}
+use Rattle.derivation.proofs.Sizes.{range-sized}
 use Rattle.problem.specs.declared.Problem.{Problem}
 use Rattle.problem.specs.View.{problemOf}
 use Rattle.opening.specs.Accepted.{Accepted}

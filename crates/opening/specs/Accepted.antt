@@ -1,8 +1,8 @@
 -- What reading ensures of an accepted problem, as far as opening needs it.
 use Prim.Native.Nat.{_≤_}
 use lib.Dec.{T}
-use Rattle.model.specs.Ranges.{maxVariables, maxConstraints}
-use Rattle.model.specs.Problem.{constraintsInRange}
+use Rattle.model_problems.specs.Ranges.{maxVariables, maxConstraints}
+use Rattle.model_problems.specs.Problem.{constraintsInRange}
 use Rattle.problem.specs.declared.Problem.{Problem}
 use Rattle.problem.specs.View.{problemOf}
 

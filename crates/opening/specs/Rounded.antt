@@ -4,7 +4,7 @@ use mathlib.Core.Path.{_≡_}
 use mathlib.Core.List.{List}
 use lib.IntN.{ℤ}
 use lib.ListN.{length}
-use Rattle.model.specs.Constraint.{rounded}
+use Rattle.model_problems.specs.Constraint.{rounded}
 use Rattle.layout.specs.Rows.{inputAt, rowsLength}
 
 -- the first `count` rows hold the constraints of n variables, rounded

@@ -1,8 +1,3 @@
--- Laws of the groups of functions, and the two round trips.
-pub mod Arrays
+-- Laws of what a problem's arrays say, and of the numbers of errors.
 pub mod Views
-pub mod ReadCascade
-pub mod Writing
-pub mod WriteCascade
 pub mod Numbers
-pub mod RoundTrips

@@ -3,9 +3,9 @@ use Prim.Native.Nat.{ℕ, zero, suc}
 use native.Mathlib.Omega.{arith}
 use mathlib.Core.Path.{_≡_, refl, ap, _∙_}
 use mathlib.Core.List.{List}
-use Rattle.model.specs.File.{problemIn, readError, readFile}
-use Rattle.model.specs.Problem as model
-use Rattle.model.specs.Problem.{resultOf}
+use Rattle.model_files.specs.File.{problemIn, readError, readFile}
+use Rattle.model_problems.specs.Problem as model
+use Rattle.model_problems.specs.Problem.{resultOf}
 use Rattle.problem.specs.declared.Answer.{Answer}
 use Rattle.problem.specs.declared.Answer.the-variants.{Done, Truncated, BadChecksum, BadMagic, SizeRange, DomainRange, CoefficientRange, NonzeroPadding, ShortBuffer, InvalidSearch, DivisorRange, ThresholdRange}
 use Rattle.problem.specs.declared.Reading.{Reading}

@@ -7,14 +7,14 @@ use mathlib.Core.List.{List}
 use lib.IntN.{ℤ, pos}
 use lib.ListN.{getD, length}
 use borrow.Author.Tests.{eqb-true}
-use Rattle.model.specs.Constraint.{Constraint, Box, noBounds, coefficientAt, lowerAt, upperAt}
-use Rattle.model.specs.Threshold.{thresholdAt}
-use Rattle.model.specs.File.{noConstraint, problemIn, readError}
-use Rattle.model.specs.Lists.{tab, allOf}
-use Rattle.model.specs.Problem as model
-use Rattle.model.specs.Problem.{variables}
-use Rattle.model.specs.Ranges.{maxVariables, maxConstraints}
-use Rattle.model.specs.Validity.{constraintShaped}
+use Rattle.model_problems.specs.Constraint.{Constraint, Box, noBounds, coefficientAt, lowerAt, upperAt}
+use Rattle.model_problems.specs.Threshold.{thresholdAt}
+use Rattle.model_files.specs.File.{noConstraint, problemIn, readError}
+use Rattle.model_problems.specs.Lists.{tab, allOf}
+use Rattle.model_problems.specs.Problem as model
+use Rattle.model_problems.specs.Problem.{variables}
+use Rattle.model_problems.specs.Ranges.{maxVariables, maxConstraints}
+use Rattle.model_walk.specs.Validity.{constraintShaped}
 use Rattle.lists.proofs.AllOf.{allOf-getD}
 use Rattle.lists.proofs.Bools.{true-of}
 use Rattle.lists.proofs.Tab.{getD-tab, tab-is}

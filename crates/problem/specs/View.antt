@@ -3,12 +3,12 @@ use Prim.Native.Nat.{ℕ, _/_, _%_}
 use mathlib.Core.List.{List}
 use lib.IntN.{ℤ}
 use lib.ListN.{getD, length}
-use Rattle.model.specs.Constraint.{Constraint, lowerAt, upperAt}
-use Rattle.model.specs.Threshold.{thresholdAt}
-use Rattle.model.specs.File.{noConstraint}
-use Rattle.model.specs.Lists.{tab}
-use Rattle.model.specs.Problem as model
-use Rattle.model.specs.Problem.{variables, Result, ok, error}
+use Rattle.model_problems.specs.Constraint.{Constraint, lowerAt, upperAt}
+use Rattle.model_problems.specs.Threshold.{thresholdAt}
+use Rattle.model_files.specs.File.{noConstraint}
+use Rattle.model_problems.specs.Lists.{tab}
+use Rattle.model_problems.specs.Problem as model
+use Rattle.model_problems.specs.Problem.{variables, Result, ok, error}
 use Rattle.layout.specs.Rows.{rowLength, inputAt, boxOf, thresholdsOf}
 use Rattle.fields.specs.Fields.{room, cells, divisorRoom, zeros, inRow}
 use Rattle.problem.specs.declared.Problem.{Problem}

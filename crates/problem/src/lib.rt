@@ -1,18 +1,8 @@
-// Reading and writing problem files, document 01's 'plan files'.
-mod range;
-mod reader;
-mod writer;
+// Problems, document 01's 'plans', the numbers of errors, and the tests of a problem's numbers that reading and writing share.
+pub mod range;
 
-use fields::reader::checks_match;
-use fields::reader::is_whole;
-use fields::reader::magic_matches;
-use fields::reader::padding_zero;
-use fields::reader::sizes_match;
-use layout::range::sizes_in_range;
 ghost use mathlib.Core.Path.{_≡_};
-ghost use Rattle.model.specs.File.{readFile, writeFile};
-ghost use Rattle.problem.specs.Answer.{number, written};
-ghost use Rattle.problem.specs.View.{problemOf, empty, seenRead, readingOf};
+ghost use Rattle.problem.specs.Answer.{number};
 
 // A problem, document 01's 'plan'. Its constraints lie in 64 rows of 33 numbers: the constant, then a coefficient for each of 32 variables. What stands
 // past the first n variables and m constraints is ignored; a problem that was read has zeros there.
@@ -73,86 +63,4 @@ pub fn error_number(answer: Answer) -> usize
 pub struct Reading {
     pub answer: Answer,
     pub problem: Problem,
-}
-
-// An error, with nothing of the file.
-fn refused(answer: Answer) -> Reading
-    ensures { λ r. ⌜ r ≡ record { answer = answer; problem = empty } ⌝ }
-{
-    let problem = Problem {
-        n: 0,
-        m: 0,
-        budget: 0,
-        lower: [0; 32],
-        upper: [0; 32],
-        constraints: [0; 2112],
-        divisors: [0; 64],
-        thresholds: [0; 32],
-    };
-    Reading { answer, problem }
-}
-
-// Reads a problem file: the problem in it, or the first error that applies, in the order 1 to 5, 13, 6, 10, 7.
-pub fn read(file: &[u8]) -> Reading
-    ensures { λ r. ⌜ seenRead r ≡ readingOf (readFile (now (file .entry))) ⌝ }
-{
-    if !is_whole(file) {
-        return refused(Answer::Truncated);
-    }
-    if !checks_match(file) {
-        return refused(Answer::BadChecksum);
-    }
-    if !magic_matches(file) {
-        return refused(Answer::BadMagic);
-    }
-    if !sizes_match(file) {
-        return refused(Answer::SizeRange);
-    }
-    let found = reader::problem_in(file);
-    if !range::domain_in_range(found) {
-        return refused(Answer::DomainRange);
-    }
-    if !range::thresholds_in_range(found) {
-        return refused(Answer::ThresholdRange);
-    }
-    if !range::constraints_in_range(found) {
-        return refused(Answer::CoefficientRange);
-    }
-    if !range::divisors_in_range(found) {
-        return refused(Answer::DivisorRange);
-    }
-    if !padding_zero(file) {
-        return refused(Answer::NonzeroPadding);
-    }
-    Reading {
-        answer: Answer::Done,
-        problem: found,
-    }
-}
-
-// Writes a problem's blocks at the buffer's start, and leaves the bytes after them; on an error the buffer keeps all its bytes.
-pub fn write(problem: Problem, buffer: &mut [u8]) -> Answer
-    ensures { λ r. ⌜ written r (now (buffer .exit)) ≡ writeFile (problemOf problem) (now (buffer .entry)) ⌝ }
-{
-    let m = problem.m;
-    if !sizes_in_range(problem.n, m, problem.budget) {
-        return Answer::SizeRange;
-    }
-    if !range::domain_in_range(problem) {
-        return Answer::DomainRange;
-    }
-    if !range::thresholds_in_range(problem) {
-        return Answer::ThresholdRange;
-    }
-    if !range::constraints_in_range(problem) {
-        return Answer::CoefficientRange;
-    }
-    if !range::divisors_in_range(problem) {
-        return Answer::DivisorRange;
-    }
-    if buffer.len() / block::LENGTH <= m {
-        return Answer::ShortBuffer;
-    }
-    writer::write_blocks(problem, buffer);
-    Answer::Done
 }

@@ -6,12 +6,12 @@ use layout::range::bounds_in_range;
 use threshold::range::all_fit;
 ghost use mathlib.Core.Path.{_≡_};
 ghost use Prim.Native.Nat.{_≤_};
-ghost use Rattle.model.specs.Ranges.{maxVariables, maxConstraints};
-ghost use Rattle.model.specs.Problem.{domainInRange, thresholdsInRange, constraintsInRange, divisorsInRange};
+ghost use Rattle.model_problems.specs.Ranges.{maxVariables, maxConstraints};
+ghost use Rattle.model_problems.specs.Problem.{domainInRange, thresholdsInRange, constraintsInRange, divisorsInRange};
 ghost use Rattle.problem.specs.View.{problemOf};
 
 // 5, 'limits': whether every variable's bounds are in range, the lower not above the upper.
-pub(crate) fn domain_in_range(problem: Problem) -> bool
+pub fn domain_in_range(problem: Problem) -> bool
     requires { ⌜ problem .n ≤ maxVariables ⌝ }
     ensures { λ r. ⌜ r ≡ domainInRange (problemOf problem) ⌝ }
 {
@@ -27,7 +27,7 @@ pub(crate) fn domain_in_range(problem: Problem) -> bool
 }
 
 // 13: whether every variable's threshold may stand beside its limits.
-pub(crate) fn thresholds_in_range(problem: Problem) -> bool
+pub fn thresholds_in_range(problem: Problem) -> bool
     requires { ⌜ problem .n ≤ maxVariables ⌝ }
     ensures { λ r. ⌜ r ≡ thresholdsInRange (problemOf problem) ⌝ }
 {
@@ -40,7 +40,7 @@ pub(crate) fn thresholds_in_range(problem: Problem) -> bool
 }
 
 // 6, 'heavy': whether every constraint is in range.
-pub(crate) fn constraints_in_range(problem: Problem) -> bool
+pub fn constraints_in_range(problem: Problem) -> bool
     requires { ⌜ (problem .n ≤ maxVariables) × (problem .m ≤ maxConstraints) ⌝ }
     ensures { λ r. ⌜ r ≡ constraintsInRange (problemOf problem) ⌝ }
 {
@@ -48,7 +48,7 @@ pub(crate) fn constraints_in_range(problem: Problem) -> bool
 }
 
 // 10: whether every constraint's divisor is in range.
-pub(crate) fn divisors_in_range(problem: Problem) -> bool
+pub fn divisors_in_range(problem: Problem) -> bool
     requires { ⌜ problem .m ≤ maxConstraints ⌝ }
     ensures { λ r. ⌜ r ≡ divisorsInRange (problemOf problem) ⌝ }
 {

@@ -3,8 +3,8 @@ use Prim.Native.Nat.{ℕ, zero, suc, _+_, _<_}
 use native.Mathlib.Omega.{arith}
 use mathlib.Core.Path.{_≡_, ap, _∙_}
 use lib.IntN.{ℤ}
-use Rattle.model.specs.Search.{Level, Core, constraint, withLevels, withDeepest, kept, dropped, numberAt, holdLower, holdUpper, raiseLower, lowerUpper}
-use Rattle.model.specs.Move.{Move, conflict, newLower, newUpper, decide, finish, nextMove, follow, slack, descend, propagationsBy, propagationsIn}
+use Rattle.model_walk.specs.Search.{Level, Core, constraint, withLevels, withDeepest, kept, dropped, numberAt, holdLower, holdUpper, raiseLower, lowerUpper}
+use Rattle.model_walk.specs.Move.{Move, conflict, newLower, newUpper, decide, finish, nextMove, follow, slack, descend, propagationsBy, propagationsIn}
 use Rattle.validity.proofs.Thresholds.{Outside}
 use Rattle.validity.proofs.Boxes.{Ordered}
 use Rattle.validity.proofs.Moves.{Raises, Lowers, Chosen, next-chosen}

@@ -5,9 +5,9 @@ use native.Mathlib.Omega.{arith}
 use mathlib.Core.List.{List}
 use mathlib.Core.Path.{_≡_, refl}
 use lib.IntN.{ℤ}
-use Rattle.model.specs.Constraint.{Constraint}
-use Rattle.model.specs.Search.{Level, constraint, holdLower, holdUpper, raiseLower, lowerUpper}
-use Rattle.model.specs.Move.{Move, conflict, newLower, newUpper, decide, finish, nextMove, slack}
+use Rattle.model_problems.specs.Constraint.{Constraint}
+use Rattle.model_walk.specs.Search.{Level, constraint, holdLower, holdUpper, raiseLower, lowerUpper}
+use Rattle.model_walk.specs.Move.{Move, conflict, newLower, newUpper, decide, finish, nextMove, slack}
 use Rattle.validity.proofs.Thresholds.{Outside}
 use Rattle.validity.proofs.Boxes.{Ordered}
 use Rattle.validity.proofs.Moves.{Raises, Lowers, Chosen, next-chosen}

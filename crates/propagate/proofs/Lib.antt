@@ -1,6 +1,5 @@
 -- Laws of the scans and of propagation. `States` and `Descent` are for callers, the others for this crate's own proofs.
 pub mod Scans
-pub mod Bits
 pub mod Tracking
 pub mod Passed
 pub mod Fuel

@@ -4,16 +4,16 @@ use native.Mathlib.Omega.{arith}
 use mathlib.Core.List.{List}
 use mathlib.Core.Path.{_≡_, _∙_}
 use lib.IntN.{ℤ}
-use Rattle.model.specs.Constraint.{Constraint}
+use Rattle.model_problems.specs.Constraint.{Constraint}
 use Rattle.state.specs.View.{keptCuts}
 use Rattle.state.specs.Change.{held}
-use Rattle.model.specs.Move.{slack}
+use Rattle.model_walk.specs.Move.{slack}
 use Rattle.layout.specs.Rows.{boxOf}
 use Rattle.propagate.specs.Propagation.{mostCounted}
 use Rattle.propagate.specs.Ready.{Ready, GapFree}
 use Rattle.propagate.specs.Tracked.{Tracked, Shifted, Told}
-use Rattle.propagate.specs.Masks.{Opens}
-use Rattle.propagate.specs.Divided.{Warned}
+use Rattle.bits.specs.Masks.{Opens}
+use Rattle.propagate.specs.Apart.{Warned}
 use Rattle.propagate.proofs.Steps.{answer, scan-fits, Next}
 use Rattle.propagate.proofs.Tracking.{Closes, opens-closer, told-set}
 

@@ -5,8 +5,8 @@ use mathlib.Core.Bool.{Bool, true, false, cond}
 use mathlib.Core.Path.{_≡_}
 use borrow.Author.Tests.{ne-eqb}
 use lib.Dec.{ltb}
-use Rattle.model.specs.Ranges.{maxConstraints, maxCuts, maxBudget}
-use Rattle.model.specs.Search as model
+use Rattle.model_problems.specs.Ranges.{maxConstraints, maxCuts, maxBudget}
+use Rattle.model_walk.specs.Search as model
 use Rattle.state.specs.View.{reasonOf, keptCuts, numberFor}
 
 -- a number that no other reason has

@@ -9,8 +9,8 @@ use mathlib.Core.Option.{Option, none, some}
 use mathlib.Core.Path.{_≡_, sym, subst, _∙_}
 use lib.IntN.{ℤ, pos, _-ℤ_}
 use lib.Signed.{_≤ℤ_}
-use Rattle.model.specs.Constraint.{Bounds, activity}
-use Rattle.model.specs.Move.{Move}
+use Rattle.model_problems.specs.Constraint.{Bounds, activity}
+use Rattle.model_walk.specs.Move.{Move}
 use Rattle.integer.specs.Expression as E
 use Rattle.integer.specs.Expression.{rep, var, nat}
 use Rattle.integer.specs.Order.{≤-trans}
@@ -20,9 +20,9 @@ use Rattle.lists.proofs.Bools.{lt-or-le}
 use Rattle.linear.specs.Reach.{spanOf, widestSpan, Reaches}
 use Rattle.linear.proofs.Reaching.{span-nested}
 use Rattle.layout.specs.Rows.{rowLength, cell, rowAt, boundsAt, boxOf}
-use Rattle.propagate.specs.Masks.{bit, Mentions, Opens}
-use Rattle.propagate.specs.Walk.{First, Rest}
-use Rattle.propagate.proofs.Bits.{bit-past}
+use Rattle.bits.specs.Masks.{bit, Mentions, Opens}
+use Rattle.bits.specs.Walk.{First, Rest}
+use Rattle.bits.proofs.Bits.{bit-past}
 use Rattle.propagate.proofs.Scans.{improvedFrom, improvedAt, improved-first}
 use Rattle.propagate.proofs.Tracking.{span-quiet}
 

@@ -10,9 +10,9 @@ use mathlib.Core.Path.{_≡_, refl, sym, _∙_}
 use borrow.Author.Tests.{lt-ltb, le-ltb}
 use lib.IntN.{ℤ, pos, _-ℤ_}
 use lib.Signed.{ltZ}
-use Rattle.model.specs.Lists.{tab, orElse, withDefault}
-use Rattle.model.specs.Constraint.{Constraint, Box, modulus, term, activity}
-use Rattle.model.specs.Move.{Move, conflict, decide, finish, firstFalsified, improvementAt, improvementFrom, improvementBy, firstImprovement, firstOpen, nextMove}
+use Rattle.model_problems.specs.Lists.{tab, orElse, withDefault}
+use Rattle.model_problems.specs.Constraint.{Constraint, Box, modulus, term, activity}
+use Rattle.model_walk.specs.Move.{Move, conflict, decide, finish, firstFalsified, improvementAt, improvementFrom, improvementBy, firstImprovement, firstOpen, nextMove}
 use Rattle.lists.proofs.Tab.{tab-step, tab-end}
 use Rattle.layout.specs.Rows.{rowLength, numberIn, cell, constraintAt, rowAt, boundsAt, boxOf}
 use Rattle.propagate.specs.Moves.{hitAt}

@@ -8,13 +8,13 @@ use mathlib.Core.Path.{_≡_, refl, sym, ap, subst, _∙_}
 use lib.Dec.{T}
 use lib.IntN.{ℤ, pos}
 use lib.ListN.{length}
-use Rattle.model.specs.Lists.{tab, allOf}
-use Rattle.model.specs.Ranges.{within, maxVariables, maxConstraints, maxBudget, maxCoefficient}
-use Rattle.model.specs.Constraint.{inRange}
-use Rattle.model.specs.File.{noConstraint}
-use Rattle.model.specs.Problem.{boundsInRange}
-use Rattle.model.specs.Search as model
-use Rattle.model.specs.Move.{follow, descend, propagationsBy, propagationsIn}
+use Rattle.model_problems.specs.Lists.{tab, allOf}
+use Rattle.model_problems.specs.Ranges.{within, maxVariables, maxConstraints, maxBudget, maxCoefficient}
+use Rattle.model_problems.specs.Constraint.{inRange}
+use Rattle.model_files.specs.File.{noConstraint}
+use Rattle.model_problems.specs.Problem.{boundsInRange}
+use Rattle.model_walk.specs.Search as model
+use Rattle.model_walk.specs.Move.{follow, descend, propagationsBy, propagationsIn}
 use Rattle.lists.proofs.Bools.{true-of, T-of, lt-or-le}
 use Rattle.lists.proofs.Tab.{length-tab, getD-tab}
 use Rattle.lists.proofs.AllOf.{allOf-getD, allOf-of, allOf-replicate}
@@ -31,7 +31,7 @@ use Rattle.validity.proofs.States.{ConstraintFits, CoreFits, core-fits, sizes-f
 use Rattle.propagate.specs.Moves.{stopOf}
 use Rattle.propagate.specs.Propagation.{Propagation, propagation, propagationOf}
 use Rattle.propagate.specs.Ready.{keptRows, Ready, GapFree}
-use Rattle.propagate.specs.Divided.{keptOver, coreApart, blankRow, Apart}
+use Rattle.propagate.specs.Apart.{keptOver, coreApart, blankRow, Apart}
 use Rattle.propagate.specs.declared.propagate.Propagated.{Propagated}
 use Rattle.propagate.proofs.Warning.{zero-or, length-over, over-cut}
 use Rattle.validity.proofs.Thresholds.{outside-out}

@@ -7,10 +7,10 @@ use mathlib.Core.Path.{_≡_, sym, ap, ap₂, subst, _∙_}
 use lib.Dec.{lit≤}
 use lib.IntN.{ℤ, _-ℤ_}
 use lib.ListN.{length, length-set}
-use Rattle.model.specs.Constraint.{Constraint, Box, setLower, setUpper}
-use Rattle.model.specs.Threshold.{thresholdAt, lifted, sunk}
-use Rattle.model.specs.Search as model
-use Rattle.model.specs.Move.{Move, conflict, newLower, newUpper, decide, finish, nextMove, slack}
+use Rattle.model_problems.specs.Constraint.{Constraint, Box, setLower, setUpper}
+use Rattle.model_problems.specs.Threshold.{thresholdAt, lifted, sunk}
+use Rattle.model_walk.specs.Search as model
+use Rattle.model_walk.specs.Move.{Move, conflict, newLower, newUpper, decide, finish, nextMove, slack}
 use Rattle.integer.specs.Parts.{_⊑_}
 use Rattle.integer.specs.Size.{Within, weaken}
 use Rattle.lists.proofs.Bools.{true-of}

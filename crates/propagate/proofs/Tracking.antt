@@ -13,11 +13,11 @@ use lib.IntN.{ℤ, pos, _+ℤ_, _-ℤ_}
 use lib.ListN.{length, set, getD, length-set}
 use lib.Seq.{getD-set-same, getD-set-other}
 use lib.Signed.{_≤ℤ_, ltZ}
-use Rattle.model.specs.Lists.{tab, orElse}
-use Rattle.model.specs.Ranges.{maxVariables}
-use Rattle.model.specs.Constraint.{Bounds, inRange, activity, term, lowerAt, upperAt, setLower, setUpper, coefficientAt}
-use Rattle.model.specs.File.{noConstraint}
-use Rattle.model.specs.Move.{Move, conflict, firstFalsified, improvementFrom}
+use Rattle.model_problems.specs.Lists.{tab, orElse}
+use Rattle.model_problems.specs.Ranges.{maxVariables}
+use Rattle.model_problems.specs.Constraint.{Bounds, inRange, activity, term, lowerAt, upperAt, setLower, setUpper, coefficientAt}
+use Rattle.model_files.specs.File.{noConstraint}
+use Rattle.model_walk.specs.Move.{Move, conflict, firstFalsified, improvementFrom}
 use Rattle.integer.specs.Order.{≤-trans}
 use Rattle.integer.specs.Expression.{var, le, of-le}
 use Rattle.integer.specs.Parts.{_⊑_}
@@ -34,7 +34,7 @@ use Rattle.layout.specs.Rows.{rowLength, numberIn, cell, constraintAt, rowAt, b
 use Rattle.layout.proofs.Rows.{length-box, coefficient-at, lower-at, upper-at, box-lower, box-upper}
 use Rattle.propagate.specs.Moves.{hitAt}
 use Rattle.propagate.specs.Tracked.{ScanFits, Known, TrackedAt, Tracked, Shiftable, Shifted, FirstAbove, Told}
-use Rattle.propagate.specs.Masks.{Opens}
+use Rattle.bits.specs.Masks.{Opens}
 use Rattle.propagate.proofs.Scans.{improvedAt}
 
 module _ {n kept : ℕ} {rows lower upper : List ℤ} (f : ScanFits n kept rows lower upper) where

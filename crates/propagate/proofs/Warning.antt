@@ -12,11 +12,11 @@ use lib.IntN.{ℤ, pos, negsuc, natAbs}
 use lib.ListN.{getD, length, length-append, List·getD-append}
 use lib.Seq.{getD-append-add}
 use lib.Signed.{_≤ℤ_}
-use Rattle.model.specs.Lists.{tab}
-use Rattle.model.specs.Ranges.{maxVariables, maxConstraints}
-use Rattle.model.specs.Constraint.{Constraint, Box, modulus, coefficientAt, setLower, setUpper, activity, falsifiedBy, falsified}
-use Rattle.model.specs.File.{noConstraint}
-use Rattle.model.specs.Move.{conflict, firstFalsified, firstImprovement}
+use Rattle.model_problems.specs.Lists.{tab}
+use Rattle.model_problems.specs.Ranges.{maxVariables, maxConstraints}
+use Rattle.model_problems.specs.Constraint.{Constraint, Box, modulus, coefficientAt, setLower, setUpper, activity, falsifiedBy, falsified}
+use Rattle.model_files.specs.File.{noConstraint}
+use Rattle.model_walk.specs.Move.{conflict, firstFalsified, firstImprovement}
 use Rattle.integer.specs.Tests.{lt-ltZ, le-ltZ, ltZ-false}
 use Rattle.lists.proofs.Bools.{lt-or-le, clash}
 use Rattle.lists.proofs.Tab.{length-tab, getD-tab, getD-tab-from, getD-const, tab-append}
@@ -26,11 +26,12 @@ use Rattle.state.specs.View.{keptCuts, divisorFor}
 use Rattle.validity.proofs.Every.{Every}
 use Rattle.validity.proofs.Constraints.{Inequality, lower-unseen, upper-unseen}
 use Rattle.validity.proofs.Blank.{Blank, blank-clear, BlankOf, whole, blank, Blanked, blanked-same, blanked-append, improvement-blanked}
-use Rattle.propagate.specs.Masks.{bit}
+use Rattle.bits.specs.Masks.{bit}
 use Rattle.propagate.specs.Moves.{hitAt}
 use Rattle.propagate.specs.Ready.{keptRows}
 use Rattle.propagate.specs.Tracked.{Told}
-use Rattle.propagate.specs.Divided.{keptOver, blankRow, Apart, Due, Testable, FirstIndivisible, Warned}
+use Rattle.bits.specs.Divided.{Due, Testable, FirstIndivisible}
+use Rattle.propagate.specs.Apart.{keptOver, blankRow, Apart, Warned}
 
 -- ---- the first falsified constraint of a list
 first-hit : (ks : List Constraint) (box : Box) (p r : ℕ) → r < length ks → ((j : ℕ) → j < r → falsified (getD ks j noConstraint) box ≡ false) →

@@ -4,7 +4,7 @@ use mathlib.Core.List.{List}
 use mathlib.Core.Path.{_≡_}
 use lib.IntN.{ℤ, _-ℤ_}
 use lib.ListN.{length, set}
-use Rattle.model.specs.Ranges.{maxVariables}
+use Rattle.model_problems.specs.Ranges.{maxVariables}
 use Rattle.integer.specs.Size.{Within}
 use Rattle.linear.specs.Ranges.{widestBound, widestChange}
 use Rattle.layout.specs.Rows.{numberIn}

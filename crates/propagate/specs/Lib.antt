@@ -1,9 +1,7 @@
 -- What the scans and propagation give, in the model's terms.
 pub mod Moves
 pub mod Tracked
-pub mod Masks
-pub mod Walk
 pub mod Bounds
 pub mod Propagation
 pub mod Ready
-pub mod Divided
+pub mod Apart

@@ -3,7 +3,7 @@ use Prim.Native.Nat.{ℕ}
 use mathlib.Core.Bool.{cond}
 use mathlib.Core.Option.{Option, none, some}
 use lib.Dec.{ltb}
-use Rattle.model.specs.Move as model
+use Rattle.model_walk.specs.Move as model
 use Rattle.propagate.specs.declared.scan.Move.{Move}
 use Rattle.propagate.specs.declared.scan.Move.the-variants.{Lower, Upper, Nothing}
 use Rattle.propagate.specs.declared.propagate.Found.{Found}

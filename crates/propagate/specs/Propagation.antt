@@ -3,11 +3,11 @@
 use Prim.Native.Nat.{ℕ, zero, suc, _+_, _*_}
 use mathlib.Core.List.{List}
 use lib.IntN.{ℤ}
-use Rattle.model.specs.Ranges.{maxBudget, maxPropagations, maxSlack}
-use Rattle.model.specs.Constraint.{Constraint}
-use Rattle.model.specs.Search.{constraint, raiseLower, lowerUpper}
-use Rattle.model.specs.Search as model
-use Rattle.model.specs.Move.{Move, conflict, newLower, newUpper, decide, finish, nextMove, slack}
+use Rattle.model_problems.specs.Ranges.{maxBudget, maxPropagations, maxSlack}
+use Rattle.model_problems.specs.Constraint.{Constraint}
+use Rattle.model_walk.specs.Search.{constraint, raiseLower, lowerUpper}
+use Rattle.model_walk.specs.Search as model
+use Rattle.model_walk.specs.Move.{Move, conflict, newLower, newUpper, decide, finish, nextMove, slack}
 use Rattle.state.specs.View as view
 use Rattle.state.specs.declared.Level.{Level}
 use Rattle.propagate.specs.declared.propagate.Propagated.{Propagated}

@@ -5,11 +5,11 @@ use lib.Dec.{T}
 use lib.IntN.{ℤ}
 use lib.ListN.{length}
 use mathlib.Core.Path.{_≡_}
-use Rattle.model.specs.Lists.{tab, allOf, allPairs}
-use Rattle.model.specs.Ranges.{maxVariables, maxConstraints, maxBudget}
-use Rattle.model.specs.Constraint.{Constraint, inRange}
-use Rattle.model.specs.Problem.{boundsInRange}
-use Rattle.model.specs.Threshold.{outsideGap}
+use Rattle.model_problems.specs.Lists.{tab, allOf, allPairs}
+use Rattle.model_problems.specs.Ranges.{maxVariables, maxConstraints, maxBudget}
+use Rattle.model_problems.specs.Constraint.{Constraint, inRange}
+use Rattle.model_problems.specs.Problem.{boundsInRange}
+use Rattle.model_problems.specs.Threshold.{outsideGap}
 use Rattle.layout.specs.Rows.{rowAt, boxOf, thresholdsOf}
 use Rattle.state.specs.View.{keptCuts}
 use Rattle.state.specs.Change.{Whole}

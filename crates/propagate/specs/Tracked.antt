@@ -7,10 +7,10 @@ use lib.Dec.{T}
 use lib.IntN.{ℤ, pos, _+ℤ_}
 use lib.ListN.{length}
 use lib.Signed.{_≤ℤ_, _<ℤ_}
-use Rattle.model.specs.Lists.{tab, allOf}
-use Rattle.model.specs.Ranges.{maxVariables, maxCoefficient}
-use Rattle.model.specs.Constraint.{inRange, term, activity}
-use Rattle.model.specs.Problem.{boundsInRange}
+use Rattle.model_problems.specs.Lists.{tab, allOf}
+use Rattle.model_problems.specs.Ranges.{maxVariables, maxCoefficient}
+use Rattle.model_problems.specs.Constraint.{inRange, term, activity}
+use Rattle.model_problems.specs.Problem.{boundsInRange}
 use Rattle.integer.specs.Size.{Within}
 use Rattle.linear.specs.Ranges.{widestActivity, widestChange}
 use Rattle.linear.specs.Reach.{Reaches}

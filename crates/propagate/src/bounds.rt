@@ -6,7 +6,7 @@ ghost use Prim.Native.Nat.{_<_, _^_};
 ghost use lib.IntN.{pos, _+ℤ_, _-ℤ_};
 ghost use lib.ListN.{length, set as setAt};
 ghost use Rattle.integer.specs.Size.{Within};
-ghost use Rattle.model.specs.Ranges.{maxVariables};
+ghost use Rattle.model_problems.specs.Ranges.{maxVariables};
 ghost use Rattle.layout.specs.Rows.{numberIn};
 ghost use Rattle.propagate.specs.Tracked.{Shiftable, Shifted};
 ghost use Rattle.propagate.specs.Bounds.{Settable, BoundSet};

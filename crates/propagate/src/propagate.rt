@@ -1,8 +1,8 @@
 // Propagation: document 01's move 2, repeated at one level.
 use crate::bounds::lower_upper;
 use crate::bounds::raise_lower;
-use crate::divided::first_indivisible;
-use crate::masks::open_mask;
+use bits::divided::first_indivisible;
+use bits::masks::open_mask;
 use crate::scan::Move;
 use crate::scan::first_improvement;
 use crate::scan::first_open;
@@ -12,9 +12,9 @@ use threshold::lift;
 use threshold::sink;
 ghost use mathlib.Core.Path.{_≡_};
 ghost use Prim.Native.Nat.{ℕ, _+_, _≤_};
-ghost use Rattle.model.specs.Lists.{withDefault};
-ghost use Rattle.model.specs.Ranges.{maxVariables};
-ghost use Rattle.model.specs.Move.{finish, firstOpen, slack};
+ghost use Rattle.model_problems.specs.Lists.{withDefault};
+ghost use Rattle.model_problems.specs.Ranges.{maxVariables};
+ghost use Rattle.model_walk.specs.Move.{finish, firstOpen, slack};
 ghost use Rattle.layout.specs.Rows.{boxOf, thresholdsOf};
 ghost use Rattle.state.specs.View.{keptCuts, numberFor, levelOf};
 ghost use Rattle.state.specs.Change.{held};
@@ -22,8 +22,9 @@ ghost use Rattle.propagate.specs.Moves.{stopOf};
 ghost use Rattle.propagate.specs.Propagation.{propagation, propagationOf, mostCounted};
 ghost use Rattle.propagate.specs.Ready.{Ready, GapFree};
 ghost use Rattle.propagate.specs.Tracked.{Tracked};
-ghost use Rattle.propagate.specs.Divided.{keptOver, Apart, Columns, Warned};
-ghost use Rattle.propagate.specs.Masks.{Masked};
+ghost use Rattle.bits.specs.Divided.{Columns};
+ghost use Rattle.propagate.specs.Apart.{keptOver, Apart, Warned};
+ghost use Rattle.bits.specs.Masks.{Masked};
 
 // Where propagation stops: at a conflict in the constraint at a position, at a decision at a variable, or at the solution.
 pub enum Found {

@@ -1,8 +1,8 @@
 // The next move at a level: the scans of document 01's moves 1 to 3.
-use crate::masks::both;
-use crate::masks::first;
-use crate::masks::mask_of;
-use crate::masks::rest;
+use bits::masks::both;
+use bits::masks::first;
+use bits::masks::mask_of;
+use bits::masks::rest;
 use layout::ROW;
 use linear::activity::Improvement;
 use linear::activity::further;
@@ -12,15 +12,15 @@ ghost use mathlib.Core.Path.{_≡_};
 ghost use Prim.Native.Nat.{ℕ, _+_, _≤_, _<_};
 ghost use lib.IntN.{pos};
 ghost use lib.Signed.{_≤ℤ_};
-ghost use Rattle.model.specs.Lists.{tab};
-ghost use Rattle.model.specs.Ranges.{maxVariables, maxConstraints, maxCuts};
-ghost use Rattle.model.specs.Move.{conflict, decide, firstFalsified, firstImprovement, firstOpen};
+ghost use Rattle.model_problems.specs.Lists.{tab};
+ghost use Rattle.model_problems.specs.Ranges.{maxVariables, maxConstraints, maxCuts};
+ghost use Rattle.model_walk.specs.Move.{conflict, decide, firstFalsified, firstImprovement, firstOpen};
 ghost use Rattle.integer.specs.Size.{Within};
 ghost use Rattle.linear.specs.Ranges.{widestActivity};
 ghost use Rattle.layout.specs.Rows.{numberIn, rowAt, boxOf, maxRows};
 ghost use Rattle.propagate.specs.Moves.{foundOf, hitAt};
 ghost use Rattle.propagate.specs.Tracked.{ScanFits, Tracked, FirstAbove};
-ghost use Rattle.propagate.specs.Masks.{Masked, Opens};
+ghost use Rattle.bits.specs.Masks.{Masked, Opens};
 
 // More than any variable can move a constraint.
 const UNKNOWN: i64 = 36028797018963968;

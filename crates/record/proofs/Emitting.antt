@@ -7,7 +7,7 @@ use mathlib.Core.List.{List}
 use lib.ListN.{length, take, drop, length-drop}
 use lib.Seq.{length-take-le}
 use borrow.Rule.Slice.PartMut.{putMid}
-use Rattle.model.specs.Bytes.{blockLength}
+use Rattle.model_files.specs.Bytes.{blockLength}
 use Rattle.lists.proofs.Bools.{clash}
 use Rattle.block.proofs.Placing.{part-placed}
 use Rattle.record.specs.Written.{Emitted}

@@ -5,12 +5,12 @@ use mathlib.Core.Path.{_≡_, sym, ap, ap₂, _∙_}
 use mathlib.Core.List.{List, _++_}
 use lib.IntN.{ℤ, pos}
 use lib.ListN.{getD}
-use Rattle.model.specs.Lists.{tab, parts}
-use Rattle.model.specs.Ranges.{maxVariables}
-use Rattle.model.specs.Constraint.{coefficientAt}
-use Rattle.model.specs.Bytes.{u32Bytes, i32Bytes, sealed}
-use Rattle.model.specs.File.{coefficientBytes}
-use Rattle.model.specs.Journal.{recordMagic, usedBytes, recordHead, recordContent, recordBytes}
+use Rattle.model_problems.specs.Lists.{tab, parts}
+use Rattle.model_problems.specs.Ranges.{maxVariables}
+use Rattle.model_problems.specs.Constraint.{coefficientAt}
+use Rattle.model_files.specs.Bytes.{u32Bytes, i32Bytes, sealed}
+use Rattle.model_files.specs.File.{coefficientBytes}
+use Rattle.model_files.specs.Journal.{recordMagic, usedBytes, recordHead, recordContent, recordBytes}
 use Rattle.lists.proofs.Bools.{lt-or-le}
 use Rattle.lists.proofs.Tab.{getD-tab, getD-tab-past}
 use Rattle.lists.proofs.Parts.{parts-ext}

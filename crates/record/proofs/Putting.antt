@@ -7,11 +7,11 @@ use lib.IntN.{ℤ, pos}
 use lib.ListN.{getD}
 use mir.Syntax.{w64}
 use mir.Val.{toZ, ofZ}
-use Rattle.model.specs.Lists.{tab, parts}
-use Rattle.model.specs.Ranges.{maxVariables, maxCoefficient}
-use Rattle.model.specs.Bytes.{u16Bytes, u32Bytes, i32Bytes}
-use Rattle.model.specs.File.{coefficientBytes}
-use Rattle.model.specs.Journal.{usedBytes, recordMagic, recordHead, recordContent}
+use Rattle.model_problems.specs.Lists.{tab, parts}
+use Rattle.model_problems.specs.Ranges.{maxVariables, maxCoefficient}
+use Rattle.model_files.specs.Bytes.{u16Bytes, u32Bytes, i32Bytes}
+use Rattle.model_files.specs.File.{coefficientBytes}
+use Rattle.model_files.specs.Journal.{usedBytes, recordMagic, recordHead, recordContent}
 use Rattle.integer.specs.Size.{Within}
 use Rattle.lists.proofs.Tab.{getD-tab}
 use Rattle.layout.specs.Rows.{numberIn, cell, constraintAt}

@@ -6,11 +6,11 @@ use mathlib.Core.Path.{_≡_}
 use mathlib.Core.List.{List, _++_}
 use lib.IntN.{ℤ}
 use lib.ListN.{getD, take, drop}
-use Rattle.model.specs.Lists.{tab, parts}
-use Rattle.model.specs.Ranges.{maxVariables, maxCoefficient}
-use Rattle.model.specs.Bytes.{u16Bytes, u32Bytes, i32Bytes, blockLength}
-use Rattle.model.specs.File.{coefficientBytes}
-use Rattle.model.specs.Journal.{Record, usedBytes}
+use Rattle.model_problems.specs.Lists.{tab, parts}
+use Rattle.model_problems.specs.Ranges.{maxVariables, maxCoefficient}
+use Rattle.model_files.specs.Bytes.{u16Bytes, u32Bytes, i32Bytes, blockLength}
+use Rattle.model_files.specs.File.{coefficientBytes}
+use Rattle.model_files.specs.Journal.{Record, usedBytes}
 use Rattle.integer.specs.Size.{Within}
 use Rattle.layout.specs.Rows.{numberIn, cell, constraintAt}
 

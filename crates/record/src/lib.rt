@@ -5,9 +5,9 @@ ghost use mathlib.Core.Path.{_≡_};
 ghost use mathlib.Core.Bool.{true};
 ghost use Prim.Native.Nat.{_+_, _*_, _≤_};
 ghost use lib.ListN.{length};
-ghost use Rattle.model.specs.Ranges.{maxVariables};
-ghost use Rattle.model.specs.Bytes.{blockLength};
-ghost use Rattle.model.specs.Journal.{recordContent, recordBytes};
+ghost use Rattle.model_problems.specs.Ranges.{maxVariables};
+ghost use Rattle.model_files.specs.Bytes.{blockLength};
+ghost use Rattle.model_files.specs.Journal.{recordContent, recordBytes};
 ghost use Rattle.block.specs.Placed.{Placed};
 ghost use Rattle.record.specs.Written.{recordOf, headPlace, cutPlace, coefficientsPlace, usedPlace, contentLength, headOf, coefficientsOf, cutOf, usedOf, CutFits, Emitted};
 

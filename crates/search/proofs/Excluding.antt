@@ -6,12 +6,12 @@ use mathlib.Core.List.{[], _∷_}
 use mathlib.Core.Path.{_≡_, refl, ap, _∙_}
 use denote.Enum.Declared.{tagOf}
 use types.Run.{OneOf, miss}
-use Rattle.model.specs.Problem.{ok}
-use Rattle.model.specs.Search as model
-use Rattle.model.specs.Conflict.{backUp}
-use Rattle.model.specs.Step.{withStatus, checked}
-use Rattle.model.specs.Validity.{admitted}
-use Rattle.model.specs.Exclude.{Excluded as ModelExcluded, unchanged, struck, ended, unsolved, excludeAt, excludeBy, exclude, excludeCall}
+use Rattle.model_problems.specs.Problem.{ok}
+use Rattle.model_walk.specs.Search as model
+use Rattle.model_walk.specs.Conflict.{backUp}
+use Rattle.model_walk.specs.Step.{withStatus, checked}
+use Rattle.model_walk.specs.Validity.{admitted}
+use Rattle.model_walk.specs.Exclude.{Excluded as ModelExcluded, unchanged, struck, ended, unsolved, excludeAt, excludeBy, exclude, excludeCall}
 use Rattle.state.specs.View.{coreOver, coreOf, statusOf, view}
 use Rattle.state.specs.declared.Search.{Search}
 use Rattle.state.specs.declared.Status.{Status}

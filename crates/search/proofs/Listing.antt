@@ -4,18 +4,18 @@ use native.Mathlib.Omega.{arith}
 use mathlib.Core.List.{[], _∷_, _++_}
 use mathlib.Core.Path.{_≡_, refl, ap}
 use lib.ListN.{length}
-use Rattle.model.specs.Search.{Status, undecided, infeasible, solved, Search, depth}
-use Rattle.model.specs.Step.{Verdict, goOn, noSolution, outOfBudget, solution, Outcome, blockIn, withStatus, withoutBlock, run}
-use Rattle.model.specs.Trace.{Trace, lastStep, advance}
-use Rattle.model.specs.Exclude.{Exclusion, struck, ended, unsolved, unchanged, excludeAt, excludeBy, exclude, excludeWithin}
-use Rattle.model.specs.Listing.{Listing, endsWith, listAfter, goesOn, listFrom}
+use Rattle.model_walk.specs.Search.{Status, undecided, infeasible, solved, Search, depth}
+use Rattle.model_walk.specs.Step.{Verdict, goOn, noSolution, outOfBudget, solution, Outcome, blockIn, withStatus, withoutBlock, run}
+use Rattle.model_walk.specs.Trace.{Trace, lastStep, advance}
+use Rattle.model_walk.specs.Exclude.{Exclusion, struck, ended, unsolved, unchanged, excludeAt, excludeBy, exclude, excludeWithin}
+use Rattle.model_walk.specs.Listing.{Listing, endsWith, listAfter, goesOn, listFrom}
 use Rattle.validity.specs.Valid.{Valid}
 use Rattle.validity.proofs.States.{sizes-fit}
 use Rattle.validity.proofs.Steps.{Counted}
 use Rattle.validity.proofs.Excluding.{within-by, within-valid}
 use Rattle.validity.proofs.Repeating.{Same, run-same, advance-counted}
-use Rattle.engine.specs.Advancing.{advanceOver}
-use Rattle.search.proofs.Proceeding.{advance-valid}
+use Rattle.turns.specs.Advancing.{advanceOver}
+use Rattle.answers.proofs.Proceeding.{advance-valid}
 
 -- ---- a strike counts no conflict
 at-counted : (d : ℕ) (s : Search) → Counted s [] (excludeAt d s .state)

@@ -5,10 +5,10 @@ use mathlib.Core.List.{List}
 use mathlib.Core.Option.{none, some}
 use mathlib.Core.Path.{_≡_, refl, sym, ap, _∙_}
 use lib.Dec.{eqb, eqb·suc-zero}
-use Rattle.model.specs.File.{problemIn, readError, readFile}
-use Rattle.model.specs.Problem.{Problem, ok, error, resultOf}
-use Rattle.model.specs.Search as model
-use Rattle.model.specs.Search.{openProblem, openedBy, openFile}
+use Rattle.model_files.specs.File.{problemIn, readError, readFile}
+use Rattle.model_problems.specs.Problem.{Problem, ok, error, resultOf}
+use Rattle.model_walk.specs.Search as model
+use Rattle.model_walk.specs.Search.{openProblem, openedBy, openFile}
 use Rattle.problem.specs.declared.Answer.the-variants.{Done}
 use Rattle.problem.specs.declared.Reading.{Reading}
 use Rattle.problem.specs.Answer.{number}

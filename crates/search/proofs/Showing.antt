@@ -10,15 +10,15 @@ use lib.Dec.{eqb}
 use lib.IntN.{ℤ}
 use lib.ListN.{getD, length, take, drop}
 use lib.Seq.{take-at}
-use Rattle.model.specs.Bytes.{blockLength}
-use Rattle.model.specs.Lists.{tab}
-use Rattle.model.specs.Points.{Point}
-use Rattle.model.specs.Problem.{Result, ok, error}
-use Rattle.model.specs.Step.{Outcome, blockIn as blocksIn, lowers, checked, step, stepCall, runCall}
-use Rattle.model.specs.Trace.{Trace, lastStep, advance, joined, written, tracedBy, traceCall}
-use Rattle.model.specs.Listing.{Listing, endsWith, listFrom, roomAt, list as listOver, listedIn, listedBy, listCall}
-use Rattle.model.specs.Ranges.{maxPropagations}
-use Rattle.model.specs.Validity.{valid, withinLimit, admitted}
+use Rattle.model_files.specs.Bytes.{blockLength}
+use Rattle.model_problems.specs.Lists.{tab}
+use Rattle.model_problems.specs.Points.{Point}
+use Rattle.model_problems.specs.Problem.{Result, ok, error}
+use Rattle.model_walk.specs.Step.{Outcome, blockIn as blocksIn, lowers, checked, step, stepCall, runCall}
+use Rattle.model_walk.specs.Trace.{Trace, lastStep, advance, joined, written, tracedBy, traceCall}
+use Rattle.model_walk.specs.Listing.{Listing, endsWith, listFrom, roomAt, list as listOver, listedIn, listedBy, listCall}
+use Rattle.model_problems.specs.Ranges.{maxPropagations}
+use Rattle.model_walk.specs.Validity.{valid, withinLimit, admitted}
 use Rattle.layout.specs.Rows.{numberIn}
 use Rattle.lists.proofs.Bools.{T-of, and-true}
 use Rattle.lists.proofs.Tab.{length-tab}
@@ -28,17 +28,17 @@ use Rattle.state.specs.declared.Search.{Search}
 use Rattle.state.proofs.Shape.{view-shaped}
 use Rattle.validity.specs.Valid.{Valid}
 use Rattle.propagate.proofs.States.{sizes}
-use Rattle.engine.proofs.Striking.{lowers-are}
-use Rattle.engine.specs.Advancing.{verdictOf as modelVerdictOf, traceOf, advanceOver, Advances}
-use Rattle.engine.specs.declared.Ending.{Ending}
-use Rattle.engine.specs.declared.Ending.the-variants as ending
-use Rattle.engine.specs.declared.Advanced.{Advanced}
+use Rattle.turns.proofs.Striking.{lowers-are}
+use Rattle.turns.specs.Advancing.{verdictOf as modelVerdictOf, traceOf, advanceOver, Advances}
+use Rattle.turns.specs.declared.Ending.{Ending}
+use Rattle.turns.specs.declared.Ending.the-variants as ending
+use Rattle.turns.specs.declared.Advanced.{Advanced}
 use Rattle.validity.proofs.Repeating.{advance-one}
-use Rattle.search.specs.declared.Traced.{Traced}
+use Rattle.answers.specs.declared.Traced.{Traced}
 use Rattle.search.specs.Seen.{Seen, verdictOf, refusedIn, seenTraced, seenStepped, seenRan, valuesOf, noBlock, blockOr, shown, turn, blockIn, stepSeen, runSeen, traceSeen}
-use Rattle.search.specs.Answered.{caseOf, valuesAt, answered, refusal, ranOf, listedOf}
+use Rattle.answers.specs.Answered.{caseOf, valuesAt, answered, refusal, ranOf, listedOf}
 use Rattle.search.specs.Listing.{SeenListing, seenListed, struckIn, lastIn, listSeen}
-use Rattle.search.proofs.Proceeding.{room-none, trace-alone}
+use Rattle.answers.proofs.Proceeding.{room-none, trace-alone}
 use Rattle.search.proofs.Listing.{withoutBlocks, Lists, lists-same}
 
 -- ---- a state that passed the test
@@ -187,9 +187,3 @@ list-shown s a old now list list₁ v h =
 pub list-refused : (s : Search) (list : List ℤ) → admitted (view s) ≡ false → seenListed (listedOf (refusal s) 0) list ≡ listSeen s list
 unfolding seenListed listedOf listSeen listCall
 list-refused s list v = rw v (unfold listedBy struckIn lastIn turn shown refusal seenRan seenTraced verdictOf refusedIn in refl)
-
--- ---- where the turns ended
-pub answered-as : (a : Advanced) (e : Ending) → a .ending ≡ e →
-    record { verdict = caseOf e; values = valuesAt e (a .state); count = a .state .conflicts; propagations = a .state .propagations; blocks = a .blocks; state = a .state } ≡ answered a
-unfolding answered
-answered-as a e q = rw q

@@ -1,8 +1,8 @@
 -- What striking out a solution shows: N4's answer, and the state.
 use mathlib.Core.Option.{Option, none, some}
-use Rattle.model.specs.Problem.{Result, ok, error}
-use Rattle.model.specs.Search as model
-use Rattle.model.specs.Exclude.{Exclusion as ModelExclusion, struck, ended, unsolved, Excluded as ModelExcluded, excludeCall}
+use Rattle.model_problems.specs.Problem.{Result, ok, error}
+use Rattle.model_walk.specs.Search as model
+use Rattle.model_walk.specs.Exclude.{Exclusion as ModelExclusion, struck, ended, unsolved, Excluded as ModelExcluded, excludeCall}
 use Rattle.state.specs.View.{view}
 use Rattle.state.specs.declared.Search.{Search}
 use Rattle.search.specs.declared.Exclusion.{Exclusion}

@@ -3,12 +3,12 @@ use Prim.Native.Nat.{ℕ}
 use mathlib.Core.List.{List, []}
 use lib.IntN.{ℤ}
 use lib.ListN.{length}
-use Rattle.model.specs.Problem.{Result, ok, error}
-use Rattle.model.specs.Step.{Outcome}
-use Rattle.model.specs.Listing.{Listing, listCall}
+use Rattle.model_problems.specs.Problem.{Result, ok, error}
+use Rattle.model_walk.specs.Step.{Outcome}
+use Rattle.model_walk.specs.Listing.{Listing, listCall}
 use Rattle.state.specs.View.{view}
 use Rattle.state.specs.declared.Search.{Search}
-use Rattle.search.specs.declared.Listed.{Listed}
+use Rattle.answers.specs.declared.Listed.{Listed}
 use Rattle.search.specs.Seen.{Seen, seenRan, shown, turn}
 
 -- ---- what a caller sees

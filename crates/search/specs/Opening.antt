@@ -3,8 +3,8 @@ use mathlib.Core.Bool.{cond}
 use mathlib.Core.Option.{Option, none, some}
 use lib.Dec.{eqb}
 use lib.ListN.{replicate}
-use Rattle.model.specs.Problem.{Result, ok, error}
-use Rattle.model.specs.Search as model
+use Rattle.model_problems.specs.Problem.{Result, ok, error}
+use Rattle.model_walk.specs.Search as model
 use Rattle.problem.specs.Answer.{number}
 use Rattle.fields.specs.Fields.{zeros}
 use Rattle.state.specs.View.{view}

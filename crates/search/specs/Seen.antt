@@ -5,19 +5,19 @@ use mathlib.Core.List.{List, [], _++_}
 use mathlib.Core.Option.{Option, none, some}
 use lib.IntN.{ℤ}
 use lib.ListN.{length, take, replicate}
-use Rattle.model.specs.Bytes.{blockLength}
-use Rattle.model.specs.Problem.{Result, ok, error}
-use Rattle.model.specs.Search as model
-use Rattle.model.specs.Step.{Verdict as ModelVerdict, Outcome, goOn, noSolution, outOfBudget, solution, stepCall, runCall}
-use Rattle.model.specs.Trace.{Trace, lastStep, traceCall}
+use Rattle.model_files.specs.Bytes.{blockLength}
+use Rattle.model_problems.specs.Problem.{Result, ok, error}
+use Rattle.model_walk.specs.Search as model
+use Rattle.model_walk.specs.Step.{Verdict as ModelVerdict, Outcome, goOn, noSolution, outOfBudget, solution, stepCall, runCall}
+use Rattle.model_walk.specs.Trace.{Trace, lastStep, traceCall}
 use Rattle.fields.specs.Fields.{room, zeros}
 use Rattle.state.specs.View.{view}
 use Rattle.state.specs.declared.Search.{Search}
-use Rattle.search.specs.declared.Verdict.{Verdict}
-use Rattle.search.specs.declared.Verdict.the-variants.{GoOn, NoSolution, OutOfBudget, Solution, Invalid}
+use Rattle.answers.specs.declared.Verdict.{Verdict}
+use Rattle.answers.specs.declared.Verdict.the-variants.{GoOn, NoSolution, OutOfBudget, Solution, Invalid}
 use Rattle.search.specs.declared.Stepped.{Stepped}
-use Rattle.search.specs.declared.Ran.{Ran}
-use Rattle.search.specs.declared.Traced.{Traced}
+use Rattle.answers.specs.declared.Ran.{Ran}
+use Rattle.answers.specs.declared.Traced.{Traced}
 
 -- ---- what a caller sees
 pub record Seen : Type 0 where

@@ -1,25 +1,19 @@
 // The public calls on a search: open a file, take a turn, run to a verdict, run with the journal, strike out a solution, and list solutions. None has a
 // `requires`: each does its own checking.
+use answers::Listed;
+use answers::Ran;
+use answers::Traced;
+use answers::Verdict;
 use problem::Answer;
+use state::Level;
 use state::Search;
 use state::Status;
 ghost use mathlib.Core.Path.{_≡_};
-ghost use Rattle.model.specs.Search.{openFile};
-ghost use Rattle.search.specs.Opening.{seenOpened, opening};
+ghost use Rattle.model_walk.specs.Search.{openFile};
+ghost use Rattle.search.specs.Opening.{blank as blankState, seenOpened, opening};
 ghost use Rattle.search.specs.Excluding.{seenExcluded, excludeSeen};
 ghost use Rattle.search.specs.Listing.{seenListed, listSeen};
 ghost use Rattle.search.specs.Seen.{seenStepped, seenRan, seenTraced, stepSeen, runSeen, traceSeen};
-
-mod answers;
-
-// What a turn, a run or a trace answers: 'go on', 'none', 'spent', a solution, or 9 for a state that is refused.
-pub enum Verdict {
-    GoOn,
-    NoSolution,
-    OutOfBudget,
-    Solution,
-    Invalid,
-}
 
 // What opening gives: the search state, or an error and a blank state, which is not valid.
 pub struct Opened {
@@ -39,25 +33,6 @@ pub struct Stepped {
     pub state: Search,
 }
 
-// What a run gives.
-pub struct Ran {
-    pub verdict: Verdict,
-    pub values: [i64; 32],
-    pub count: usize,
-    pub propagations: usize,
-    pub state: Search,
-}
-
-// What a trace gives: `blocks` journal blocks stand at the buffer's start.
-pub struct Traced {
-    pub verdict: Verdict,
-    pub values: [i64; 32],
-    pub count: usize,
-    pub propagations: usize,
-    pub blocks: usize,
-    pub state: Search,
-}
-
 // What striking out a solution answers: 'struck'; 'ended' for one that no decision led to; 'no form' for a state that is not marked as solved; or 9 for one
 // that is refused.
 pub enum Exclusion {
@@ -73,22 +48,39 @@ pub struct Excluded {
     pub state: Search,
 }
 
-// What a listing gives: the values of the `struck` solutions that were struck out stand at the buffer's start, n for each; the rest is what the run after
-// the last of them gives.
-pub struct Listed {
-    pub struck: usize,
-    pub verdict: Verdict,
-    pub values: [i64; 32],
-    pub count: usize,
-    pub propagations: usize,
-    pub state: Search,
+// The state that a refused file gives.
+fn blank() -> Search
+    ensures { λ r. ⌜ r ≡ blankState ⌝ }
+{
+    let level = Level {
+        lower: [0; 32],
+        upper: [0; 32],
+        below: [0; 32],
+        above: [0; 32],
+        decided: 0,
+    };
+    Search {
+        n: 0,
+        m: 0,
+        budget: 0,
+        conflicts: 0,
+        propagations: 0,
+        made: 0,
+        depth: 0,
+        status: Status::Undecided,
+        thresholds: [0; 32],
+        rows: [0; 4224],
+        divisors: [0; 64],
+        numbers: [0; 64],
+        levels: [level; 33],
+    }
 }
 
 // Opens the problem file in these bytes.
 pub fn open(file: &[u8]) -> Opened
     ensures { λ r. ⌜ seenOpened r ≡ opening (openFile (now (file .entry))) ⌝ }
 {
-    let reading = problem::read(file);
+    let reading = reading::read(file);
     let answer = reading.answer;
     match answer {
         Answer::Done => {
@@ -96,7 +88,7 @@ pub fn open(file: &[u8]) -> Opened
             Opened { answer, state }
         }
         _ => {
-            let state = answers::blank();
+            let state = blank();
             Opened { answer, state }
         }
     }

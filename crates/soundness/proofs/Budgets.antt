@@ -4,12 +4,12 @@ use native.Mathlib.Omega.{arith}
 use mathlib.Core.Logic.{_⊎_, inl, inr}
 use mathlib.Core.Option.{Option, none, some}
 use mathlib.Core.Path.{_≡_, refl, sym, ap, _∙_}
-use Rattle.model.specs.Problem.{Problem, variables}
-use Rattle.model.specs.Search.{Core, Status, undecided, infeasible, solved, Search, levelOf, coreOf, openProblem}
-use Rattle.model.specs.Move.{descend}
-use Rattle.model.specs.Conflict.{atConflict}
-use Rattle.model.specs.Step.{Verdict, goOn, noSolution, outOfBudget, solution, Outcome, propagated, solvedBy, budgetSpent, counted, onConflict, endedAt, ended, again, stepBy, step, continue, runFor, withoutBlock, run}
-use Rattle.model.specs.Demand.{withBudget, verdictWith}
+use Rattle.model_problems.specs.Problem.{Problem, variables}
+use Rattle.model_walk.specs.Search.{Core, Status, undecided, infeasible, solved, Search, levelOf, coreOf, openProblem}
+use Rattle.model_walk.specs.Move.{descend}
+use Rattle.model_walk.specs.Conflict.{atConflict}
+use Rattle.model_walk.specs.Step.{Verdict, goOn, noSolution, outOfBudget, solution, Outcome, propagated, solvedBy, budgetSpent, counted, onConflict, endedAt, ended, again, stepBy, step, continue, runFor, withoutBlock, run}
+use Rattle.model_claims.specs.Demand.{withBudget, verdictWith}
 use Rattle.validity.proofs.Steps.{spent-or-counted, impossible}
 
 -- the search under another budget

@@ -5,16 +5,16 @@ use mathlib.Core.List.{List, [], _∷_}
 use mathlib.Core.Path.{_≡_, refl, sym, ap, _∙_}
 use lib.Dec.{T, eqb→eq}
 use lib.ListN.{length, length-map}
-use Rattle.model.specs.Lists.{allOf}
-use Rattle.model.specs.Constraint.{Constraint, rounded}
-use Rattle.model.specs.Problem.{Problem, variables, ok, resultOf}
-use Rattle.model.specs.File.{problemIn, readFile}
-use Rattle.model.specs.Search.{Search, coreOf, openProblem, openedBy, openFile}
-use Rattle.model.specs.Validity.{constraintShaped, statusValid, admitted}
-use Rattle.model.specs.Points.{Solution, allPoints}
-use Rattle.model.specs.Step.{goOn, Outcome, step, runFor, withoutBlock, run}
-use Rattle.model.specs.Propagations.{boundsSet}
-use Rattle.model.specs.Demand.{stateAfter, answerAt, journal, withBudget, verdictWith, Steps, Accepted, Demand3}
+use Rattle.model_problems.specs.Lists.{allOf}
+use Rattle.model_problems.specs.Constraint.{Constraint, rounded}
+use Rattle.model_problems.specs.Problem.{Problem, variables, ok, resultOf}
+use Rattle.model_files.specs.File.{problemIn, readFile}
+use Rattle.model_walk.specs.Search.{Search, coreOf, openProblem, openedBy, openFile}
+use Rattle.model_walk.specs.Validity.{constraintShaped, statusValid, admitted}
+use Rattle.model_problems.specs.Points.{Solution, allPoints}
+use Rattle.model_walk.specs.Step.{goOn, Outcome, step, runFor, withoutBlock, run}
+use Rattle.model_walk.specs.Propagations.{boundsSet}
+use Rattle.model_claims.specs.Demand.{stateAfter, answerAt, journal, withBudget, verdictWith, Steps, Accepted, Demand3}
 use Rattle.format.proofs.AcceptedShape as Small
 use Rattle.format.proofs.AcceptedShape.{tests, sizes, accepted-domain, accepted-thresholds, accepted-constraints, accepted-divisors, problem-shaped}
 use Rattle.integer.specs.Tests.{and-left, and-right}

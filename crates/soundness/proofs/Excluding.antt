@@ -5,12 +5,12 @@ use mathlib.Core.List.{List, [], _∷_}
 use mathlib.Core.Logic.{_⊎_, inl, inr}
 use mathlib.Core.Path.{_≡_, refl, sym, ap, subst, _∙_}
 use lib.ListN.{length}
-use Rattle.model.specs.Problem.{Problem}
-use Rattle.model.specs.Search.{Level, Core, Status, undecided, infeasible, solved, Search, depth, levels, withLevels, kept, flipAt}
-use Rattle.model.specs.Conflict.{backFrom, backUp}
-use Rattle.model.specs.Points.{Point, Inside, Before}
-use Rattle.model.specs.Step.{withStatus, lowers}
-use Rattle.model.specs.Exclude.{struck, ended, unsolved, unchanged, excludeAt, excludeBy, exclude}
+use Rattle.model_problems.specs.Problem.{Problem}
+use Rattle.model_walk.specs.Search.{Level, Core, Status, undecided, infeasible, solved, Search, depth, levels, withLevels, kept, flipAt}
+use Rattle.model_walk.specs.Conflict.{backFrom, backUp}
+use Rattle.model_problems.specs.Points.{Point, Inside, Before}
+use Rattle.model_walk.specs.Step.{withStatus, lowers}
+use Rattle.model_walk.specs.Exclude.{struck, ended, unsolved, unchanged, excludeAt, excludeBy, exclude}
 use Rattle.validity.proofs.Boxes.{Fixed, lowHalf, nested-inside, lowers-inside, fixed-only}
 use Rattle.validity.proofs.States.{CoreFits}
 use Rattle.validity.proofs.Conflicts.{back-fits}

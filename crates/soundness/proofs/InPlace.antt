@@ -7,18 +7,18 @@ use mathlib.Core.Logic.{_⊎_, inl, inr, ⊎-elim}
 use mathlib.Core.Option.{some}
 use mathlib.Core.Path.{_≡_, refl, sym, ap, subst, _∙_}
 use lib.ListN.{length, getElem?}
-use Rattle.model.specs.Constraint.{Box}
-use Rattle.model.specs.Problem.{Problem, variables}
-use Rattle.model.specs.File.{problemIn}
-use Rattle.model.specs.Search.{Status, undecided, infeasible, solved, Search, depth, openProblem}
-use Rattle.model.specs.Validity.{valid, withinLimit, admitted}
-use Rattle.model.specs.Points.{Point, Inside, allSolutions}
-use Rattle.model.specs.Step.{Verdict, goOn, noSolution, outOfBudget, solution, Outcome, blockIn, again, stepBy, step, continue, runFor, withoutBlock, run}
-use Rattle.model.specs.Trace.{lastStep}
-use Rattle.model.specs.Exclude.{Exclusion, struck, ended, unsolved, unchanged, excludeAt, excludeBy, exclude, excludeWithin}
-use Rattle.model.specs.Listing.{Listing, endsWith, listAfter, goesOn, listFrom, roomAt, list}
-use Rattle.model.specs.Demand.{In, Accepted}
-use Rattle.model.specs.Enumeration.{Call, allTurns, strike, verdict, exclusion, Answer, traced, excluded, taken, answer, walk, says, blocksOf, shownIn, standsAfter, stands, shown, struckIn, strikes, Ends, KeptUp, Enumerates}
+use Rattle.model_problems.specs.Constraint.{Box}
+use Rattle.model_problems.specs.Problem.{Problem, variables}
+use Rattle.model_files.specs.File.{problemIn}
+use Rattle.model_walk.specs.Search.{Status, undecided, infeasible, solved, Search, depth, openProblem}
+use Rattle.model_walk.specs.Validity.{valid, withinLimit, admitted}
+use Rattle.model_problems.specs.Points.{Point, Inside, allSolutions}
+use Rattle.model_walk.specs.Step.{Verdict, goOn, noSolution, outOfBudget, solution, Outcome, blockIn, again, stepBy, step, continue, runFor, withoutBlock, run}
+use Rattle.model_walk.specs.Trace.{lastStep}
+use Rattle.model_walk.specs.Exclude.{Exclusion, struck, ended, unsolved, unchanged, excludeAt, excludeBy, exclude, excludeWithin}
+use Rattle.model_walk.specs.Listing.{Listing, endsWith, listAfter, goesOn, listFrom, roomAt, list}
+use Rattle.model_claims.specs.Demand.{In, Accepted}
+use Rattle.model_claims.specs.Enumeration.{Call, allTurns, strike, verdict, exclusion, Answer, traced, excluded, taken, answer, walk, says, blocksOf, shownIn, standsAfter, stands, shown, struckIn, strikes, Ends, KeptUp, Enumerates}
 use Rattle.format.proofs.AcceptedShape.{tests, sizes}
 use Rattle.lists.proofs.Bools.{true-of, and-both}
 use Rattle.validity.proofs.Every.{Every}

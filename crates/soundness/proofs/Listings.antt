@@ -7,19 +7,19 @@ use mathlib.Core.Logic.{inl, inr}
 use mathlib.Core.Option.{some}
 use mathlib.Core.Path.{_≡_, refl, sym, ap, subst, _∙_}
 use lib.ListN.{length, take, getElem?, length-append}
-use Rattle.model.specs.Ranges.{maxVariables, maxPropagations}
-use Rattle.model.specs.Problem.{Problem, variables}
-use Rattle.model.specs.File.{problemIn}
-use Rattle.model.specs.Search.{Level, infeasible, Search, openProblem}
-use Rattle.model.specs.Points.{Point, Solution, points, allSolutions}
-use Rattle.model.specs.Step.{Verdict, goOn, noSolution, outOfBudget, solution, step, lowers}
-use Rattle.model.specs.Trace.{advance}
-use Rattle.model.specs.Move.{slack}
-use Rattle.model.specs.Validity.{admitted}
-use Rattle.model.specs.Propagations.{boundsSet}
-use Rattle.model.specs.Demand.{In}
-use Rattle.model.specs.Exclude.{Excluded, ended, unsolved, unchanged, exclude}
-use Rattle.model.specs.Enumeration.{Call, oneTurn, allTurns, strike, turns, verdict, exclusion, Answer, traced, excluded, taken, answeredBy, answer, walk, says, stands, shown, strikes, turnsOf, setBy, setIn, Modest, Completes, Turns, Ascending, Enumerates, Listings}
+use Rattle.model_problems.specs.Ranges.{maxVariables, maxPropagations}
+use Rattle.model_problems.specs.Problem.{Problem, variables}
+use Rattle.model_files.specs.File.{problemIn}
+use Rattle.model_walk.specs.Search.{Level, infeasible, Search, openProblem}
+use Rattle.model_problems.specs.Points.{Point, Solution, points, allSolutions}
+use Rattle.model_walk.specs.Step.{Verdict, goOn, noSolution, outOfBudget, solution, step, lowers}
+use Rattle.model_walk.specs.Trace.{advance}
+use Rattle.model_walk.specs.Move.{slack}
+use Rattle.model_walk.specs.Validity.{admitted}
+use Rattle.model_walk.specs.Propagations.{boundsSet}
+use Rattle.model_claims.specs.Demand.{In, Accepted}
+use Rattle.model_walk.specs.Exclude.{Excluded, ended, unsolved, unchanged, exclude}
+use Rattle.model_claims.specs.Enumeration.{Call, oneTurn, allTurns, strike, turns, verdict, exclusion, Answer, traced, excluded, taken, answeredBy, answer, walk, says, stands, shown, strikes, turnsOf, setBy, setIn, Modest, Completes, Ends, KeptUp, Turns, Ascending, Enumerates, Listings}
 use Rattle.format.proofs.AcceptedShape as Small
 use Rattle.format.proofs.AcceptedShape.{tests, sizes}
 use Rattle.lists.proofs.Bools.{true-of}
@@ -36,7 +36,7 @@ use Rattle.soundness.proofs.Tallies.{turns-set, few-set, set-admitted}
 use Rattle.soundness.proofs.Excluding.{some-room, exclude-unsolved, exclude-struck, exclude-set}
 use Rattle.soundness.proofs.StepLists.{afterTurns, reached-few, reached-creeps, repeats-reached, Reached, still, found, over, reached-after, valid-after, step-tells, state-next, fixed-after}
 use Rattle.soundness.proofs.Taking.{takes, Leaves, turn-leaves}
-use Rattle.soundness.proofs.Standing.{Headed, isSolved, Stands, left-order, solved-head, answered, said-admitted, Standing, standing}
+use Rattle.soundness.proofs.Standing.{Headed, isSolved, Stands, left-order, solved-head, answered, said-admitted, refused-only, Standing, standing}
 
 -- ---- lists
 prefix-take : (n : ℕ) (us vs : List Point) → us ++ take n vs ≡ take (length (us ++ take n vs)) (us ++ vs)
@@ -338,11 +338,22 @@ fresh p z f =
       kept = λ h. (omega arith, λ n. impossible (cc));
     }
 
+lists-of : (f : List ℕ) → Accepted f → Enumerates (problemIn f) (openProblem (problemIn f))
+lists-of f a =
+    let p = problemIn f in
+    let z = sizes p (tests f (a .fine) .sized) in
+    enumerates p z (fits-of f a) (openProblem p) (fresh p z (fits-of f a)) (opened-propagations p z (fits-of f a))
+
+-- with enough budget only 'ended' and 'none' end a list
+module _ (p : Problem) (s : Search) (e : Enumerates p s) (n : points p ≤ p .budget) (c : Call) (cs : List Call) where
+  all-at-end : Ends (says c cs s) → shown (c ∷ cs) s ≡ allSolutions p
+  all-at-end (inl h) = e .complete c cs h
+  all-at-end (inr (inl h)) = absurd (e .enough n c cs h)
+  all-at-end (inr (inr h)) = let a = e .accepted cs (inl n) in let r = refused-only c (walk cs s) 9 (unfold says in h) in impossible (cc)
+
 pub listings : Listings
 listings =
     record {
-      lists = λ f a.
-          let p = problemIn f in
-          let z = sizes p (tests f (a .fine) .sized) in
-          enumerates p z (fits-of f a) (openProblem p) (fresh p z (fits-of f a)) (opened-propagations p z (fits-of f a));
+      lists = lists-of;
+      all-shown = λ f a n c cs k. let e = lists-of f a in (e .ends cs k, all-at-end (problemIn f) (openProblem (problemIn f)) e n c cs);
     }

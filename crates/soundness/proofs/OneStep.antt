@@ -5,15 +5,15 @@ use mathlib.Core.Logic.{_↔_}
 use mathlib.Core.Option.{Option, none, some}
 use mathlib.Core.Path.{_≡_, refl, sym, subst, _∙_}
 use lib.ListN.{length}
-use Rattle.model.specs.Ranges.{maxVariables}
-use Rattle.model.specs.Constraint.{Constraint}
-use Rattle.model.specs.Problem.{Problem, variables}
-use Rattle.model.specs.Search.{Core, Status, undecided, infeasible, solved, Search, kept}
-use Rattle.model.specs.Move.{slack, descend}
-use Rattle.model.specs.Conflict.{atConflict}
-use Rattle.model.specs.Points.{Point, points, Meets, FirstOf}
-use Rattle.model.specs.Step.{Verdict, goOn, noSolution, outOfBudget, solution, Outcome, blockIn, lowers, propagated, solvedBy, budgetSpent, recordOf, verdictAt, statusAt, counted, endedAt, ended, stepBy, step}
-use Rattle.model.specs.Demand.{MeetsCuts}
+use Rattle.model_problems.specs.Ranges.{maxVariables}
+use Rattle.model_problems.specs.Constraint.{Constraint}
+use Rattle.model_problems.specs.Problem.{Problem, variables}
+use Rattle.model_walk.specs.Search.{Core, Status, undecided, infeasible, solved, Search, kept}
+use Rattle.model_walk.specs.Move.{slack, descend}
+use Rattle.model_walk.specs.Conflict.{atConflict}
+use Rattle.model_problems.specs.Points.{Point, points, Meets, FirstOf}
+use Rattle.model_walk.specs.Step.{Verdict, goOn, noSolution, outOfBudget, solution, Outcome, blockIn, lowers, propagated, solvedBy, budgetSpent, recordOf, verdictAt, statusAt, counted, endedAt, ended, stepBy, step}
+use Rattle.model_claims.specs.Demand.{MeetsCuts}
 use Rattle.format.proofs.RecordCut.{cut-in-record}
 use Rattle.validity.proofs.Moves.{Falsifies, Finishes}
 use Rattle.validity.proofs.Constraints.{inequality-divisor}

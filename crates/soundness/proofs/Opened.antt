@@ -8,15 +8,15 @@ use lib.Dec.{T}
 use lib.IntN.{ℤ, pos, zero-*ℤ}
 use lib.ListN.{getD, length, drop, replicate, length-drop}
 use native.Mathlib.Nat.{sub-zero}
-use Rattle.model.specs.Constraint.{Constraint, Box, modulus, falsified, rounded}
-use Rattle.model.specs.File.{noConstraint}
-use Rattle.model.specs.Problem.{Problem, variables}
-use Rattle.model.specs.Search.{constraint, Level, Core, depth, levels, withLevels, withDeepest, kept, numberAt, holdLower, holdUpper, raiseLower, lowerUpper, decideAt, flipAt}
-use Rattle.model.specs.Move.{descend}
-use Rattle.model.specs.Conflict.{analyze, numbered, backjumpLevel, backFrom, backUp, settled, conflictOf, learning, nothingLearned, noLearning, conflictBy, atConflict}
-use Rattle.model.specs.Threshold.{thresholdAt, allowed}
-use Rattle.model.specs.Points.{Point, Inside, Allowed, dot, value, Meets, MeetsAll, Solution, FirstOf}
-use Rattle.model.specs.Step.{lowers}
+use Rattle.model_problems.specs.Constraint.{Constraint, Box, modulus, falsified, rounded}
+use Rattle.model_files.specs.File.{noConstraint}
+use Rattle.model_problems.specs.Problem.{Problem, variables}
+use Rattle.model_walk.specs.Search.{constraint, Level, Core, depth, levels, withLevels, withDeepest, kept, numberAt, holdLower, holdUpper, raiseLower, lowerUpper, decideAt, flipAt}
+use Rattle.model_walk.specs.Move.{descend}
+use Rattle.model_walk.specs.Conflict.{analyze, numbered, backjumpLevel, backFrom, backUp, settled, conflictOf, learning, nothingLearned, noLearning, conflictBy, atConflict}
+use Rattle.model_problems.specs.Threshold.{thresholdAt, allowed}
+use Rattle.model_problems.specs.Points.{Point, Inside, Allowed, dot, value, Meets, MeetsAll, Solution, FirstOf}
+use Rattle.model_walk.specs.Step.{lowers}
 use Rattle.validity.proofs.Boxes.{Fixed, Ordered, Nested, nested-refl, nested-inside, set-lower-nested, set-upper-nested, set-lower-inside, set-upper-inside, lowers-inside, lowers-allowed, fixed-only}
 use Rattle.validity.proofs.Thresholds.{lifts, sinks, Outside, outside-at, allowed-at}
 use Rattle.soundness.proofs.Sizes.{size-nested}

@@ -7,11 +7,11 @@ use mathlib.Core.Logic.{_⊎_, inl, inr}
 use mathlib.Core.Path.{_≡_, refl, sym, subst}
 use lib.Dec.{T}
 use lib.ListN.{drop}
-use Rattle.model.specs.Constraint.{Constraint, Box, falsified}
-use Rattle.model.specs.Threshold.{thresholdAt, allowed}
-use Rattle.model.specs.Problem.{Problem}
-use Rattle.model.specs.Search.{Level, holdLower, decideAt, flipAt}
-use Rattle.model.specs.Points.{Point, Inside, Allowed, Meets, Before}
+use Rattle.model_problems.specs.Constraint.{Constraint, Box, falsified}
+use Rattle.model_problems.specs.Threshold.{thresholdAt, allowed}
+use Rattle.model_problems.specs.Problem.{Problem}
+use Rattle.model_walk.specs.Search.{Level, holdLower, decideAt, flipAt}
+use Rattle.model_problems.specs.Points.{Point, Inside, Allowed, Meets, Before}
 use Rattle.validity.proofs.Boxes.{Ordered, Nested, FirstOpen, first-open, nested-refl, nested-trans, nested-inside, lowHalf, highHalf, low-nested, low-ordered, low-outside, high-nested, high-ordered, high-outside, halves-inside, halves-before}
 use Rattle.validity.proofs.Thresholds.{Outside, allowed-at}
 use Rattle.soundness.proofs.Sizes.{size, size-positive, halves-size}

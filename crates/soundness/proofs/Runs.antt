@@ -6,13 +6,13 @@ use mathlib.Core.Path.{_≡_, refl, sym, ap, _∙_}
 use lib.Dec.{T}
 use lib.IntN.{natAbs}
 use lib.ListN.{length, replicate, length-replicate}
-use Rattle.model.specs.Lists.{tab, allOf}
-use Rattle.model.specs.Constraint.{Constraint, modulus, inRange, divisorInRange, rounded}
-use Rattle.model.specs.Problem.{Problem, variables, domainInRange, thresholdsInRange, constraintsInRange, divisorsInRange}
-use Rattle.model.specs.Search.{noReasons, Search, kept, levels, levelOf, coreOf, openProblem}
-use Rattle.model.specs.Validity.{reasonValid, reasonsValid}
-use Rattle.model.specs.Points.{Point, points, Solution, First}
-use Rattle.model.specs.Step.{Verdict, goOn, noSolution, outOfBudget, solution, Outcome, step, continue, runFor, withoutBlock, run}
+use Rattle.model_problems.specs.Lists.{tab, allOf}
+use Rattle.model_problems.specs.Constraint.{Constraint, modulus, inRange, divisorInRange, rounded}
+use Rattle.model_problems.specs.Problem.{Problem, variables, domainInRange, thresholdsInRange, constraintsInRange, divisorsInRange}
+use Rattle.model_walk.specs.Search.{noReasons, Search, kept, levels, levelOf, coreOf, openProblem}
+use Rattle.model_walk.specs.Validity.{reasonValid, reasonsValid}
+use Rattle.model_problems.specs.Points.{Point, points, Solution, First}
+use Rattle.model_walk.specs.Step.{Verdict, goOn, noSolution, outOfBudget, solution, Outcome, step, continue, runFor, withoutBlock, run}
 use Rattle.integer.specs.Tests.{and-left, and-right}
 use Rattle.validity.proofs.Boxes.{nested-refl}
 use Rattle.soundness.proofs.Sizes.{points-size}

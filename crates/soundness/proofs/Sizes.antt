@@ -9,13 +9,13 @@ use mathlib.Core.Path.{_≡_, refl, sym, ap, subst, _∙_}
 use lib.Dec.{T}
 use lib.IntN.{ℤ, sucℤ}
 use lib.ListN.{length, length-append, length-map}
-use Rattle.model.specs.Lists.{filter}
-use Rattle.model.specs.Constraint.{Box, lowerAt, upperAt, setLower, setUpper}
-use Rattle.model.specs.Threshold.{thresholdAt, allowed, nextValue}
-use Rattle.model.specs.Problem.{Problem}
-use Rattle.model.specs.Points.{Point, Inside, Allowed, numbersFrom, values, prefixed, pointsIn, allPoints, points, Before}
-use Rattle.model.specs.Demand.{In, NoRepeats}
-use Rattle.model.specs.Enumeration.{BeforeAll, Ascending}
+use Rattle.model_problems.specs.Lists.{filter}
+use Rattle.model_problems.specs.Constraint.{Box, lowerAt, upperAt, setLower, setUpper}
+use Rattle.model_problems.specs.Threshold.{thresholdAt, allowed, nextValue}
+use Rattle.model_problems.specs.Problem.{Problem}
+use Rattle.model_problems.specs.Points.{Point, Inside, Allowed, numbersFrom, values, prefixed, pointsIn, allPoints, points, Before}
+use Rattle.model_claims.specs.Demand.{In, NoRepeats}
+use Rattle.model_claims.specs.Enumeration.{BeforeAll, Ascending}
 use Rattle.integer.specs.Parts.{up, down, _⊑_, _⊏_, suc-parts, le-in, le-out, lt-in, lt-out, eq-in, eq-out}
 use Rattle.integer.specs.Order.{≤-or-<}
 use Rattle.lists.proofs.Bools.{true-of, T-of}

@@ -5,12 +5,12 @@ use mathlib.Core.List.{List, [], _∷_}
 use mathlib.Core.Logic.{_⊎_, inl, inr, _↔_}
 use mathlib.Core.Path.{_≡_, refl, sym, subst}
 use lib.Dec.{T}
-use Rattle.model.specs.Lists.{allOf, filter}
-use Rattle.model.specs.Constraint.{Constraint, modulus}
-use Rattle.model.specs.Problem.{Problem}
-use Rattle.model.specs.Points.{Point, pointsIn, allPoints, MeetsBy, MeetsAll, Solution, isMetBy, isMet, isSolution, allSolutions}
-use Rattle.model.specs.Demand.{In}
-use Rattle.model.specs.Enumeration.{BeforeAll, Ascending}
+use Rattle.model_problems.specs.Lists.{allOf, filter}
+use Rattle.model_problems.specs.Constraint.{Constraint, modulus}
+use Rattle.model_problems.specs.Problem.{Problem}
+use Rattle.model_problems.specs.Points.{Point, pointsIn, allPoints, MeetsBy, MeetsAll, Solution, isMetBy, isMet, isSolution, allSolutions}
+use Rattle.model_claims.specs.Demand.{In}
+use Rattle.model_claims.specs.Enumeration.{BeforeAll, Ascending}
 use Rattle.integer.specs.Tests.{and-left, and-right, and-in}
 use Rattle.lists.proofs.Bools.{true-of, T-of}
 use Rattle.soundness.proofs.Sizes.{points-every, before-each, before-all, points-ascending}

@@ -6,17 +6,17 @@ use mathlib.Core.List.{List, [], _∷_, _++_, append-nil, append-assoc}
 use mathlib.Core.Logic.{_⊎_, inl, inr, ⊎-elim}
 use mathlib.Core.Path.{_≡_, refl, sym, ap, ap₂, subst, _∙_}
 use lib.ListN.{length, take, length-append}
-use Rattle.model.specs.Ranges.{maxVariables}
-use Rattle.model.specs.Problem.{Problem, variables}
-use Rattle.model.specs.Search.{Level, Status, undecided, infeasible, solved, Search, depth}
-use Rattle.model.specs.Conflict.{backUp}
-use Rattle.model.specs.Points.{Point, Before, FirstOf, allSolutions}
-use Rattle.model.specs.Step.{Verdict, goOn, noSolution, outOfBudget, solution, Outcome, lowers, withStatus, again, step}
-use Rattle.model.specs.Trace.{advance}
-use Rattle.model.specs.Demand.{MeetsCuts, In}
-use Rattle.model.specs.Exclude.{Exclusion, ended, unsolved, Excluded, unchanged, exclude}
-use Rattle.model.specs.Enumeration.{Call, oneTurn, allTurns, strike, turns, Reply, verdict, exclusion, refused, Answer, traced, excluded, taken, answeredBy, answer, walk, says, blocksOf, NoRun, shownIn, standsAfter, stands, shown, struckIn, strikes, Due, Ends, KeptUp, Turns, Ascending}
-use Rattle.model.specs.Validity.{admitted}
+use Rattle.model_problems.specs.Ranges.{maxVariables}
+use Rattle.model_problems.specs.Problem.{Problem, variables}
+use Rattle.model_walk.specs.Search.{Level, Status, undecided, infeasible, solved, Search, depth}
+use Rattle.model_walk.specs.Conflict.{backUp}
+use Rattle.model_problems.specs.Points.{Point, Before, FirstOf, allSolutions}
+use Rattle.model_walk.specs.Step.{Verdict, goOn, noSolution, outOfBudget, solution, Outcome, lowers, withStatus, again, step}
+use Rattle.model_walk.specs.Trace.{advance}
+use Rattle.model_claims.specs.Demand.{MeetsCuts, In}
+use Rattle.model_walk.specs.Exclude.{Exclusion, ended, unsolved, Excluded, unchanged, exclude}
+use Rattle.model_claims.specs.Enumeration.{Call, oneTurn, allTurns, strike, turns, Reply, verdict, exclusion, refused, Answer, traced, excluded, taken, answeredBy, answer, walk, says, blocksOf, NoRun, shownIn, standsAfter, stands, shown, struckIn, strikes, Due, Ends, KeptUp, Turns, Ascending}
+use Rattle.model_walk.specs.Validity.{admitted}
 use Rattle.validity.specs.Valid.{Valid}
 use Rattle.validity.proofs.Conflicts.{MeetsInequalities}
 use Rattle.validity.proofs.Excluding.{exclude-valid}

@@ -5,13 +5,13 @@ use mathlib.Core.List.{List, [], _∷_, _++_}
 use mathlib.Core.Option.{Option, none, some}
 use mathlib.Core.Path.{_≡_, refl, sym, ap, subst, _∙_}
 use lib.ListN.{length, length-append}
-use Rattle.model.specs.Ranges.{maxVariables}
-use Rattle.model.specs.Problem.{Problem, variables}
-use Rattle.model.specs.Search.{Status, infeasible, solved, Search}
-use Rattle.model.specs.Move.{slack}
-use Rattle.model.specs.Points.{Point, points}
-use Rattle.model.specs.Step.{Verdict, goOn, noSolution, outOfBudget, solution, Outcome, blockIn, lowers, again, stepBy, step, continue, runFor}
-use Rattle.model.specs.Demand.{MeetsCuts}
+use Rattle.model_problems.specs.Ranges.{maxVariables}
+use Rattle.model_problems.specs.Problem.{Problem, variables}
+use Rattle.model_walk.specs.Search.{Status, infeasible, solved, Search}
+use Rattle.model_walk.specs.Move.{slack}
+use Rattle.model_problems.specs.Points.{Point, points}
+use Rattle.model_walk.specs.Step.{Verdict, goOn, noSolution, outOfBudget, solution, Outcome, blockIn, lowers, again, stepBy, step, continue, runFor}
+use Rattle.model_claims.specs.Demand.{MeetsCuts}
 use Rattle.validity.specs.Valid.{Valid}
 use Rattle.validity.proofs.States.{sizes-fit}
 use Rattle.validity.proofs.Conflicts.{MeetsInequalities}

@@ -3,14 +3,14 @@ use Prim.Native.Nat.{ℕ, zero, suc, _-_, _≤_, _<_}
 use native.Mathlib.Omega.{arith}
 use mathlib.Core.List.{[], _∷_}
 use mathlib.Core.Path.{_≡_, refl, sym, ap, subst, _∙_}
-use Rattle.model.specs.Ranges.{maxVariables}
-use Rattle.model.specs.Problem.{Problem, variables}
-use Rattle.model.specs.Search.{Search}
-use Rattle.model.specs.Points.{Point, points}
-use Rattle.model.specs.Step.{Verdict, goOn, noSolution, outOfBudget, solution, Outcome, blockIn, lowers, again, step, withoutBlock, run}
-use Rattle.model.specs.Trace.{Trace, lastStep, advance}
-use Rattle.model.specs.Demand.{MeetsCuts}
-use Rattle.model.specs.Enumeration.{Call, oneTurn, allTurns, strike, turns, verdict, Answer, traced, taken, NoRun, turnsOf, Turns}
+use Rattle.model_problems.specs.Ranges.{maxVariables}
+use Rattle.model_problems.specs.Problem.{Problem, variables}
+use Rattle.model_walk.specs.Search.{Search}
+use Rattle.model_problems.specs.Points.{Point, points}
+use Rattle.model_walk.specs.Step.{Verdict, goOn, noSolution, outOfBudget, solution, Outcome, blockIn, lowers, again, step, withoutBlock, run}
+use Rattle.model_walk.specs.Trace.{Trace, lastStep, advance}
+use Rattle.model_claims.specs.Demand.{MeetsCuts}
+use Rattle.model_claims.specs.Enumeration.{Call, oneTurn, allTurns, strike, turns, verdict, Answer, traced, taken, NoRun, turnsOf, Turns}
 use Rattle.validity.specs.Valid.{Valid}
 use Rattle.validity.proofs.Conflicts.{MeetsInequalities}
 use Rattle.validity.proofs.Repeating.{run-same}

@@ -5,15 +5,15 @@ use native.Mathlib.Omega.{arith}
 use mathlib.Core.Option.{Option, none, some}
 use mathlib.Core.Path.{_≡_, refl, sym, subst}
 use lib.Dec.{T, le→leb}
-use Rattle.model.specs.Problem.{Problem, variables, domainInRange}
-use Rattle.model.specs.Ranges.{maxPropagations, maxSlack}
-use Rattle.model.specs.Search.{Core, Status, undecided, infeasible, solved, Search}
-use Rattle.model.specs.Move.{slack, descend, propagationsIn}
-use Rattle.model.specs.Conflict.{atConflict}
-use Rattle.model.specs.Validity.{valid, withinLimit, admitted}
-use Rattle.model.specs.Points.{Point}
-use Rattle.model.specs.Step.{Outcome, propagated, solvedBy, budgetSpent, verdictAt, counted, endedAt, ended, again, stepBy, step}
-use Rattle.model.specs.Propagations.{keptBy, boundsSetBy, boundsSet}
+use Rattle.model_problems.specs.Problem.{Problem, variables, domainInRange}
+use Rattle.model_problems.specs.Ranges.{maxPropagations, maxSlack}
+use Rattle.model_walk.specs.Search.{Core, Status, undecided, infeasible, solved, Search}
+use Rattle.model_walk.specs.Move.{slack, descend, propagationsIn}
+use Rattle.model_walk.specs.Conflict.{atConflict}
+use Rattle.model_walk.specs.Validity.{valid, withinLimit, admitted}
+use Rattle.model_problems.specs.Points.{Point}
+use Rattle.model_walk.specs.Step.{Outcome, propagated, solvedBy, budgetSpent, verdictAt, counted, endedAt, ended, again, stepBy, step}
+use Rattle.model_walk.specs.Propagations.{keptBy, boundsSetBy, boundsSet}
 use Rattle.format.proofs.AcceptedShape as Small
 use Rattle.integer.specs.Tests.{and-in}
 use Rattle.validity.specs.Valid.{Valid}

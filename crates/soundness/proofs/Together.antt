@@ -6,15 +6,15 @@ use mathlib.Core.Option.{Option, none, some}
 use mathlib.Core.Path.{_≡_, refl, ap, _∙_}
 use lib.Dec.{eqb}
 use lib.ListN.{length}
-use Rattle.model.specs.Bytes.{blockLength}
-use Rattle.model.specs.Problem.{Problem}
-use Rattle.model.specs.Search.{Core, Status, undecided, infeasible, solved, Search}
-use Rattle.model.specs.Move.{descend}
-use Rattle.model.specs.Conflict.{atConflict}
-use Rattle.model.specs.Points.{Point}
-use Rattle.model.specs.Step.{Verdict, goOn, noSolution, outOfBudget, solution, Outcome, blockIn, solvedBy, budgetSpent, counted, onConflict, endedAt, ended, again, stepBy, step}
+use Rattle.model_files.specs.Bytes.{blockLength}
+use Rattle.model_problems.specs.Problem.{Problem}
+use Rattle.model_walk.specs.Search.{Core, Status, undecided, infeasible, solved, Search}
+use Rattle.model_walk.specs.Move.{descend}
+use Rattle.model_walk.specs.Conflict.{atConflict}
+use Rattle.model_problems.specs.Points.{Point}
+use Rattle.model_walk.specs.Step.{Verdict, goOn, noSolution, outOfBudget, solution, Outcome, blockIn, solvedBy, budgetSpent, counted, onConflict, endedAt, ended, again, stepBy, step}
 use Rattle.format.proofs.RecordCut.{length-record}
-use Rattle.model.specs.Trace.{Trace, endingWith, withBlocks, lastStep, advanced, advance}
+use Rattle.model_walk.specs.Trace.{Trace, endingWith, withBlocks, lastStep, advanced, advance}
 use Rattle.validity.proofs.Every.{Every}
 use Rattle.validity.proofs.Elements.{every-append}
 use Rattle.validity.proofs.States.{sizes-fit}

@@ -5,13 +5,13 @@ use mathlib.Core.Bool.{Bool, true, false}
 use mathlib.Core.List.{List, _++_, append-assoc}
 use mathlib.Core.Path.{_≡_, refl, sym, ap, _∙_}
 use lib.Dec.{T}
-use Rattle.model.specs.Problem.{Problem, ok}
-use Rattle.model.specs.Search.{Search}
-use Rattle.model.specs.Validity.{admitted}
-use Rattle.model.specs.Points.{Point}
-use Rattle.model.specs.Step.{goOn, Outcome, step, checked, stepCall, run}
-use Rattle.model.specs.Trace.{Trace, advance}
-use Rattle.model.specs.Demand.{after, stateAfter, blocksIn, journal, stepsTogether}
+use Rattle.model_problems.specs.Problem.{Problem, ok}
+use Rattle.model_walk.specs.Search.{Search}
+use Rattle.model_walk.specs.Validity.{admitted}
+use Rattle.model_problems.specs.Points.{Point}
+use Rattle.model_walk.specs.Step.{goOn, Outcome, step, checked, stepCall, run}
+use Rattle.model_walk.specs.Trace.{Trace, advance}
+use Rattle.model_claims.specs.Demand.{after, stateAfter, blocksIn, journal, stepsTogether}
 use Rattle.lists.proofs.Bools.{true-of}
 use Rattle.validity.specs.Valid.{Valid}
 use Rattle.validity.proofs.Elements.{every-append}

@@ -9,9 +9,9 @@ use lib.Dec.{T}
 use lib.IntN.{ℤ, pos, natAbs, sucℤ, _-ℤ_}
 use lib.Signed.{leZ}
 use lib.ListN.{length}
-use Rattle.model.specs.Lists.{filter}
-use Rattle.model.specs.Threshold.{inGap, allowed, lifted, nextValue}
-use Rattle.model.specs.Points.{wholeNumbers, numbersFrom, values}
+use Rattle.model_problems.specs.Lists.{filter}
+use Rattle.model_problems.specs.Threshold.{inGap, allowed, lifted, nextValue}
+use Rattle.model_problems.specs.Points.{wholeNumbers, numbersFrom, values}
 use Rattle.integer.specs.Parts.{up, down, _⊑_, _⊏_, suc-parts, le-in, lt-in, nle-in, eq-out}
 use Rattle.integer.specs.Order.{≤-or-<}
 use Rattle.integer.specs.Tests.{is-true, is-false, not-in}

@@ -3,10 +3,10 @@ use Prim.Native.Nat.{ℕ, _≤_}
 use native.Mathlib.Omega.{arith}
 use mathlib.Core.Logic.{_⊎_, inl, inr, _↔_}
 use mathlib.Core.Path.{_≡_, refl, sym, ap}
-use Rattle.model.specs.Problem.{Problem, variables, domainInRange, thresholdsInRange, constraintsInRange, divisorsInRange}
-use Rattle.model.specs.Points.{Point, Solution, Before, First, allPoints, points}
-use Rattle.model.specs.Step.{Verdict, goOn, noSolution, outOfBudget, solution}
-use Rattle.model.specs.Demand.{withBudget, verdictWith, Decides, Agree, SameSolutions}
+use Rattle.model_problems.specs.Problem.{Problem, variables, domainInRange, thresholdsInRange, constraintsInRange, divisorsInRange}
+use Rattle.model_problems.specs.Points.{Point, Solution, Before, First, allPoints, points}
+use Rattle.model_walk.specs.Step.{Verdict, goOn, noSolution, outOfBudget, solution}
+use Rattle.model_claims.specs.Demand.{withBudget, verdictWith, Decides, Agree, SameSolutions}
 use Rattle.soundness.proofs.Sizes.{before-asym}
 use Rattle.validity.proofs.Steps.{impossible}
 use Rattle.soundness.proofs.Runs.{ProblemFits, Right, run-right}

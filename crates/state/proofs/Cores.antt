@@ -8,10 +8,10 @@ use mathlib.Core.Path.{_≡_, refl, sym, ap, ap₂, fun-ext, _∙_}
 use lib.IntN.{ℤ}
 use lib.ListN.{getD, set, length, drop}
 use lib.Seq.{getD-set-same, getD-set-other}
-use Rattle.model.specs.Lists.{tab}
-use Rattle.model.specs.Constraint.{Constraint}
-use Rattle.model.specs.Search as model
-use Rattle.model.specs.Conflict.{backFrom, backUp}
+use Rattle.model_problems.specs.Lists.{tab}
+use Rattle.model_problems.specs.Constraint.{Constraint}
+use Rattle.model_walk.specs.Search as model
+use Rattle.model_walk.specs.Conflict.{backFrom, backUp}
 use borrow.Author.Tests.{lt-ltb, le-ltb}
 use Rattle.lists.proofs.Tab.{length-tab, tab-append, tab-ext, tab-ext-0}
 use Rattle.layout.specs.Rows.{constraintAt, rowAt, dividedAt, inputAt}

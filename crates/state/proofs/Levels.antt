@@ -6,10 +6,10 @@ use mathlib.Core.Path.{_≡_, refl, sym, ap, ap₂, _∙_}
 use lib.IntN.{ℤ, pos}
 use lib.ListN.{getD, set, length}
 use lib.Seq.{getD-set-same, getD-set-other}
-use Rattle.model.specs.Lists.{tab}
-use Rattle.model.specs.Constraint.{Box, lowerAt}
-use Rattle.model.specs.Threshold.{thresholdAt, nextValue}
-use Rattle.model.specs.Search as model
+use Rattle.model_problems.specs.Lists.{tab}
+use Rattle.model_problems.specs.Constraint.{Box, lowerAt}
+use Rattle.model_problems.specs.Threshold.{thresholdAt, nextValue}
+use Rattle.model_walk.specs.Search as model
 use Rattle.lists.proofs.Tab.{getD-tab, set-tab}
 use Rattle.layout.specs.Rows.{boxOf, numberIn, thresholdsOf}
 use Rattle.layout.proofs.Rows.{lower-at, box-lower, box-upper}

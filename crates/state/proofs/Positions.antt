@@ -7,9 +7,9 @@ use mathlib.Core.Path.{_≡_, refl, sym, ap, _∙_}
 use borrow.Author.Tests.{lt-ltb, le-ltb}
 use lib.IntN.{ℤ}
 use lib.ListN.{getElem?}
-use Rattle.model.specs.Lists.{tab}
-use Rattle.model.specs.Ranges.{maxConstraints, maxCuts}
-use Rattle.model.specs.Search.{dropped, keptNumber}
+use Rattle.model_problems.specs.Lists.{tab}
+use Rattle.model_problems.specs.Ranges.{maxConstraints, maxCuts}
+use Rattle.model_walk.specs.Search.{dropped, keptNumber}
 use Rattle.lists.proofs.Tab.{length-tab}
 use Rattle.layout.specs.Rows.{rowAt}
 use Rattle.state.specs.View.{keptCuts, coreOver, coreWith}

@@ -7,11 +7,11 @@ use mathlib.Core.Path.{_≡_, refl, sym, ap, subst, _∙_}
 use lib.Dec.{T, eqb, eqb-refl}
 use lib.IntN.{ℤ}
 use lib.ListN.{length, length-map}
-use Rattle.model.specs.Lists.{tab, all, allOf}
-use Rattle.model.specs.Ranges.{maxCuts}
-use Rattle.model.specs.Constraint.{Constraint, modulus, isInequality}
-use Rattle.model.specs.Search as model
-use Rattle.model.specs.Validity.{levelShaped, constraintShaped, shaped}
+use Rattle.model_problems.specs.Lists.{tab, all, allOf}
+use Rattle.model_problems.specs.Ranges.{maxCuts}
+use Rattle.model_problems.specs.Constraint.{Constraint, modulus, isInequality}
+use Rattle.model_walk.specs.Search as model
+use Rattle.model_walk.specs.Validity.{levelShaped, constraintShaped, shaped}
 use Rattle.lists.proofs.Bools.{true-of, T-of, and-both}
 use Rattle.lists.proofs.Tab.{length-tab}
 use Rattle.lists.proofs.All.{all-of}

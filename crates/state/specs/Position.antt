@@ -6,8 +6,8 @@ use mathlib.Core.Option.{Option, none, some}
 use mathlib.Core.Path.{_≡_}
 use lib.Dec.{ltb}
 use lib.IntN.{ℤ}
-use Rattle.model.specs.Constraint.{Constraint}
-use Rattle.model.specs.Search.{Level, keptNumber}
+use Rattle.model_problems.specs.Constraint.{Constraint}
+use Rattle.model_walk.specs.Search.{Level, keptNumber}
 use Rattle.layout.specs.Rows.{rowAt, maxRows}
 use Rattle.state.specs.View.{keptCuts, coreWith}
 

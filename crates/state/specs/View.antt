@@ -6,10 +6,10 @@ use mathlib.Core.List.{List, [], _∷_}
 use lib.Dec.{eqb, ltb}
 use lib.IntN.{ℤ, pos}
 use lib.ListN.{getD}
-use Rattle.model.specs.Lists.{tab}
-use Rattle.model.specs.Ranges.{maxCuts}
-use Rattle.model.specs.Constraint.{Constraint}
-use Rattle.model.specs.Search as model
+use Rattle.model_problems.specs.Lists.{tab}
+use Rattle.model_problems.specs.Ranges.{maxCuts}
+use Rattle.model_problems.specs.Constraint.{Constraint}
+use Rattle.model_walk.specs.Search as model
 use Rattle.layout.specs.Rows.{rowLength, numberIn, rowAt, dividedAt, inputAt, boxOf, thresholdsOf}
 use Rattle.state.specs.declared.Level.{Level}
 use Rattle.state.specs.declared.Search.{Search}

@@ -3,7 +3,7 @@ use layout::MAX_CUTS;
 use layout::MAX_ROWS;
 ghost use mathlib.Core.Path.{_≡_};
 ghost use Prim.Native.Nat.{_+_, _≤_, _<_};
-ghost use Rattle.model.specs.Ranges.{maxConstraints, maxCuts, maxBudget};
+ghost use Rattle.model_problems.specs.Ranges.{maxConstraints, maxCuts, maxBudget};
 ghost use Rattle.layout.specs.Rows.{maxRows};
 ghost use Rattle.state.specs.View.{keptCuts, droppedCuts, divisorFor, numberFor};
 ghost use Rattle.state.specs.Position.{PositionOf};

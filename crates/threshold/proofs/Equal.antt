@@ -6,7 +6,7 @@ use lib.IntN.{ℤ}
 use mir.Syntax.{w64}
 use mir.Val.{SFits, ofZ}
 use borrow.Author.Tests.{eqb-true, eqb-false}
-use Rattle.model.specs.Constraint.{equalℤ}
+use Rattle.model_problems.specs.Constraint.{equalℤ}
 use Rattle.integer.specs.Tests.{same}
 use Rattle.layout.proofs.Tests.{equal-refl, equal-not}
 

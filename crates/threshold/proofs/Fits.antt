@@ -6,9 +6,9 @@ use lib.IntN.{ℤ, pos}
 use mir.Syntax.{w64}
 use mir.Val.{SFits, ofZ}
 use mir.Facts.{toZ-ofZ}
-use Rattle.model.specs.Ranges.{maxBound}
-use Rattle.model.specs.Constraint.{noneOrFromTwo}
-use Rattle.model.specs.Threshold.{thresholdFits, isThreshold}
+use Rattle.model_problems.specs.Ranges.{maxBound}
+use Rattle.model_problems.specs.Constraint.{noneOrFromTwo}
+use Rattle.model_problems.specs.Threshold.{thresholdFits, isThreshold}
 use Rattle.integer.specs.Tests.{fits-lit}
 use Rattle.lists.proofs.Bools.{said-no, said-yes}
 use Rattle.layout.proofs.Elements.{back}

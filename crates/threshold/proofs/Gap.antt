@@ -8,7 +8,7 @@ use lib.Signed.{ltZ}
 use mir.Syntax.{w64}
 use mir.Val.{SFits}
 use mir.Facts.{toZ-ofZ}
-use Rattle.model.specs.Threshold.{inGap, allowed, lifted, sunk, nextValue, outsideGap}
+use Rattle.model_problems.specs.Threshold.{inGap, allowed, lifted, sunk, nextValue, outsideGap}
 use Rattle.integer.specs.Size.{Within, fits, size, add-within}
 use Rattle.integer.specs.Tests.{ltZ-true, ltZ-false, lt-leZ, le-leZ}
 use Rattle.layout.proofs.Elements.{back}

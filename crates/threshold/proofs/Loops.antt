@@ -8,9 +8,9 @@ use lib.ListN.{getD}
 use mir.Syntax.{w64}
 use mir.Val.{SFits}
 use mir.Facts.{toZ-ofZ}
-use Rattle.model.specs.Lists.{allOf, allPairs}
-use Rattle.model.specs.Constraint.{Bounds}
-use Rattle.model.specs.Threshold.{isThreshold}
+use Rattle.model_problems.specs.Lists.{allOf, allPairs}
+use Rattle.model_problems.specs.Constraint.{Bounds}
+use Rattle.model_problems.specs.Threshold.{isThreshold}
 use Rattle.lists.proofs.Bools.{said-no, said-yes}
 use Rattle.lists.proofs.Loops.{every-none, every-more, every-end, every-fails, pairs-none, pairs-more, pairs-end, pairs-fails}
 use Rattle.layout.specs.Rows.{numberIn, boundsAt, boxOf, thresholdsOf}

@@ -2,7 +2,7 @@
 ghost use mathlib.Core.Path.{_≡_};
 ghost use Prim.Native.Nat.{_^_};
 ghost use Rattle.integer.specs.Size.{Within};
-ghost use Rattle.model.specs.Threshold.{inGap, lifted, sunk, nextValue};
+ghost use Rattle.model_problems.specs.Threshold.{inGap, lifted, sunk, nextValue};
 
 pub mod range;
 

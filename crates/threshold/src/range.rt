@@ -5,8 +5,8 @@ use layout::range::is_none_or_from_two;
 ghost use mathlib.Core.Path.{_≡_};
 ghost use Prim.Native.Nat.{_≤_};
 ghost use lib.ListN.{length};
-ghost use Rattle.model.specs.Lists.{allOf, allPairs};
-ghost use Rattle.model.specs.Threshold.{thresholdFits, isThreshold, outsideGap};
+ghost use Rattle.model_problems.specs.Lists.{allOf, allPairs};
+ghost use Rattle.model_problems.specs.Threshold.{thresholdFits, isThreshold, outsideGap};
 ghost use Rattle.layout.specs.Rows.{boxOf, thresholdsOf};
 
 // Whether a problem may have this threshold beside these limits.

@@ -1,6 +1,6 @@
 // Arithmetic that cannot overflow. No number of this program is larger than a constraint's may be, so `held` changes none.
 ghost use Rattle.integer.specs.Size.{Within};
-ghost use Rattle.model.specs.Ranges.{maxCoefficient};
+ghost use Rattle.model_problems.specs.Ranges.{maxCoefficient};
 
 const LARGEST: i64 = 1073741824;
 

@@ -5,7 +5,7 @@ use crate::compare::sizes_of;
 use crate::number::plus;
 use problem::Answer;
 use problem::Problem;
-use search::Verdict;
+use answers::Verdict;
 use state::Search;
 ghost use mathlib.Core.Path.{_≡_};
 ghost use Prim.Native.Nat.{_≤_};
@@ -46,7 +46,7 @@ pub fn open(p: Problem, budget: usize) -> Search {
     q.divisors[63] = -1;
     q.thresholds[31] = -1;
     let mut file = [0u8; 3584];
-    problem::write(q, &mut file);
+    writing::write(q, &mut file);
     let end = 512 * (p.m % 7 + 1);
     let o = search::open(&file[0..end]);
     let answer = o.answer;

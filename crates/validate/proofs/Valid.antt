@@ -6,12 +6,12 @@ use mathlib.Core.Path.{_≡_, refl, sym, ap}
 use lib.Dec.{leb}
 use lib.ListN.{getD}
 use borrow.Author.Tests.{not-true, not-false}
-use Rattle.model.specs.Lists.{tab, all, allOf}
-use Rattle.model.specs.Ranges.{maxCuts, maxPropagations}
-use Rattle.model.specs.Constraint.{inRange, divisorInRange}
-use Rattle.model.specs.Threshold.{isThreshold}
-use Rattle.model.specs.Search.{levels}
-use Rattle.model.specs.Validity.{levelsValid, levelAllowed, statusValid, valid, withinLimit, admitted}
+use Rattle.model_problems.specs.Lists.{tab, all, allOf}
+use Rattle.model_problems.specs.Ranges.{maxCuts, maxPropagations}
+use Rattle.model_problems.specs.Constraint.{inRange, divisorInRange}
+use Rattle.model_problems.specs.Threshold.{isThreshold}
+use Rattle.model_walk.specs.Search.{levels}
+use Rattle.model_walk.specs.Validity.{levelsValid, levelAllowed, statusValid, valid, withinLimit, admitted}
 use Rattle.lists.proofs.Bools.{said-yes}
 use Rattle.layout.specs.Rows.{rowAt, boxOf, thresholdsOf}
 use Rattle.linear.specs.Ranges.{BoxFits}

@@ -1,8 +1,8 @@
 // Document 01's 'foreign walk' (9): whether a search state is one that a turn or a run takes.
 ghost use mathlib.Core.Path.{_≡_};
-ghost use Rattle.model.specs.Validity.{admitted};
+ghost use Rattle.model_walk.specs.Validity.{admitted};
 ghost use Rattle.state.specs.View.{view};
-use conditions::levels;
+use conditions::nesting;
 use conditions::scalars;
 use conditions::status;
 use layout::MAX_PROPAGATIONS;
@@ -39,17 +39,17 @@ pub fn is_admitted(s: Search) -> bool
     }
     let last = s.m + s.made;
     let outermost = state::whole(s.levels[0]);
-    if !levels::is_level_valid(outermost, &s.thresholds, n, last) {
+    if !nesting::is_level_valid(outermost, &s.thresholds, n, last) {
         return false;
     }
     let mut deepest = outermost;
     let mut d: usize = 0;
     while d < s.depth {
         let l = state::whole(s.levels[d + 1]);
-        if !levels::is_level_valid(l, &s.thresholds, n, last) {
+        if !nesting::is_level_valid(l, &s.thresholds, n, last) {
             return false;
         }
-        if !levels::is_nested(l, deepest, n) {
+        if !nesting::is_nested(l, deepest, n) {
             return false;
         }
         deepest = l;

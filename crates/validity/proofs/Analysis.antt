@@ -5,9 +5,9 @@ use mathlib.Core.List.{List, _∷_}
 use mathlib.Core.Option.{Option, none, some}
 use lib.Dec.{T, ltb}
 use lib.ListN.{length}
-use Rattle.model.specs.Constraint.{Constraint, isInequality, coefficientAt, falsified, resolvent, opposite, inRange}
-use Rattle.model.specs.Search.{Reason, domain, decision, flipped, constraint, reasonsAt, Core, kept, dropped, keptNumber}
-use Rattle.model.specs.Conflict.{Resolved, unchanged, takeIf, resolveWith, resolveKept, resolveBy, usedReason, resolveAt, analyzeFrom}
+use Rattle.model_problems.specs.Constraint.{Constraint, isInequality, coefficientAt, falsified, resolvent, opposite, inRange}
+use Rattle.model_walk.specs.Search.{Reason, domain, decision, flipped, constraint, reasonsAt, Core, kept, dropped, keptNumber}
+use Rattle.model_walk.specs.Conflict.{Resolved, unchanged, takeIf, resolveWith, resolveKept, resolveBy, usedReason, resolveAt, analyzeFrom}
 use Rattle.validity.proofs.Constraints.{Inequality, inequality-in}
 use Rattle.validity.proofs.States.{Every}
 use Rattle.validity.proofs.Elements.{every-left, every-right, Holds, holds-cond, holds-elem}

@@ -10,12 +10,12 @@ use lib.Dec.{T}
 use lib.IntN.{ℤ}
 use lib.ListN.{getD, length, drop, length-set}
 use lib.Seq.{getD-set-other}
-use Rattle.model.specs.Lists.{allOf, orElse, withDefault}
-use Rattle.model.specs.Constraint.{Constraint, Bounds, Box, noBounds, lowerAt, upperAt, setLower, falsified}
-use Rattle.model.specs.Threshold.{thresholdAt, nextValue}
-use Rattle.model.specs.Search.{flipped, Reasons, noReasons, Level, reasonsAt, setLowerReason, holdLower, flipAt, Core, levels, withLevels, kept, dropped}
-use Rattle.model.specs.Conflict.{leastFalsified, backFrom}
-use Rattle.model.specs.Validity.{cutNumber, reasonValid, reasonsValid, outermost}
+use Rattle.model_problems.specs.Lists.{allOf, orElse, withDefault}
+use Rattle.model_problems.specs.Constraint.{Constraint, Bounds, Box, noBounds, lowerAt, upperAt, setLower, falsified}
+use Rattle.model_problems.specs.Threshold.{thresholdAt, nextValue}
+use Rattle.model_walk.specs.Search.{flipped, Reasons, noReasons, Level, reasonsAt, setLowerReason, holdLower, flipAt, Core, levels, withLevels, kept, dropped}
+use Rattle.model_walk.specs.Conflict.{leastFalsified, backFrom}
+use Rattle.model_walk.specs.Validity.{cutNumber, reasonValid, reasonsValid, outermost}
 use Rattle.integer.specs.Parts.{_⊏_, eq-in}
 use Rattle.integer.specs.Tests.{and-right}
 use Rattle.lists.proofs.Bools.{true-of, T-of}

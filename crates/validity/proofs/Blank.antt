@@ -9,11 +9,11 @@ use mathlib.Core.Path.{_≡_, refl, sym, ap, _∙_}
 use lib.Dec.{T, ltb}
 use lib.IntN.{ℤ, pos, negsuc, natAbs, zero-*ℤ}
 use lib.ListN.{getD, length, getElem?}
-use Rattle.model.specs.Lists.{tab, orElse}
-use Rattle.model.specs.Constraint.{Constraint, Box, modulus, isInequality, coefficientAt, term, terms, activity, falsifiedBy, falsified, opposite, equal}
-use Rattle.model.specs.Move.{improvementAt, improvementFrom, improvementBy, firstImprovement}
-use Rattle.model.specs.Search.{Reason, domain, decision, flipped, constraint, Level, reasonsAt, Core, levels, withLevels, kept, depth, dropped, numberAt, keptNumber, nextNumber, keep}
-use Rattle.model.specs.Conflict.{Resolved, unchanged, resolveWith, resolveKept, resolveBy, usedReason, resolveAt, analyzeFrom, analyze, Numbered, firstEqual, numberedBy, numbered, backFrom, backUp, settled}
+use Rattle.model_problems.specs.Lists.{tab, orElse}
+use Rattle.model_problems.specs.Constraint.{Constraint, Box, modulus, isInequality, coefficientAt, term, terms, activity, falsifiedBy, falsified, opposite, equal}
+use Rattle.model_walk.specs.Move.{improvementAt, improvementFrom, improvementBy, firstImprovement}
+use Rattle.model_walk.specs.Search.{Reason, domain, decision, flipped, constraint, Level, reasonsAt, Core, levels, withLevels, kept, depth, dropped, numberAt, keptNumber, nextNumber, keep}
+use Rattle.model_walk.specs.Conflict.{Resolved, unchanged, resolveWith, resolveKept, resolveBy, usedReason, resolveAt, analyzeFrom, analyze, Numbered, firstEqual, numberedBy, numbered, backFrom, backUp, settled}
 use Rattle.integer.specs.Tests.{is-true, is-false, not-in, not-out, of-false}
 use Rattle.validity.proofs.Every.{Every}
 use Rattle.validity.proofs.Constraints.{Inequality, inequality-in, inequality-out}

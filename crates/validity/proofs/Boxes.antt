@@ -7,11 +7,11 @@ use mathlib.Core.Path.{_≡_, refl, ap, ap₂}
 use lib.Dec.{T}
 use lib.IntN.{ℤ, pos, natAbs, _-ℤ_}
 use lib.ListN.{getD, set, length, length-set}
-use Rattle.model.specs.Constraint.{Bounds, Box, lowerAt, upperAt, setLower, setUpper}
-use Rattle.model.specs.Threshold.{thresholdAt, allowed, nextValue}
-use Rattle.model.specs.Move.{slack}
-use Rattle.model.specs.Step.{lowers}
-use Rattle.model.specs.Points.{Point, Inside, Allowed, Before}
+use Rattle.model_problems.specs.Constraint.{Bounds, Box, lowerAt, upperAt, setLower, setUpper}
+use Rattle.model_problems.specs.Threshold.{thresholdAt, allowed, nextValue}
+use Rattle.model_walk.specs.Move.{slack}
+use Rattle.model_walk.specs.Step.{lowers}
+use Rattle.model_problems.specs.Points.{Point, Inside, Allowed, Before}
 use Rattle.integer.specs.Parts.{up, down, _⊑_, _⊏_, sub-parts, abs-of, le-in, le-out, lt-in, lt-out, eq-out}
 use Rattle.integer.specs.Order.{≤-or-<}
 use Rattle.integer.specs.Tests.{is-true}

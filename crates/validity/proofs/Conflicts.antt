@@ -8,13 +8,13 @@ use mathlib.Core.Option.{Option, none, some}
 use mathlib.Core.Path.{_≡_, refl, sym, _∙_}
 use lib.Dec.{T}
 use lib.ListN.{getD, length, drop}
-use Rattle.model.specs.Lists.{anyOf}
-use Rattle.model.specs.Constraint.{Constraint, Box, falsified, resolvent, inRange}
-use Rattle.model.specs.File.{noConstraint}
-use Rattle.model.specs.Search.{Level, Core, depth, levels, kept, keep}
-use Rattle.model.specs.Conflict.{analyze, firstEqual, numberedBy, numbered, backjumpLevel, backUp}
-use Rattle.model.specs.Validity.{falsifies, outermost}
-use Rattle.model.specs.Points.{Point, Meets}
+use Rattle.model_problems.specs.Lists.{anyOf}
+use Rattle.model_problems.specs.Constraint.{Constraint, Box, falsified, resolvent, inRange}
+use Rattle.model_files.specs.File.{noConstraint}
+use Rattle.model_walk.specs.Search.{Level, Core, depth, levels, kept, keep}
+use Rattle.model_walk.specs.Conflict.{analyze, firstEqual, numberedBy, numbered, backjumpLevel, backUp}
+use Rattle.model_walk.specs.Validity.{falsifies, outermost}
+use Rattle.model_problems.specs.Points.{Point, Meets}
 use Rattle.integer.specs.Tests.{and-left, and-right}
 use Rattle.validity.proofs.Constraints.{Inequality, resolvent-length, resolvent-meets, resolvent-inequality}
 use Rattle.validity.proofs.Moves.{Falsifies}

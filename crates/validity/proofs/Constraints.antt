@@ -9,12 +9,12 @@ use mathlib.Core.Path.{_≡_, refl, sym, ap, ap₂, _∙_}
 use lib.Dec.{T, eqb→eq}
 use lib.IntN.{ℤ, pos, negsuc, negℤ, natAbs, _+ℤ_, _*ℤ_, *ℤ-zero, zero-*ℤ}
 use lib.ListN.{getD, set, length, length-map}
-use Rattle.model.specs.Division.{ceilDiv, exactDiv, gcd, divides}
-use Rattle.model.specs.Lists.{allOf}
-use Rattle.model.specs.Ranges.{within, maxCoefficient}
-use Rattle.model.specs.Constraint.{Constraint, Bounds, Box, modulus, isInequality, coefficientAt, setLower, setUpper, term, terms, activity, falsifiedBy, falsified, commonDivisor, roundedBy, roundedAs, rounded, mixed, combination, resolvent, inRange}
-use Rattle.model.specs.Step.{lowers}
-use Rattle.model.specs.Points.{Point, Inside, dot, value, MeetsBy, Meets}
+use Rattle.model_problems.specs.Division.{ceilDiv, exactDiv, gcd, divides}
+use Rattle.model_problems.specs.Lists.{allOf}
+use Rattle.model_problems.specs.Ranges.{within, maxCoefficient}
+use Rattle.model_problems.specs.Constraint.{Constraint, Bounds, Box, modulus, isInequality, coefficientAt, setLower, setUpper, term, terms, activity, falsifiedBy, falsified, commonDivisor, roundedBy, roundedAs, rounded, mixed, combination, resolvent, inRange}
+use Rattle.model_walk.specs.Step.{lowers}
+use Rattle.model_problems.specs.Points.{Point, Inside, dot, value, MeetsBy, Meets}
 use Rattle.integer.specs.Parts.{_⊑_, add-parts, mul-parts, neg-up, neg-down, le-in, le-out, lt-in, lt-out, nlt-in}
 use Rattle.integer.specs.Ring.{ring, ⊑-add, ⊑-scale, ⊑-flip}
 use Rattle.integer.specs.Rounding.{ceil-min, ceil-only, ceil-size, exact-size}

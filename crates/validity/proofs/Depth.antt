@@ -3,7 +3,7 @@ use Prim.Native.Nat.{ℕ, zero, suc, _+_, _-_, _≤_, _<_, min}
 use native.Mathlib.Omega.{arith}
 use mathlib.Core.List.{[], _∷_}
 use lib.ListN.{length}
-use Rattle.model.specs.Constraint.{Box, lowerAt, upperAt}
+use Rattle.model_problems.specs.Constraint.{Box, lowerAt, upperAt}
 use Rattle.integer.specs.Parts.{up, down, _⊑_, _⊏_}
 use Rattle.validity.proofs.Boxes.{Nested}
 

@@ -5,8 +5,8 @@ use mathlib.Core.List.{[]}
 use mathlib.Core.Option.{Option, none, some}
 use mathlib.Core.Path.{_≡_, refl, sym, ap, _∙_}
 use lib.IntN.{ℤ}
-use Rattle.model.specs.Search.{constraint, Core, levels, withLevels, withDeepest, kept, numberAt, holdLower, holdUpper, raiseLower, lowerUpper, decideAt}
-use Rattle.model.specs.Move.{Move, conflict, newLower, newUpper, decide, finish, nextMove, Stop, moved, follow, slack, descendFor, descend, propagationsBy, propagationsFor, propagationsIn}
+use Rattle.model_walk.specs.Search.{constraint, Core, levels, withLevels, withDeepest, kept, numberAt, holdLower, holdUpper, raiseLower, lowerUpper, decideAt}
+use Rattle.model_walk.specs.Move.{Move, conflict, newLower, newUpper, decide, finish, nextMove, Stop, moved, follow, slack, descendFor, descend, propagationsBy, propagationsFor, propagationsIn}
 use Rattle.validity.proofs.Thresholds.{Outside}
 use Rattle.validity.proofs.Boxes.{Ordered, first-open, lowHalf, low-slack}
 use Rattle.validity.proofs.Moves.{Falsifies, Raises, Lowers, Decides, Finishes, Chosen, next-chosen}

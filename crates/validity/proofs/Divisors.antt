@@ -8,10 +8,10 @@ use mathlib.Core.Path.{_≡_, refl, ap}
 use lib.Dec.{T}
 use lib.IntN.{ℤ, pos, natAbs, _+ℤ_, _*ℤ_, +ℤ-idl, zero-*ℤ}
 use lib.ListN.{getD, set}
-use Rattle.model.specs.Division.{gcd, divides}
-use Rattle.model.specs.Constraint.{Constraint, Bounds, Box, isOpen, openDivisor, fixedTerms, fixedValue, falsifiedBy}
-use Rattle.model.specs.Step.{lowers}
-use Rattle.model.specs.Points.{dot, value}
+use Rattle.model_problems.specs.Division.{gcd, divides}
+use Rattle.model_problems.specs.Constraint.{Constraint, Bounds, Box, isOpen, openDivisor, fixedTerms, fixedValue, falsifiedBy}
+use Rattle.model_walk.specs.Step.{lowers}
+use Rattle.model_problems.specs.Points.{dot, value}
 use Rattle.integer.specs.Parts.{_⊑_, lt-in, lt-out, nlt-in, nlt-out, eq-out}
 use Rattle.integer.specs.Size.{abs-mul}
 use Rattle.integer.specs.Tests.{is-false, not-in, not-out}

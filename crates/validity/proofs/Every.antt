@@ -3,7 +3,7 @@ use mathlib.Core.Bool.{Bool}
 use mathlib.Core.List.{List, [], _∷_}
 use lib.Dec.{T}
 use mir.Facts.{and-yes, yes-and}
-use Rattle.model.specs.Lists.{all, allOf}
+use Rattle.model_problems.specs.Lists.{all, allOf}
 
 -- every element has the property
 abbrev pub Every : {A : Type 0} → (A → Type 0) → List A → Type 0

@@ -4,12 +4,12 @@ use native.Mathlib.Omega.{arith}
 use mathlib.Core.Bool.{Bool, true, false, cond}
 use mathlib.Core.Path.{_≡_, refl}
 use borrow.Author.Tests.{le-leb, lt-leb}
-use Rattle.model.specs.Search.{Status, undecided, infeasible, solved, Search, depth}
-use Rattle.model.specs.Conflict.{backUp}
-use Rattle.model.specs.Ranges.{maxPropagations}
-use Rattle.model.specs.Validity.{statusValid, withinLimit}
-use Rattle.model.specs.Step.{withStatus}
-use Rattle.model.specs.Exclude.{Excluded, unsolved, unchanged, excludeAt, excludeBy, exclude, excludeWithin}
+use Rattle.model_walk.specs.Search.{Status, undecided, infeasible, solved, Search, depth}
+use Rattle.model_walk.specs.Conflict.{backUp}
+use Rattle.model_problems.specs.Ranges.{maxPropagations}
+use Rattle.model_walk.specs.Validity.{statusValid, withinLimit}
+use Rattle.model_walk.specs.Step.{withStatus}
+use Rattle.model_walk.specs.Exclude.{Excluded, unsolved, unchanged, excludeAt, excludeBy, exclude, excludeWithin}
 use Rattle.validity.specs.Valid.{Valid}
 use Rattle.validity.proofs.States.{core-fits, sizes-fit}
 use Rattle.validity.proofs.Conflicts.{back-fits}

@@ -8,12 +8,12 @@ use mathlib.Core.Path.{_≡_, sym, ap, ap₂, _∙_}
 use lib.Dec.{T, leb, leb→le, le→leb, eqb→eq}
 use lib.ListN.{length, drop, length-append, length-drop}
 use lib.Seq.{drop-append-le}
-use Rattle.model.specs.Lists.{tab, anyOf}
-use Rattle.model.specs.Ranges.{maxCuts}
-use Rattle.model.specs.Constraint.{Constraint, Box, falsified, equal}
-use Rattle.model.specs.Search.{Reason, domain, decision, flipped, constraint, Reasons, Level, Core, levels, kept, dropped, nextNumber, newest, keep}
-use Rattle.model.specs.Conflict.{firstEqual}
-use Rattle.model.specs.Validity.{cutNumber, reasonValid, reasonsValid, falsifies}
+use Rattle.model_problems.specs.Lists.{tab, anyOf}
+use Rattle.model_problems.specs.Ranges.{maxCuts}
+use Rattle.model_problems.specs.Constraint.{Constraint, Box, falsified, equal}
+use Rattle.model_walk.specs.Search.{Reason, domain, decision, flipped, constraint, Reasons, Level, Core, levels, kept, dropped, nextNumber, newest, keep}
+use Rattle.model_walk.specs.Conflict.{firstEqual}
+use Rattle.model_walk.specs.Validity.{cutNumber, reasonValid, reasonsValid, falsifies}
 use Rattle.integer.specs.Tests.{and-in, and-left, and-right, or-left, or-right}
 use Rattle.lists.proofs.Bools.{true-of, T-of}
 use Rattle.lists.proofs.Tab.{length-tab, tab-drop, tab-more, tab-shift}

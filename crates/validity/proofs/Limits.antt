@@ -7,11 +7,11 @@ use mathlib.Core.Path.{_≡_}
 use lib.Dec.{T}
 use lib.IntN.{ℤ, pos, negℤ}
 use lib.Signed.{leZ}
-use Rattle.model.specs.Lists.{all, allOf, allPairs}
-use Rattle.model.specs.Ranges.{maxBound, within}
-use Rattle.model.specs.Constraint.{Bounds, Box, equalℤ, noneOrFromTwo}
-use Rattle.model.specs.Threshold.{allowed, thresholdFits, isThreshold}
-use Rattle.model.specs.Problem.{boundsInRange}
+use Rattle.model_problems.specs.Lists.{all, allOf, allPairs}
+use Rattle.model_problems.specs.Ranges.{maxBound, within}
+use Rattle.model_problems.specs.Constraint.{Bounds, Box, equalℤ, noneOrFromTwo}
+use Rattle.model_problems.specs.Threshold.{allowed, thresholdFits, isThreshold}
+use Rattle.model_problems.specs.Problem.{boundsInRange}
 use Rattle.integer.specs.Parts.{le-in, le-out, lt-in, eq-in}
 use Rattle.integer.specs.Order.{≤-or-<}
 use Rattle.integer.specs.Tests.{and-in, and-left, and-right, or-left, or-right, or-out}

@@ -11,11 +11,11 @@ use lib.IntN.{ℤ, pos, negsuc, negℤ, _+ℤ_, _-ℤ_, _*ℤ_}
 use lib.ListN.{getD, drop, length, length-drop}
 use lib.Seq.{drop-cons}
 use lib.Signed.{ltZ}
-use Rattle.model.specs.Lists.{orElse, withDefault}
-use Rattle.model.specs.Constraint.{Constraint, Box, modulus, noBounds, lowerAt, upperAt, term, terms, activity, falsifiedBy, falsified, impliedLower, impliedUpper}
-use Rattle.model.specs.File.{noConstraint}
-use Rattle.model.specs.Move.{Move, conflict, newLower, newUpper, decide, finish, firstFalsified, improvementAt, improvementFrom, improvementBy, firstImprovement, firstOpen, nextMove}
-use Rattle.model.specs.Points.{Point, Inside, dot, value, Meets}
+use Rattle.model_problems.specs.Lists.{orElse, withDefault}
+use Rattle.model_problems.specs.Constraint.{Constraint, Box, modulus, noBounds, lowerAt, upperAt, term, terms, activity, falsifiedBy, falsified, impliedLower, impliedUpper}
+use Rattle.model_files.specs.File.{noConstraint}
+use Rattle.model_walk.specs.Move.{Move, conflict, newLower, newUpper, decide, finish, firstFalsified, improvementAt, improvementFrom, improvementBy, firstImprovement, firstOpen, nextMove}
+use Rattle.model_problems.specs.Points.{Point, Inside, dot, value, Meets}
 use Rattle.integer.specs.Parts.{_⊑_, _⊏_, add-parts, sub-parts, mul-parts, neg-up, neg-down, le-in, lt-in, nlt-in}
 use Rattle.integer.specs.Rounding.{floor-max, ceil-min}
 use Rattle.validity.proofs.Boxes.{Ordered, Fixed, FirstOpen}

@@ -5,10 +5,10 @@ use mathlib.Core.List.{append-nil}
 use mathlib.Core.Option.{Option, none, some}
 use mathlib.Core.Path.{_≡_, refl, _∙_}
 use lib.ListN.{length-append}
-use Rattle.model.specs.Search.{Core, Status, undecided, infeasible, solved, Search}
-use Rattle.model.specs.Move.{descend}
-use Rattle.model.specs.Step.{Verdict, goOn, noSolution, outOfBudget, solution, Outcome, blockIn, solvedBy, budgetSpent, counted, endedAt, ended, again, stepBy, step, continue, runFor, withoutBlock, run}
-use Rattle.model.specs.Trace.{Trace, withBlocks, lastStep, advanced, advance}
+use Rattle.model_walk.specs.Search.{Core, Status, undecided, infeasible, solved, Search}
+use Rattle.model_walk.specs.Move.{descend}
+use Rattle.model_walk.specs.Step.{Verdict, goOn, noSolution, outOfBudget, solution, Outcome, blockIn, solvedBy, budgetSpent, counted, endedAt, ended, again, stepBy, step, continue, runFor, withoutBlock, run}
+use Rattle.model_walk.specs.Trace.{Trace, withBlocks, lastStep, advanced, advance}
 use Rattle.validity.specs.Valid.{Valid}
 use Rattle.validity.proofs.Steps.{spent-or-counted, step-valid, Counted, step-counted, run-ends}
 

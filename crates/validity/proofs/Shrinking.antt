@@ -3,9 +3,9 @@ use Prim.Native.Nat.{ℕ, _<_}
 use native.Mathlib.Omega.{arith}
 use mathlib.Core.List.{List}
 use lib.IntN.{ℤ}
-use Rattle.model.specs.Constraint.{Constraint, Box, lowerAt, upperAt, setLower, setUpper}
-use Rattle.model.specs.Threshold.{thresholdAt, lifted, sunk}
-use Rattle.model.specs.Move.{slack}
+use Rattle.model_problems.specs.Constraint.{Constraint, Box, lowerAt, upperAt, setLower, setUpper}
+use Rattle.model_problems.specs.Threshold.{thresholdAt, lifted, sunk}
+use Rattle.model_walk.specs.Move.{slack}
 use Rattle.validity.proofs.Thresholds.{lifts, sinks, Outside, outside-at, outside-set}
 use Rattle.validity.proofs.Boxes.{Ordered, Nested, set-lower-nested, set-upper-nested, set-lower-ordered, set-upper-ordered, set-lower-slack, set-upper-slack}
 use Rattle.validity.proofs.Moves.{Raises, Lowers}

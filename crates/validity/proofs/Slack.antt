@@ -5,11 +5,11 @@ use mathlib.Core.List.{[], _∷_}
 use lib.Dec.{T}
 use lib.IntN.{negℤ, natAbs, _-ℤ_}
 use lib.ListN.{length}
-use Rattle.model.specs.Lists.{all, allOf}
-use Rattle.model.specs.Ranges.{within, maxVariables, maxBound, maxSlack}
-use Rattle.model.specs.Constraint.{Bounds, Box}
-use Rattle.model.specs.Problem.{boundsInRange}
-use Rattle.model.specs.Move.{slack}
+use Rattle.model_problems.specs.Lists.{all, allOf}
+use Rattle.model_problems.specs.Ranges.{within, maxVariables, maxBound, maxSlack}
+use Rattle.model_problems.specs.Constraint.{Bounds, Box}
+use Rattle.model_problems.specs.Problem.{boundsInRange}
+use Rattle.model_walk.specs.Move.{slack}
 use Rattle.integer.specs.Size.{abs-add, abs-neg, between-in}
 use Rattle.integer.specs.Tests.{and-left, and-right}
 use Rattle.validity.proofs.Boxes.{Ordered, Nested, gap-parts}

@@ -9,13 +9,13 @@ use lib.IntN.{ℤ}
 use lib.ListN.{set, length, length-set}
 use lib.Seq.{getD-set-same}
 use mir.Facts.{and-yes, yes-and}
-use Rattle.model.specs.Lists.{tab, allOf}
-use Rattle.model.specs.Ranges.{maxVariables, maxConstraints, maxCuts, maxBudget}
-use Rattle.model.specs.Constraint.{Constraint, Bounds, Box, noBounds, lowerAt, upperAt, setUpper, isInequality, inRange, divisorInRange}
-use Rattle.model.specs.Threshold.{isThreshold}
-use Rattle.model.specs.Problem.{boundsInRange}
-use Rattle.model.specs.Search.{constraint, Reasons, Level, Core, Search, reasonsAt, setLowerReason, setUpperReason, depth, levels, withLevels, withDeepest, kept, dropped, numberAt, holdLower, holdUpper, raiseLower, lowerUpper, decideAt}
-use Rattle.model.specs.Validity.{scalarsValid, constraintsValid, divisorsValid, cutNumber, numbersValid, reasonValid, reasonsValid, levelValid, levelsValid, boxInside, decisionValid, nestedValid, statusValid, levelAllowed, thresholdsValid, valid, levelShaped, constraintShaped, shaped}
+use Rattle.model_problems.specs.Lists.{tab, allOf}
+use Rattle.model_problems.specs.Ranges.{maxVariables, maxConstraints, maxCuts, maxBudget}
+use Rattle.model_problems.specs.Constraint.{Constraint, Bounds, Box, noBounds, lowerAt, upperAt, setUpper, isInequality, inRange, divisorInRange}
+use Rattle.model_problems.specs.Threshold.{isThreshold}
+use Rattle.model_problems.specs.Problem.{boundsInRange}
+use Rattle.model_walk.specs.Search.{constraint, Reasons, Level, Core, Search, reasonsAt, setLowerReason, setUpperReason, depth, levels, withLevels, withDeepest, kept, dropped, numberAt, holdLower, holdUpper, raiseLower, lowerUpper, decideAt}
+use Rattle.model_walk.specs.Validity.{scalarsValid, constraintsValid, divisorsValid, cutNumber, numbersValid, reasonValid, reasonsValid, levelValid, levelsValid, boxInside, decisionValid, nestedValid, statusValid, levelAllowed, thresholdsValid, valid, levelShaped, constraintShaped, shaped}
 use Rattle.integer.specs.Parts.{_⊏_, lt-in, lt-out, eq-in}
 use Rattle.lists.proofs.Bools.{true-of, T-of}
 use Rattle.lists.proofs.AllOf.{allOf-set}

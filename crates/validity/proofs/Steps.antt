@@ -9,15 +9,15 @@ use lib.Dec.{T, eqb, eqb→eq, eqb-refl}
 use lib.IntN.{pos}
 use lib.ListN.{length, getD, drop, replicate, length-replicate}
 use lib.Signed.{ltZ}
-use Rattle.model.specs.Lists.{allOf, anyOf}
-use Rattle.model.specs.Ranges.{within, maxCoefficient}
-use Rattle.model.specs.Constraint.{Constraint, Box, modulus, isOpen, falsified, inRange}
-use Rattle.model.specs.File.{noConstraint}
-use Rattle.model.specs.Search.{Level, Core, Status, undecided, infeasible, solved, Search, depth, levels, withLevels, withDeepest, kept}
-use Rattle.model.specs.Move.{nextMove, follow, slack, descend, propagationsBy, propagationsIn}
-use Rattle.model.specs.Conflict.{Analysis, Numbered, Conflict, analyze, numbered, backjumpLevel, backFrom, backUp, settled, conflictOf, learning, nothingLearned, noLearning, conflictBy, atConflict}
-use Rattle.model.specs.Validity.{falsifies, anyFalsified, outermost, statusValid}
-use Rattle.model.specs.Step.{Verdict, goOn, noSolution, outOfBudget, solution, Outcome, blockIn, propagated, solvedBy, budgetSpent, statusAt, counted, onConflict, endedAt, ended, again, stepBy, step, continue, runFor, withoutBlock, run}
+use Rattle.model_problems.specs.Lists.{allOf, anyOf}
+use Rattle.model_problems.specs.Ranges.{within, maxCoefficient}
+use Rattle.model_problems.specs.Constraint.{Constraint, Box, modulus, isOpen, falsified, inRange}
+use Rattle.model_files.specs.File.{noConstraint}
+use Rattle.model_walk.specs.Search.{Level, Core, Status, undecided, infeasible, solved, Search, depth, levels, withLevels, withDeepest, kept}
+use Rattle.model_walk.specs.Move.{nextMove, follow, slack, descend, propagationsBy, propagationsIn}
+use Rattle.model_walk.specs.Conflict.{Analysis, Numbered, Conflict, analyze, numbered, backjumpLevel, backFrom, backUp, settled, conflictOf, learning, nothingLearned, noLearning, conflictBy, atConflict}
+use Rattle.model_walk.specs.Validity.{falsifies, anyFalsified, outermost, statusValid}
+use Rattle.model_walk.specs.Step.{Verdict, goOn, noSolution, outOfBudget, solution, Outcome, blockIn, propagated, solvedBy, budgetSpent, statusAt, counted, onConflict, endedAt, ended, again, stepBy, step, continue, runFor, withoutBlock, run}
 use Rattle.integer.specs.Parts.{nlt-out}
 use Rattle.integer.specs.Tests.{and-in}
 use Rattle.lists.proofs.Bools.{true-of, T-of}

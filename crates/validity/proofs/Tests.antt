@@ -9,12 +9,12 @@ use lib.IntN.{ℤ, pos, negsuc, negℤ}
 use lib.Signed.{leZ}
 use lib.ListN.{length, length-append}
 use mir.Facts.{and-yes, yes-and}
-use Rattle.model.specs.Lists.{allOf, allPairs}
-use Rattle.model.specs.Ranges.{maxCuts, maxBound, within}
-use Rattle.model.specs.Constraint.{Constraint, Box, lowerAt, upperAt, equalℤ, equal}
-use Rattle.model.specs.Problem.{boundsInRange}
-use Rattle.model.specs.Search.{constraint, Reasons, reasonsAt, Core, kept, dropped, numberAt}
-use Rattle.model.specs.Validity.{reasonValid, reasonsValid, inside, boxInside}
+use Rattle.model_problems.specs.Lists.{allOf, allPairs}
+use Rattle.model_problems.specs.Ranges.{maxCuts, maxBound, within}
+use Rattle.model_problems.specs.Constraint.{Constraint, Box, lowerAt, upperAt, equalℤ, equal}
+use Rattle.model_problems.specs.Problem.{boundsInRange}
+use Rattle.model_walk.specs.Search.{constraint, Reasons, reasonsAt, Core, kept, dropped, numberAt}
+use Rattle.model_walk.specs.Validity.{reasonValid, reasonsValid, inside, boxInside}
 use Rattle.integer.specs.Parts.{_⊑_, le-in, le-out, eq-out}
 use Rattle.lists.proofs.Bools.{true-of, T-of}
 use Rattle.lists.proofs.AllPairs.{pairs-equal, pairs-refl}

@@ -9,10 +9,10 @@ use lib.Dec.{T}
 use lib.IntN.{ℤ, pos, sucℤ}
 use lib.Signed.{leZ, ltZ}
 use lib.ListN.{getD, set}
-use Rattle.model.specs.Lists.{allPairs}
-use Rattle.model.specs.Constraint.{Bounds, Box, lowerAt, upperAt}
-use Rattle.model.specs.Threshold.{thresholdAt, inGap, allowed, lifted, sunk, nextValue, outsideGap}
-use Rattle.model.specs.Points.{Point, Allowed}
+use Rattle.model_problems.specs.Lists.{allPairs}
+use Rattle.model_problems.specs.Constraint.{Bounds, Box, lowerAt, upperAt}
+use Rattle.model_problems.specs.Threshold.{thresholdAt, inGap, allowed, lifted, sunk, nextValue, outsideGap}
+use Rattle.model_problems.specs.Points.{Point, Allowed}
 use Rattle.integer.specs.Parts.{_⊑_, _⊏_, suc-parts, le-in, nle-in, nlt-in, lt-in}
 use Rattle.integer.specs.Order.{≤-or-<}
 use Rattle.integer.specs.Tests.{of-true, and-in, and-left, and-right, not-in, not-out, answer}

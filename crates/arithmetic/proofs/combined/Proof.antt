@@ -3,7 +3,7 @@ use borrow.Author.Needs.{needs}
 use lib.Dec.{lit≤, lit<}
 use mathlib.Core.Path.{refl, ap₂, _∙_}
 use denote.Ref.{now}
-use Rattle.model.specs.Constraint.{opposite}
+use Rattle.model_problems.specs.Constraint.{opposite}
 use Rattle.lists.proofs.Bools.{said-yes}
 use Rattle.layout.proofs.Rows.{coefficient-at}
 use Rattle.layout.proofs.Elements.{cell-read}

@@ -2,9 +2,9 @@
 use borrow.Author.Needs.{needs}
 use lib.Dec.{lit≤, lit<}
 use mathlib.Core.Path.{refl}
-use Rattle.model.specs.Lists.{tab, allOf}
-use Rattle.model.specs.Ranges.{within}
-use Rattle.model.specs.Constraint.{inRange}
+use Rattle.model_problems.specs.Lists.{tab, allOf}
+use Rattle.model_problems.specs.Ranges.{within}
+use Rattle.model_problems.specs.Constraint.{inRange}
 use Rattle.layout.specs.Rows.{constraintAt, numberIn, cell}
 use Rattle.arithmetic.proofs.Literal.{literal}
 use Rattle.arithmetic.proofs.lowest_values.Statement.{statement}

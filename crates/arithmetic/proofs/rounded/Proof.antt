@@ -1,7 +1,7 @@
 -- `arithmetic::rounded` meets its contract: a constraint in range may be rounded. Assumes nothing.
 use borrow.Author.Needs.{needs}
 use lib.Dec.{lit≤}
-use Rattle.linear.proofs.Sizes.{range-sized}
+use Rattle.derivation.proofs.Sizes.{range-sized}
 use Rattle.lists.proofs.Bools.{said-yes}
 use Rattle.arithmetic.proofs.Literal.{combined-sized}
 use Rattle.arithmetic.proofs.rounded.Statement.{statement}

@@ -8,7 +8,7 @@ use lib.ListN.{replicate}
 use mir.Facts.{toZ-ofZ}
 use mir.Syntax.{w64}
 use mir.Val.{toZ, ofZ}
-use Rattle.model.specs.Ranges.{maxVariables}
+use Rattle.model_problems.specs.Ranges.{maxVariables}
 use Rattle.lists.proofs.Tab.{getD-const}
 use Rattle.layout.specs.Rows.{rowLength, dividedAt, rowAt}
 use Rattle.conflict.proofs.Dismissing.{zero-at, zeros-fit, divided-same, copy-fits}

@@ -3,7 +3,7 @@ use native.Mathlib.Omega.{arith}
 use native.Mathlib.Nat.{mod-lt}
 use mathlib.Core.Logic.{inl, inr}
 use mathlib.Core.Path.{_≡_, refl, sym, _∙_}
-use Rattle.model.specs.Division.{gcd}
+use Rattle.model_problems.specs.Division.{gcd}
 use Rattle.integer.specs.Divisor.{gcd-step, gcd-zero, gcd-small}
 use Rattle.integer.proofs.gcd_above.Statement.{statement}
 use Rattle.integer.proofs.gcd_above.Tie as tie

@@ -2,7 +2,7 @@
 use mathlib.Core.Path.{ap, sym, _∙_}
 use mir.Syntax.{w64}
 use mir.Val.{ofZ}
-use Rattle.model.specs.Constraint.{equalℤ}
+use Rattle.model_problems.specs.Constraint.{equalℤ}
 use Rattle.integer.specs.Tests.{same}
 use Rattle.layout.proofs.Tests.{equal-refl, equal-not}
 use Rattle.layout.proofs.is_same.Statement.{statement}

@@ -5,7 +5,7 @@ use lib.Dec.{lit<}
 use lib.IntN.{pos}
 use mir.Syntax.{w64}
 use mir.Val.{ofZ}
-use Rattle.model.specs.Constraint.{rounded}
+use Rattle.model_problems.specs.Constraint.{rounded}
 use Rattle.integer.specs.Size.{size, fits}
 use Rattle.integer.specs.Tests.{same}
 use Rattle.layout.specs.Rows.{numberIn, rowAt}

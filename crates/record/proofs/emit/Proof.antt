@@ -5,7 +5,7 @@ use native.Mathlib.Omega.{arith}
 use mathlib.Core.Bool.{true}
 use mathlib.Core.Path.{_≡_}
 use lib.ListN.{length}
-use Rattle.model.specs.Bytes.{blockLength}
+use Rattle.model_files.specs.Bytes.{blockLength}
 use Rattle.record.proofs.Emitting.{left-alone, part-length, part-written}
 use Rattle.record.proofs.emit.Statement.{statement}
 use Rattle.record.proofs.emit.Tie as tie

@@ -2,8 +2,8 @@ use borrow.Author.Needs.{needs}
 use Prim.Native.Nat.{_+_, _*_, _-_, _≤_}
 use mathlib.Core.Path.{_≡_}
 use lib.ListN.{length}
-use Rattle.model.specs.Ranges.{maxVariables}
-use Rattle.model.specs.Bytes.{blockLength}
+use Rattle.model_problems.specs.Ranges.{maxVariables}
+use Rattle.model_files.specs.Bytes.{blockLength}
 use Rattle.block.specs.Placed.{Placed}
 use Rattle.block.proofs.Placing.{none-placed}
 use Rattle.record.specs.Written.{usedPlace, usedOf}

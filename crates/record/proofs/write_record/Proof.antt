@@ -1,6 +1,6 @@
 use borrow.Author.Needs.{needs}
 use native.Mathlib.Omega.{arith}
-use Rattle.model.specs.Journal.{recordBytes}
+use Rattle.model_files.specs.Journal.{recordBytes}
 use Rattle.block.proofs.Sealing.{sealed-content}
 use Rattle.record.proofs.write_record.Statement.{statement}
 use Rattle.record.proofs.write_record.Tie as tie

@@ -3,7 +3,7 @@ use native.Mathlib.Omega.{arith}
 use mathlib.Core.Bool.{true}
 use mathlib.Core.Path.{_≡_}
 use borrow.Author.Needs.{needs}
-use Rattle.model.specs.Validity.{admitted}
+use Rattle.model_walk.specs.Validity.{admitted}
 use Rattle.lists.proofs.Bools.{said-no, said-yes}
 use Rattle.state.specs.View.{view}
 use Rattle.search.proofs.Showing.{valid-view}

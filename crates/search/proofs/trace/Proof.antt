@@ -3,10 +3,10 @@ use borrow.Author.Needs.{needs}
 use native.Mathlib.Omega.{arith}
 use mathlib.Core.Bool.{true}
 use mathlib.Core.Path.{_≡_, refl}
-use Rattle.model.specs.Validity.{admitted}
+use Rattle.model_walk.specs.Validity.{admitted}
 use Rattle.lists.proofs.Bools.{said-no, said-yes}
 use Rattle.state.specs.View.{view}
-use Rattle.search.proofs.Proceeding.{after-sizes}
+use Rattle.answers.proofs.Proceeding.{after-sizes}
 use Rattle.search.proofs.Showing.{valid-view, few-view, trace-shown, trace-refused}
 use Rattle.search.proofs.trace.Statement.{statement}
 use Rattle.search.proofs.trace.Tie as tie

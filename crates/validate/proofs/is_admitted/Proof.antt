@@ -1,9 +1,9 @@
 -- `validate::is_admitted` meets its contract: each part of the test in its turn. Assumes nothing.
 use Prim.Native.Nat.{_+_, _-_}
 use Rattle.lists.proofs.Bools.{said-yes}
-use Rattle.model.specs.Constraint.{divisorInRange}
-use Rattle.model.specs.Lists.{allOf}
-use Rattle.model.specs.Validity.{valid}
+use Rattle.model_problems.specs.Constraint.{divisorInRange}
+use Rattle.model_problems.specs.Lists.{allOf}
+use Rattle.model_walk.specs.Validity.{valid}
 use Rattle.state.specs.View.{inputsOf, view}
 use Rattle.state.specs.declared.Search.{Search}
 use Rattle.conditions.proofs.LevelLoops.{level-fits}

@@ -6,8 +6,8 @@ use borrow.Author.Needs.{needs}
 use denote.Ref.{now}
 use lib.IntN.{ℤ}
 use lib.ListN.{getD}
-use Rattle.model.specs.Constraint.{Constraint, coefficientAt}
-use Rattle.model.specs.Conflict.{usedReason}
+use Rattle.model_problems.specs.Constraint.{Constraint, coefficientAt}
+use Rattle.model_walk.specs.Conflict.{usedReason}
 use Rattle.layout.specs.Rows.{constraintAt}
 use Rattle.layout.proofs.Rows.{coefficient-at}
 use Rattle.layout.proofs.Elements.{cell-read}

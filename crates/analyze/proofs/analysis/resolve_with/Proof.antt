@@ -5,8 +5,8 @@ use mathlib.Core.Path.{_≡_, refl, ap₂, sym, _∙_}
 use mathlib.Core.Bool.{true}
 use borrow.Author.Needs.{needs}
 use denote.Ref.{now}
-use Rattle.model.specs.Constraint.{Constraint, coefficientAt, opposite}
-use Rattle.model.specs.Conflict.{Resolved}
+use Rattle.model_problems.specs.Constraint.{Constraint, coefficientAt, opposite}
+use Rattle.model_walk.specs.Conflict.{Resolved}
 use Rattle.lists.proofs.Bools.{true-of, said-no, said-yes}
 use Rattle.layout.specs.Rows.{rowLength, constraintAt, rowAt}
 use Rattle.layout.proofs.Rows.{coefficient-at, row-plain}

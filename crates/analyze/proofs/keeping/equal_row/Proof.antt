@@ -5,8 +5,8 @@ use native.Mathlib.Omega.{arith}
 use mathlib.Core.Path.{_≡_, sym, _∙_}
 use borrow.Author.Needs.{needs}
 use denote.Ref.{now}
-use Rattle.model.specs.Lists.{tab}
-use Rattle.model.specs.Conflict.{firstEqual}
+use Rattle.model_problems.specs.Lists.{tab}
+use Rattle.model_walk.specs.Conflict.{firstEqual}
 use Rattle.layout.specs.Rows.{constraintAt, rowAt}
 use Rattle.analyze.proofs.Numbering.{scan-end, scan-equal, scan-other}
 use Rattle.analyze.proofs.keeping.equal_row.Statement.{statement}

@@ -3,7 +3,7 @@ use Prim.Native.Nat.{_≤_, _-_}
 use mathlib.Core.Path.{_≡_}
 use mathlib.Core.List.{_++_}
 use lib.ListN.{length, drop, replicate}
-use Rattle.model.specs.Bytes.{blockLength}
+use Rattle.model_files.specs.Bytes.{blockLength}
 use Rattle.block.proofs.Sealing.{cleared-more, cleared-all}
 use Rattle.block.proofs.build.clear.Statement.{statement}
 use Rattle.block.proofs.build.clear.Tie as tie

@@ -1,7 +1,7 @@
 use borrow.Author.Needs.{needs}
 use Prim.Native.Nat.{_≤_, _-_}
 use mathlib.Core.Path.{_≡_}
-use Rattle.model.specs.Bytes.{zeroBetween}
+use Rattle.model_files.specs.Bytes.{zeroBetween}
 use Rattle.block.proofs.Checking.{zero-next, zero-fails, zero-all}
 use Rattle.block.proofs.check.is_zero_between.Statement.{statement}
 use Rattle.block.proofs.check.is_zero_between.Tie as tie

@@ -1,5 +1,5 @@
 use borrow.Author.Needs.{needs}
-use Rattle.model.specs.Bytes.{zeroFrom}
+use Rattle.model_files.specs.Bytes.{zeroFrom}
 use Rattle.block.proofs.check.is_zero_from.Statement.{statement}
 use Rattle.block.proofs.check.is_zero_from.Tie as tie
 

@@ -1,8 +1,8 @@
 -- `conditions::constraints::is_any_falsified` meets its contract: no constraint before row j is falsified. Assumes nothing.
 use Prim.Native.Nat.{_-_, _≤_}
 use Rattle.layout.specs.Rows.{boxOf}
-use Rattle.model.specs.Lists.{anyOf, tab}
-use Rattle.model.specs.Validity.{falsifies}
+use Rattle.model_problems.specs.Lists.{anyOf, tab}
+use Rattle.model_walk.specs.Validity.{falsifies}
 use Rattle.state.specs.View.{keptAt}
 use Rattle.conditions.proofs.RowLoops.{clear-end, clear-more, clear-none, falsified-found, row-passed, divisor-passed}
 use mathlib.Core.Bool.{false}

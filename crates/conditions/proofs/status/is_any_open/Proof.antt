@@ -1,8 +1,8 @@
 -- `conditions::status::is_any_open` meets its contract: no variable below i is open. Assumes nothing.
 use Prim.Native.Nat.{_-_, _≤_}
 use Rattle.layout.specs.Rows.{boxOf}
-use Rattle.model.specs.Lists.{anyOf}
-use Rattle.model.specs.Constraint.{isOpen}
+use Rattle.model_problems.specs.Lists.{anyOf}
+use Rattle.model_problems.specs.Constraint.{isOpen}
 use Rattle.conditions.proofs.Marks.{open-end, open-found, open-more, open-none}
 use borrow.Author.Needs.{needs}
 use mathlib.Core.Bool.{false}

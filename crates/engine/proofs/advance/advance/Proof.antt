@@ -10,8 +10,8 @@ mod Backs
 use native.Mathlib.Omega.{arith}
 use mathlib.Core.Path.{refl}
 use Rattle.state.specs.View.{coreOver, coreOf, view}
-use Rattle.engine.proofs.Starting.{view-unmarked, start-counts, view-restored}
-use Rattle.engine.proofs.Striking.{concludes}
+use Rattle.turns.proofs.Starting.{view-unmarked, start-counts, view-restored}
+use Rattle.turns.proofs.Striking.{concludes}
 use Rattle.engine.proofs.advance.advance.Statement.{statement}
 use Rattle.engine.proofs.advance.advance.Tie as tie
 use Rattle.engine.proofs.advance.advance.Proof.Loop.{Inv-loop, μ-loop, start}

@@ -1,5 +1,5 @@
 use borrow.Author.Needs.{needs}
-use Rattle.model.specs.File.{boundsOffset}
+use Rattle.model_files.specs.File.{boundsOffset}
 use Rattle.fields.proofs.offsets.bounds_offset.Statement.{statement}
 use Rattle.fields.proofs.offsets.bounds_offset.Tie as tie
 

@@ -1,5 +1,5 @@
 use borrow.Author.Needs.{needs}
-use Rattle.model.specs.File.{thresholdOffset}
+use Rattle.model_files.specs.File.{thresholdOffset}
 use Rattle.fields.proofs.offsets.threshold_offset.Statement.{statement}
 use Rattle.fields.proofs.offsets.threshold_offset.Tie as tie
 

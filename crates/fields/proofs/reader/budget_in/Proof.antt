@@ -1,5 +1,5 @@
 use borrow.Author.Needs.{needs}
-use Rattle.model.specs.File.{budgetIn}
+use Rattle.model_files.specs.File.{budgetIn}
 use Rattle.fields.proofs.reader.budget_in.Statement.{statement}
 use Rattle.fields.proofs.reader.budget_in.Tie as tie
 

@@ -2,8 +2,8 @@ use Prim.Native.Nat.{_-_, _≤_}
 use mathlib.Core.Bool.{true}
 use mathlib.Core.Path.{_≡_}
 use borrow.Author.Needs.{needs}
-use Rattle.model.specs.File.{checkMatches}
-use Rattle.model.specs.Lists.{tab, all}
+use Rattle.model_files.specs.File.{checkMatches}
+use Rattle.model_problems.specs.Lists.{tab, all}
 use Rattle.lists.proofs.All.{all-none}
 use Rattle.fields.proofs.FileTests.{checks-more, check-fails, checks-end}
 use Rattle.fields.proofs.reader.checks_match.Statement.{statement}

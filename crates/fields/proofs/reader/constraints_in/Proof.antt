@@ -1,5 +1,5 @@
 use borrow.Author.Needs.{needs}
-use Rattle.model.specs.File.{constraintsIn}
+use Rattle.model_files.specs.File.{constraintsIn}
 use Rattle.fields.proofs.reader.constraints_in.Statement.{statement}
 use Rattle.fields.proofs.reader.constraints_in.Tie as tie
 

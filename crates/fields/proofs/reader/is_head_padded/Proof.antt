@@ -1,5 +1,5 @@
 use borrow.Author.Needs.{needs}
-use Rattle.model.specs.File.{thresholdOffset}
+use Rattle.model_files.specs.File.{thresholdOffset}
 use Rattle.fields.proofs.FileTests.{head-before, head-after}
 use Rattle.fields.proofs.reader.is_head_padded.Statement.{statement}
 use Rattle.fields.proofs.reader.is_head_padded.Tie as tie

@@ -2,8 +2,8 @@ use Prim.Native.Nat.{_-_, _≤_}
 use mathlib.Core.Bool.{true}
 use mathlib.Core.Path.{_≡_}
 use borrow.Author.Needs.{needs}
-use Rattle.model.specs.File.{constraintPadded}
-use Rattle.model.specs.Lists.{tab, all}
+use Rattle.model_files.specs.File.{constraintPadded}
+use Rattle.model_problems.specs.Lists.{tab, all}
 use Rattle.lists.proofs.All.{all-none}
 use Rattle.fields.proofs.FileTests.{head-nonzero, padding-end, padding-more, padding-nonzero}
 use Rattle.fields.proofs.reader.padding_zero.Statement.{statement}

@@ -2,7 +2,7 @@ use Prim.Native.Nat.{_-_, _≤_}
 use native.Mathlib.Omega.{arith}
 use mathlib.Core.Path.{_≡_}
 use borrow.Author.Needs.{sfits-of, needs}
-use Rattle.model.specs.File.{thresholdIn}
+use Rattle.model_files.specs.File.{thresholdIn}
 use Rattle.fields.specs.Fields.{room, zeros, filled}
 use Rattle.fields.proofs.Arrays.{threshold-is, filled-none, filled-more, filled-end}
 use Rattle.fields.proofs.reader.thresholds_in.Statement.{statement}

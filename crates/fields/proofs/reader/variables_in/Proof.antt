@@ -1,5 +1,5 @@
 use borrow.Author.Needs.{needs}
-use Rattle.model.specs.File.{variablesIn}
+use Rattle.model_files.specs.File.{variablesIn}
 use Rattle.fields.proofs.reader.variables_in.Statement.{statement}
 use Rattle.fields.proofs.reader.variables_in.Tie as tie
 

@@ -3,9 +3,9 @@ use native.Mathlib.Omega.{arith}
 use mathlib.Core.Path.{_≡_}
 use lib.ListN.{length}
 use borrow.Author.Needs.{sfits-of, needs}
-use Rattle.model.specs.Bytes.{blockLength}
-use Rattle.model.specs.File.{coefficientBytes}
-use Rattle.model.specs.Lists.{parts}
+use Rattle.model_files.specs.Bytes.{blockLength}
+use Rattle.model_files.specs.File.{coefficientBytes}
+use Rattle.model_problems.specs.Lists.{parts}
 use Rattle.layout.specs.Rows.{constraintAt}
 use Rattle.block.proofs.Placing.{none-placed}
 use Rattle.block.specs.Placed.{Placed}

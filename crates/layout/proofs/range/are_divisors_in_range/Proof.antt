@@ -6,8 +6,8 @@ use mathlib.Core.Path.{_≡_}
 use borrow.Author.Needs.{needs}
 use denote.Ref.{now}
 use lib.IntN.{ℤ}
-use Rattle.model.specs.Lists.{tab, allOf}
-use Rattle.model.specs.Constraint.{divisorInRange}
+use Rattle.model_problems.specs.Lists.{tab, allOf}
+use Rattle.model_problems.specs.Constraint.{divisorInRange}
 use Rattle.layout.specs.Rows.{inputAt}
 use Rattle.layout.proofs.Ranges.{divisors-none, divisors-more, divisors-fail, divisors-end}
 use Rattle.layout.proofs.range.are_divisors_in_range.Statement.{statement}

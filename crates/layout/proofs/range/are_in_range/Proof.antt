@@ -1,8 +1,8 @@
 -- `layout::range::are_in_range` meets its contract: the constraints before row j have passed. Assumes nothing.
 use Prim.Native.Nat.{_-_, _≤_}
 use Rattle.layout.specs.Rows.{rowAt}
-use Rattle.model.specs.Constraint.{inRange}
-use Rattle.model.specs.Lists.{allOf, tab}
+use Rattle.model_problems.specs.Constraint.{inRange}
+use Rattle.model_problems.specs.Lists.{allOf, tab}
 use Rattle.layout.proofs.Ranges.{range-end, range-fails, range-more, range-none}
 use borrow.Author.Needs.{needs}
 use mathlib.Core.Bool.{true}

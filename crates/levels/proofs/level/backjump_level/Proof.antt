@@ -18,9 +18,9 @@ use mir.Val.{toZ}
 use mir.Facts.{toZ-ofZ}
 use Rattle.layout.proofs.Elements.{back}
 use Rattle.lists.proofs.Bools.{clash}
-use Rattle.model.specs.Ranges.{maxVariables}
-use Rattle.model.specs.Constraint.{Constraint, falsified}
-use Rattle.model.specs.Conflict.{levelsTested}
+use Rattle.model_problems.specs.Ranges.{maxVariables}
+use Rattle.model_problems.specs.Constraint.{Constraint, falsified}
+use Rattle.model_walk.specs.Conflict.{levelsTested}
 use Rattle.layout.specs.Rows.{dividedAt}
 use Rattle.linear.specs.Ranges.{DivisorFits}
 use Rattle.levels.specs.Mirror.{boxIn}

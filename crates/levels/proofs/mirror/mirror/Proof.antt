@@ -4,7 +4,7 @@ use native.Mathlib.Omega.{arith}
 use mathlib.Core.Path.{_≡_, sym}
 use borrow.Author.Needs.{needs}
 use denote.Ref.{now}
-use Rattle.model.specs.Ranges.{maxVariables}
+use Rattle.model_problems.specs.Ranges.{maxVariables}
 use Rattle.levels.specs.Mirror.{Mirrored}
 use Rattle.levels.proofs.Mirroring.{mirrored-none, mirrored-more}
 use Rattle.levels.proofs.mirror.mirror.Statement.{statement}

@@ -4,7 +4,7 @@ use borrow.Author.Tests.{eq-eqb, ne-eqb}
 use mathlib.Core.Bool.{true}
 use mathlib.Core.Path.{_≡_}
 use lib.Dec.{eqb, ltb}
-use Rattle.model.specs.Ranges.{maxPropagations}
+use Rattle.model_problems.specs.Ranges.{maxPropagations}
 use Rattle.levels.specs.Struck.{lastOf}
 use Rattle.levels.proofs.struck.is_last.Statement.{statement}
 use Rattle.levels.proofs.struck.is_last.Tie as tie

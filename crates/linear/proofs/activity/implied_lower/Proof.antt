@@ -5,7 +5,7 @@ use borrow.Author.Needs.{needs, sfits-of}
 use lib.IntN.{natAbs}
 use mir.Syntax.{w64}
 use mir.Facts.{toZ-ofZ}
-use Rattle.linear.proofs.RoundingLaws.{below-size, lower-is}
+use Rattle.linear.proofs.Quotients.{below-size, lower-is}
 use Rattle.linear.proofs.activity.implied_lower.Statement.{statement}
 use Rattle.linear.proofs.activity.implied_lower.Tie as tie
 

@@ -8,7 +8,7 @@ use mir.Syntax.{w64}
 use mir.Val.{SFits, toZ, ofZ}
 use mir.Facts.{toZ-ofZ}
 use Rattle.integer.specs.Size.{fits, neg-within}
-use Rattle.linear.proofs.RoundingLaws.{above-size, upper-is}
+use Rattle.linear.proofs.Quotients.{above-size, upper-is}
 use Rattle.linear.proofs.activity.implied_upper.Statement.{statement}
 use Rattle.linear.proofs.activity.implied_upper.Tie as tie
 

@@ -8,8 +8,8 @@ use lib.Signed.{_≤ℤ_, _<ℤ_}
 use mir.Syntax.{w64}
 use mir.Val.{SFits, toZ, ofZ}
 use mir.Facts.{toZ-ofZ}
-use Rattle.model.specs.Ranges.{maxCoefficient}
-use Rattle.model.specs.Constraint.{term, impliedUpper, impliedLower}
+use Rattle.model_problems.specs.Ranges.{maxCoefficient}
+use Rattle.model_problems.specs.Constraint.{term, impliedUpper, impliedLower}
 use Rattle.integer.specs.Size.{Within, fits}
 use Rattle.integer.specs.Automatic.{exps, fits!, within! }
 use Rattle.integer.specs.Tests.{ltZ-true, ltZ-false}

@@ -5,7 +5,7 @@ use lib.Dec.{lit<}
 use lib.IntN.{pos}
 use lib.Signed.{ltZ}
 use mir.Facts.{toZ-ofZ}
-use Rattle.model.specs.Constraint.{modulus, falsifiedBy, falsified}
+use Rattle.model_problems.specs.Constraint.{modulus, falsifiedBy, falsified}
 use Rattle.layout.specs.Rows.{constraintAt}
 use Rattle.integer.specs.Size.{fits}
 use Rattle.linear.proofs.activity.is_falsified.Statement.{statement}

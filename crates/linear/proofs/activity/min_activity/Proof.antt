@@ -9,8 +9,8 @@ use denote.Ref.{now}
 use mir.Syntax.{w64}
 use mir.Val.{SFits, toZ}
 use mir.Facts.{toZ-ofZ}
-use Rattle.model.specs.Ranges.{maxCoefficient}
-use Rattle.model.specs.Constraint.{term, activity}
+use Rattle.model_problems.specs.Ranges.{maxCoefficient}
+use Rattle.model_problems.specs.Constraint.{term, activity}
 use Rattle.integer.specs.Size.{Within, weaken, fits, add-within}
 use Rattle.layout.specs.Rows.{numberIn, cell, constraintAt, boundsAt, boxOf}
 use Rattle.linear.specs.Ranges.{widestBound, widestTerm}

@@ -6,7 +6,7 @@ use lib.IntN.{ℤ, _*ℤ_}
 use mir.Syntax.{w64}
 use mir.Val.{SFits}
 use mir.Facts.{toZ-ofZ}
-use Rattle.model.specs.Ranges.{maxCoefficient}
+use Rattle.model_problems.specs.Ranges.{maxCoefficient}
 use Rattle.integer.specs.Size.{Within, fits, mul-within}
 use Rattle.integer.specs.Automatic.{exps, fits!, eq! }
 use Rattle.linear.specs.Ranges.{widestChange}

@@ -1,7 +1,7 @@
 -- `problem::range::constraints_in_range` meets its contract. Assumes nothing.
 use mathlib.Core.Path.{sym, _∙_}
 use borrow.Author.Needs.{needs}
-use Rattle.model.specs.Problem.{constraintsInRange}
+use Rattle.model_problems.specs.Problem.{constraintsInRange}
 use Rattle.layout.proofs.Ranges.{inputs-range}
 use Rattle.problem.specs.View.{problemOf}
 use Rattle.problem.proofs.range.constraints_in_range.Statement.{statement}

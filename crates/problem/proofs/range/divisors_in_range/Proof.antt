@@ -1,6 +1,6 @@
 -- `problem::range::divisors_in_range` meets its contract. Assumes nothing.
 use borrow.Author.Needs.{needs}
-use Rattle.model.specs.Problem.{divisorsInRange}
+use Rattle.model_problems.specs.Problem.{divisorsInRange}
 use Rattle.problem.specs.View.{problemOf}
 use Rattle.problem.proofs.range.divisors_in_range.Statement.{statement}
 use Rattle.problem.proofs.range.divisors_in_range.Tie as tie

@@ -2,8 +2,8 @@ use Prim.Native.Nat.{_-_, _≤_}
 use mathlib.Core.Bool.{true}
 use mathlib.Core.Path.{_≡_}
 use borrow.Author.Needs.{needs}
-use Rattle.model.specs.Lists.{allOf}
-use Rattle.model.specs.Problem.{boundsInRange, domainInRange}
+use Rattle.model_problems.specs.Lists.{allOf}
+use Rattle.model_problems.specs.Problem.{boundsInRange, domainInRange}
 use Rattle.layout.specs.Rows.{boxOf}
 use Rattle.layout.proofs.Ranges.{box-none, box-more, box-fails, box-end}
 use Rattle.problem.specs.View.{problemOf}

@@ -1,6 +1,6 @@
 -- `problem::range::thresholds_in_range` meets its contract. Assumes nothing.
 use borrow.Author.Needs.{needs}
-use Rattle.model.specs.Problem.{thresholdsInRange}
+use Rattle.model_problems.specs.Problem.{thresholdsInRange}
 use Rattle.problem.specs.View.{problemOf}
 use Rattle.problem.proofs.range.thresholds_in_range.Statement.{statement}
 use Rattle.problem.proofs.range.thresholds_in_range.Tie as tie

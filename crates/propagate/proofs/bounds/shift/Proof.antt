@@ -11,7 +11,7 @@ use lib.ListN.{length, set, length-set}
 use lib.Signed.{_≤ℤ_, _<ℤ_}
 use mir.Syntax.{w64}
 use mir.Val.{toZ, ofZ}
-use Rattle.model.specs.Constraint.{Bounds, term}
+use Rattle.model_problems.specs.Constraint.{Bounds, term}
 use Rattle.integer.specs.Size.{Within}
 use Rattle.integer.specs.Tests.{back, ltZ-true, ltZ-false}
 use Rattle.integer.specs.Automatic.{exps, fits!, eq! }

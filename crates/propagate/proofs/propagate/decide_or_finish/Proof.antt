@@ -2,7 +2,7 @@
 use mathlib.Core.Path.{_≡_, refl, ap, sym, _∙_}
 use borrow.Author.Needs.{needs}
 use borrow.Author.Tests.{lt-ltb, le-ltb}
-use Rattle.model.specs.Lists.{withDefault}
+use Rattle.model_problems.specs.Lists.{withDefault}
 use Rattle.propagate.specs.Moves.{stopOf, hitAt}
 use Rattle.propagate.proofs.propagate.decide_or_finish.Statement.{statement}
 use Rattle.propagate.proofs.propagate.decide_or_finish.Tie as tie

@@ -6,8 +6,8 @@ use mathlib.Core.Logic.{⊎-elim}
 use mathlib.Core.Path.{_≡_, refl, ap, sym, _∙_}
 use borrow.Author.Needs.{needs}
 use denote.Ref.{now}
-use Rattle.model.specs.Move.{Move, newLower, newUpper, firstImprovement, nextMove, slack}
-use Rattle.model.specs.Threshold.{lifted, sunk}
+use Rattle.model_walk.specs.Move.{Move, newLower, newUpper, firstImprovement, nextMove, slack}
+use Rattle.model_problems.specs.Threshold.{lifted, sunk}
 use Rattle.layout.specs.Rows.{numberIn, boxOf}
 use Rattle.layout.proofs.Rows.{box-lower, box-upper}
 use Rattle.state.specs.View.{keptCuts, numberFor}
@@ -24,7 +24,8 @@ use mir.Val.{SFits, toZ, ofZ}
 use mathlib.Core.Option.{some}
 use Rattle.propagate.specs.Moves.{foundOf, stopOf}
 use Rattle.propagate.specs.declared.propagate.Found.the-variants.{Conflict, Decide}
-use Rattle.propagate.specs.Divided.{keptOver, Unmentioned, Warned}
+use Rattle.bits.specs.Divided.{Unmentioned}
+use Rattle.propagate.specs.Apart.{keptOver, Warned}
 use Rattle.propagate.specs.Tracked.{Tracked}
 use Rattle.state.specs.Change.{held, raised, lowered}
 use Rattle.propagate.proofs.propagate.propagate.Statement.{statement}
@@ -33,8 +34,8 @@ use Rattle.propagate.proofs.propagate.propagate.Reads as reads
 use Rattle.propagate.proofs.propagate.propagate.Lts as lts
 use Rattle.propagate.proofs.bounds.lower_upper.Reads as lower-upper-reads
 use Rattle.propagate.proofs.bounds.raise_lower.Reads as raise-lower-reads
-use Rattle.propagate.proofs.divided.first_indivisible.Reads as first-indivisible-reads
-use Rattle.propagate.proofs.masks.open_mask.Reads as open-mask-reads
+use Rattle.bits.proofs.divided.first_indivisible.Reads as first-indivisible-reads
+use Rattle.bits.proofs.masks.open_mask.Reads as open-mask-reads
 use Rattle.propagate.proofs.propagate.decide_or_finish.Reads as decide-or-finish-reads
 use Rattle.propagate.proofs.scan.first_improvement.Reads as first-improvement-reads
 

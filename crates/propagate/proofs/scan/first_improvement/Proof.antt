@@ -11,9 +11,9 @@ use lib.Signed.{_≤ℤ_}
 use mir.Facts.{toZ-ofZ}
 use mir.Syntax.{w64}
 use mir.Val.{SFits, toZ, ofZ}
-use Rattle.model.specs.Ranges.{maxVariables}
-use Rattle.model.specs.Lists.{tab}
-use Rattle.model.specs.Move.{Move, firstImprovement}
+use Rattle.model_problems.specs.Ranges.{maxVariables}
+use Rattle.model_problems.specs.Lists.{tab}
+use Rattle.model_walk.specs.Move.{Move, firstImprovement}
 use Rattle.integer.specs.Automatic.{exps, fits!, eq! }
 use Rattle.integer.specs.Order.{≤-trans}
 use Rattle.integer.specs.Tests.{back, leZ-true, ltZ-false}

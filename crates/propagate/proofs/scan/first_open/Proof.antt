@@ -3,7 +3,7 @@ use Prim.Native.Nat.{_≤_, _-_}
 use mathlib.Core.Path.{_≡_}
 use borrow.Author.Needs.{needs, sfits-of}
 use mir.Facts.{toZ-ofZ}
-use Rattle.model.specs.Move.{firstOpen}
+use Rattle.model_walk.specs.Move.{firstOpen}
 use Rattle.layout.specs.Rows.{numberIn, boxOf}
 use Rattle.propagate.proofs.Scans.{openFrom, open-start, open-hit, open-miss, open-end}
 use Rattle.propagate.proofs.scan.first_open.Statement.{statement}

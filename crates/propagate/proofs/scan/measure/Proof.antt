@@ -4,7 +4,7 @@ use native.Mathlib.Omega.{arith}
 use mathlib.Core.Path.{_≡_}
 use denote.Ref.{now}
 use lib.Dec.{lit<}
-use Rattle.model.specs.Constraint.{activity}
+use Rattle.model_problems.specs.Constraint.{activity}
 use Rattle.integer.specs.Tests.{back}
 use Rattle.linear.specs.Ranges.{RowFits, BoxFits}
 use Rattle.layout.specs.Rows.{rowLength, rowAt, boxOf}

@@ -3,8 +3,8 @@ use Prim.Native.Nat.{_-_, _≤_}
 use mathlib.Core.Bool.{true}
 use mathlib.Core.Path.{_≡_}
 use borrow.Author.Needs.{needs}
-use Rattle.model.specs.Lists.{allOf}
-use Rattle.model.specs.Threshold.{isThreshold}
+use Rattle.model_problems.specs.Lists.{allOf}
+use Rattle.model_problems.specs.Threshold.{isThreshold}
 use Rattle.layout.specs.Rows.{thresholdsOf}
 use Rattle.threshold.proofs.Loops.{each-none, each-more, each-end, each-fails}
 use Rattle.threshold.proofs.range.are_thresholds.Statement.{statement}

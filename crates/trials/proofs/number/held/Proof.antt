@@ -5,7 +5,7 @@ use lib.Signed.{_≤ℤ_}
 use mir.Facts.{toZ-ofZ}
 use Rattle.integer.specs.Size.{within}
 use Rattle.integer.specs.Tests.{ltZ-false}
-use Rattle.model.specs.Ranges.{maxCoefficient}
+use Rattle.model_problems.specs.Ranges.{maxCoefficient}
 use Rattle.trials.proofs.number.held.Statement.{statement}
 use Rattle.trials.proofs.number.held.Tie as tie
 

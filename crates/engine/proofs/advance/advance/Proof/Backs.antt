@@ -4,17 +4,17 @@ use native.Mathlib.Omega.{arith}
 use mathlib.Core.Logic.{⊎-elim}
 use mathlib.Core.Path.{_≡_, sym, subst, _∙_}
 use borrow.Author.Needs.{needs}
-use Rattle.model.specs.Move.{slack}
+use Rattle.model_walk.specs.Move.{slack}
 use Rattle.layout.specs.Rows.{boxOf}
 use Rattle.state.specs.Change.{held}
 use Rattle.state.specs.declared.Level.{Level}
-use Rattle.engine.specs.declared.Ending.the-variants.{GoOn}
-use Rattle.engine.proofs.Measures.{stepWeight}
-use Rattle.engine.proofs.Looping.{lighter, running-with, still-open, unsolved}
-use Rattle.engine.proofs.Returning.{Back, flippedTo, returnable, returned-level, carried-back}
-use Rattle.engine.proofs.Striking.{go-from}
-use Rattle.engine.proofs.Leaving.{goes-same}
-use Rattle.engine.proofs.Rounds.{depth-small, ready}
+use Rattle.turns.specs.declared.Ending.the-variants.{GoOn}
+use Rattle.turns.proofs.Measures.{stepWeight}
+use Rattle.turns.proofs.Looping.{lighter, running-with, still-open, unsolved}
+use Rattle.turns.proofs.Returning.{Back, flippedTo, returnable, returned-level, carried-back}
+use Rattle.turns.proofs.Striking.{go-from}
+use Rattle.turns.proofs.Leaving.{goes-same}
+use Rattle.turns.proofs.Rounds.{depth-small, ready}
 use Rattle.engine.proofs.advance.advance.Tie as tie
 use Rattle.engine.proofs.advance.advance.Proof.Loop.{Inv-loop, μ-loop, GoesFrom, start, masked, columned, round, here, going, running, carried, levels-long}
 use Rattle.engine.proofs.advance.advance.Proof.Strikes.{strikes}

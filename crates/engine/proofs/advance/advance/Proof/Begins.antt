@@ -9,19 +9,19 @@ use Rattle.layout.specs.Rows.{rowsLength}
 use Rattle.state.specs.View.{view, statusOf}
 use Rattle.state.specs.Change.{Whole}
 use Rattle.state.proofs.Shape.{elements-kept}
-use Rattle.propagate.specs.Divided.{Everyone}
+use Rattle.bits.specs.Divided.{Everyone}
 use Rattle.propagate.proofs.Steps.{scan-fits}
 use Rattle.propagate.proofs.Tracking.{scan-box}
 use Rattle.propagate.proofs.Warning.{testable, warned}
 use Rattle.backtrack.proofs.Saving.{saved-none}
-use Rattle.engine.specs.declared.Ending.the-variants.{GoOn}
-use Rattle.engine.proofs.Running.{Running}
-use Rattle.engine.proofs.Arms.{exits}
-use Rattle.engine.proofs.Starting.{startOf, start-counts, start-depth, running-starts}
-use Rattle.engine.proofs.Carrying.{tracked-none}
-use Rattle.engine.proofs.Looping.{unsolved}
-use Rattle.engine.proofs.Striking.{started}
-use Rattle.engine.proofs.Rounds.{ready}
+use Rattle.turns.specs.declared.Ending.the-variants.{GoOn}
+use Rattle.turns.proofs.Running.{Running}
+use Rattle.turns.proofs.Arms.{exits}
+use Rattle.turns.proofs.Starting.{startOf, start-counts, start-depth, running-starts}
+use Rattle.turns.proofs.Carrying.{tracked-none}
+use Rattle.turns.proofs.Looping.{unsolved}
+use Rattle.turns.proofs.Striking.{started}
+use Rattle.turns.proofs.Rounds.{ready}
 use Rattle.engine.proofs.advance.advance.Tie as tie
 use Rattle.engine.proofs.advance.advance.Proof.Loop.{Inv-loop, μ-loop}
 

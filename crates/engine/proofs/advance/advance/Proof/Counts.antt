@@ -4,17 +4,17 @@ use native.Mathlib.Omega.{arith}
 use mathlib.Core.Path.{_≡_, ap, _∙_}
 use borrow.Author.Needs.{needs}
 use denote.Ref.{now}
-use Rattle.model.specs.Move.{conflict}
+use Rattle.model_walk.specs.Move.{conflict}
 use Rattle.state.specs.View.{statusOf}
 use Rattle.state.specs.Change.{held}
 use Rattle.propagate.specs.Moves.{stopOf}
-use Rattle.engine.specs.declared.Ending.the-variants.{NoSolution, OutOfBudget}
-use Rattle.engine.proofs.Arms.{at-level, spends}
-use Rattle.engine.proofs.Looping.{ends, unsolved}
-use Rattle.engine.proofs.Striking.{go-on}
-use Rattle.engine.proofs.Rounds.{depth-small, learnable}
-use Rattle.engine.proofs.Concluding.{countable}
-use Rattle.engine.proofs.Counted.{Meets, meets, counted-none}
+use Rattle.turns.specs.declared.Ending.the-variants.{NoSolution, OutOfBudget}
+use Rattle.turns.proofs.Arms.{at-level, spends}
+use Rattle.turns.proofs.Looping.{ends, unsolved}
+use Rattle.turns.proofs.Striking.{go-on}
+use Rattle.turns.proofs.Rounds.{depth-small, learnable}
+use Rattle.turns.proofs.Concluding.{countable}
+use Rattle.turns.proofs.Counted.{Meets, meets, counted-none}
 use Rattle.engine.proofs.advance.advance.Tie as tie
 use Rattle.engine.proofs.advance.advance.Proof.Loop.{Inv-loop, μ-loop, start, round, here, going, running, carried, answered, moved, whole-here, levels-long}
 

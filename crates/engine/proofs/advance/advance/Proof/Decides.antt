@@ -7,7 +7,7 @@ use borrow.Author.Needs.{needs}
 use denote.Ref.{now}
 use lib.IntN.{ℤ}
 use lib.ListN.{length, set}
-use Rattle.model.specs.Move.{decide}
+use Rattle.model_walk.specs.Move.{decide}
 use Rattle.lists.proofs.Bools.{clash}
 use Rattle.layout.specs.Rows.{numberIn}
 use Rattle.state.specs.Change.{held}
@@ -16,12 +16,12 @@ use Rattle.propagate.proofs.Steps.{scan-fits}
 use Rattle.propagate.proofs.Tracking.{scan-box}
 use Rattle.propagate.proofs.Warning.{testable}
 use Rattle.levels.proofs.Mirroring.{mirrored-kept}
-use Rattle.engine.proofs.Running.{Running, running-decides}
-use Rattle.engine.proofs.Carrying.{clear-more}
-use Rattle.engine.proofs.Due.{decided-warned}
-use Rattle.engine.proofs.Looping.{ready-with, running-with}
-use Rattle.engine.proofs.Striking.{go-on}
-use Rattle.engine.proofs.Rounds.{depth-small, ready, countable, decided-here, decide-less, clear-here, gap-free}
+use Rattle.turns.proofs.Running.{Running, running-decides}
+use Rattle.turns.proofs.Carrying.{clear-more}
+use Rattle.turns.proofs.Due.{decided-warned}
+use Rattle.turns.proofs.Looping.{ready-with, running-with}
+use Rattle.turns.proofs.Striking.{go-on}
+use Rattle.turns.proofs.Rounds.{depth-small, ready, countable, decided-here, decide-less, clear-here, gap-free}
 use Rattle.engine.proofs.advance.advance.Tie as tie
 use Rattle.engine.proofs.advance.advance.Proof.Loop.{Inv-loop, μ-loop, start, columned, round, here, going, running, carried, answered, moved, whole-here, levels-long}
 

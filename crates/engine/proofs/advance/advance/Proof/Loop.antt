@@ -7,7 +7,7 @@ use mathlib.Core.Path.{_≡_, _∙_}
 use denote.Ref.{now}
 use lib.IntN.{ℤ}
 use lib.ListN.{length, set, length-set}
-use Rattle.model.specs.Move.{Move, slack}
+use Rattle.model_walk.specs.Move.{Move, slack}
 use Rattle.layout.specs.Rows.{boxOf, thresholdsOf}
 use Rattle.state.specs.View.{levelOf, view, numberFor}
 use Rattle.state.specs.Change.{Whole, held}
@@ -15,15 +15,15 @@ use Rattle.state.specs.declared.Level.{Level}
 use Rattle.state.specs.declared.Status.the-variants.{Undecided}
 use Rattle.propagate.specs.Moves.{stopOf}
 use Rattle.propagate.specs.Propagation.{propagation, propagationOf}
-use Rattle.propagate.specs.Divided.{keptOver}
-use Rattle.engine.proofs.Measures.{stepWeight}
-use Rattle.engine.proofs.Running.{Running, Propagates, coreHere}
-use Rattle.engine.proofs.Carrying.{Carried}
-use Rattle.engine.proofs.Looping.{Looping, weight, whole-with}
-use Rattle.engine.proofs.Starting.{startOf}
-use Rattle.engine.proofs.Striking.{Struck}
-use Rattle.engine.proofs.Leaving.{Goes}
-use Rattle.engine.proofs.Rounds.{propagates}
+use Rattle.propagate.specs.Apart.{keptOver}
+use Rattle.turns.proofs.Measures.{stepWeight}
+use Rattle.turns.proofs.Running.{Running, Propagates, coreHere}
+use Rattle.turns.proofs.Carrying.{Carried}
+use Rattle.turns.proofs.Looping.{Looping, weight, whole-with}
+use Rattle.turns.proofs.Starting.{startOf}
+use Rattle.turns.proofs.Striking.{Struck}
+use Rattle.turns.proofs.Leaving.{Goes}
+use Rattle.turns.proofs.Rounds.{propagates}
 use Rattle.engine.proofs.advance.advance.Tie as tie
 
 abbrev pub Inv-loop : tie.InvT-loop

@@ -6,10 +6,10 @@ use mathlib.Core.Path.{refl, ap, _∙_}
 use borrow.Author.Tests.{ltb-true, ltb-false}
 use lib.Dec.{ltb}
 use Rattle.state.specs.declared.Level.{Level}
-use Rattle.engine.proofs.Measures.{weighs-less}
-use Rattle.engine.proofs.Striking.{go-on}
-use Rattle.engine.proofs.Rounds.{depth-small}
-use Rattle.engine.proofs.Counted.{counted-on, counted-less, mirrored-on}
+use Rattle.turns.proofs.Measures.{weighs-less}
+use Rattle.turns.proofs.Striking.{go-on}
+use Rattle.turns.proofs.Rounds.{depth-small}
+use Rattle.turns.proofs.Counted.{counted-on, counted-less, mirrored-on}
 use Rattle.engine.proofs.advance.advance.Tie as tie
 use Rattle.engine.proofs.advance.advance.Proof.Loop.{Inv-loop, μ-loop, GoesFrom, start, round, here, running, carried}
 use Rattle.engine.proofs.advance.advance.Proof.Counts.{clashed, conflicted, met}

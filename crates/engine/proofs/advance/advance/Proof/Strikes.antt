@@ -5,18 +5,18 @@ use mathlib.Core.List.{[]}
 use mathlib.Core.Path.{_≡_, refl, sym, ap}
 use borrow.Author.Needs.{needs}
 use lib.Seq.{getD-set-same}
-use Rattle.model.specs.Ranges.{maxPropagations}
-use Rattle.model.specs.Move.{finish}
+use Rattle.model_problems.specs.Ranges.{maxPropagations}
+use Rattle.model_walk.specs.Move.{finish}
 use Rattle.lists.proofs.Bools.{clash}
 use Rattle.state.specs.View.{noLevel, statusOf}
 use Rattle.state.specs.declared.Level.{Level}
 use Rattle.propagate.specs.Moves.{stopOf}
 use Rattle.state.proofs.Moved.{rows-stay}
 use Rattle.levels.proofs.Mirroring.{mirrored-stored, mirrored-less}
-use Rattle.engine.proofs.Arms.{at-level, finishes}
-use Rattle.engine.proofs.Looping.{ends}
-use Rattle.engine.proofs.Striking.{last-final, not-last, none-kept, row-fits, go-on, struckTo, struck-out, struck-on, struck-less}
-use Rattle.engine.proofs.Rounds.{depth-small}
+use Rattle.turns.proofs.Arms.{at-level, finishes}
+use Rattle.turns.proofs.Looping.{ends}
+use Rattle.turns.proofs.Striking.{last-final, not-last, none-kept, row-fits, go-on, struckTo, struck-out, struck-on, struck-less}
+use Rattle.turns.proofs.Rounds.{depth-small}
 use Rattle.engine.proofs.advance.advance.Tie as tie
 use Rattle.engine.proofs.advance.advance.Proof.Loop.{Inv-loop, μ-loop, GoesFrom, start, round, here, going, running, carried, moved, levels-long}
 

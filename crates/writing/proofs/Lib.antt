@@ -1,0 +1,3 @@
+-- Laws of writing: the cascade of its errors, and the bytes that are written.
+pub mod WriteCascade
+pub mod Writing
