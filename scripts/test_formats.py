@@ -322,14 +322,14 @@ def test_journal_text():
 
 
 def test_examples():
-    """The stored pictures are those of the stored journals, and README tells the shorter journal."""
+    """The stored pictures are those of the stored journals, and the guide tells the shortest journal."""
     for name in ("none", "blueprint", "passages", "headings", "words"):
         path = ROOT / "examples" / name
         arguments, data = ["--names", str(path.with_suffix(".lp"))], path.with_suffix(".journal").read_bytes()
         assert run("journal.py", *arguments, "--svg", data=data) == (0, path.with_suffix(".svg").read_bytes(), "")
         if name == "none":
             text = run("journal.py", *arguments, data=data)[1].decode()
-            assert "".join("    " + line for line in text.splitlines(True)) in (ROOT / "README.md").read_text()
+            assert "".join("    " + line for line in text.splitlines(True)) in (ROOT / "docs/GUIDE.md").read_text()
 
 
 def some_journal(conflicts):
