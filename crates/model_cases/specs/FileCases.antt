@@ -126,7 +126,7 @@ planQ = problem A-domain (divided 5 (pos 2 ∷ neg 1 ∷ []) (neg 3) ∷ []) 5
 abbrev roundTripQ : Bool
 roundTripQ = isOk (λ (p : Problem). sameProblem p planQ) (readFile fileQ) && sameBytes (fileOf planQ) fileQ
 
--- ---- the errors of reading, on variants of these files: the first that applies in the order 1 to 6, 10, 7
+-- ---- the errors of reading, on variants of these files: the first that applies in the order 1 to 5, 13, 6, 10, 7
 -- 1: the length is no multiple of 512, or under 512
 abbrev torn : Bool
 torn = all (eqb (readError (take 1535 fileA)) 1 ∷ eqb (readError (take 511 fileA)) 1 ∷ eqb (readError []) 1 ∷ [])
