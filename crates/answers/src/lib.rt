@@ -181,7 +181,7 @@ pub fn without_blocks(t: Traced) -> Ran
 }
 
 // A listing's answer: that of a trace after the strikes, without its blocks.
-pub fn listed(t: Traced, struck: usize) -> Listed
+pub fn after_strikes(t: Traced, struck: usize) -> Listed
     ensures { λ r. ⌜ r ≡ listedOf t struck ⌝ }
 {
     let verdict = t.verdict;

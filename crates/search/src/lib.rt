@@ -183,7 +183,7 @@ pub fn list(s: Search, solutions: &mut [i64]) -> Listed
 {
     if !validate::is_admitted(s) {
         let t = answers::refused(s);
-        return answers::listed(t, 0);
+        return answers::after_strikes(t, 0);
     }
     let room = solutions.len() / s.n;
     let turns = s.budget - s.conflicts + 1;
@@ -191,5 +191,5 @@ pub fn list(s: Search, solutions: &mut [i64]) -> Listed
     let a = answers::proceed(s, &mut unused, turns, false, room, solutions);
     let struck = a.struck;
     let t = answers::answer(a);
-    answers::listed(t, struck)
+    answers::after_strikes(t, struck)
 }

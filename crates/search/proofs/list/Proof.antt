@@ -22,11 +22,11 @@ is-admitted-requires c κs = search needs
 refused-requires : tie.Need-refused-requires
 refused-requires c κs = search needs
 
-listed-requires : tie.Need-listed-requires
-listed-requires c κs = search needs
+after-strikes-requires : tie.Need-after-strikes-requires
+after-strikes-requires c κs = search needs
 
 returns : tie.Need-returns
-returns c = rw (c .listed .ensures, c .before .refused .ensures) (list-refused _ _ (said-no (c .before .before .before .is-admitted .ensures) (c .before .before .if1 .taken)))
+returns c = rw (c .after-strikes .ensures, c .before .refused .ensures) (list-refused _ _ (said-no (c .before .before .before .is-admitted .ensures) (c .before .before .if1 .taken)))
 
 div-room : tie.Need-div-room
 div-room c = let z = sizes _ (valid-view _ (tested (c .before))) in omega (arith, z .some)
@@ -49,15 +49,15 @@ answer-requires c κs =
     let z = after-sizes (valid-view _ (tested (c .before .before .before .before .before .before .before))) (c .before .before .proceed .ensures) in
     (z .few, z .shallow)
 
-listed-requires-2 : tie.Need-listed-requires-2
-listed-requires-2 c κs = search needs
+after-strikes-requires-2 : tie.Need-after-strikes-requires-2
+after-strikes-requires-2 c κs = search needs
 
 same-length : tie.Need-same-length
 same-length c = search needs
 
 returns-2 : tie.Need-returns-2
 returns-2 c =
-    rw (c .listed2 .ensures, c .before .answer .ensures)
+    rw (c .after-strikes2 .ensures, c .before .answer .ensures)
     (list-shown _ _ _ _ _ _ (tested (c .before .before .before .before .before .before .before .before .before)) (c .before .before .before .before .proceed .ensures))
 
 pub list-spec : {M : Type 1} → statement M
@@ -66,7 +66,7 @@ list-spec =
     (tie.spec
     is-admitted-requires
     refused-requires
-    listed-requires
+    after-strikes-requires
     returns
     div-room
     sub-turns
@@ -74,6 +74,6 @@ list-spec =
     slice-aggregate-proceed
     proceed-requires
     answer-requires
-    listed-requires-2
+    after-strikes-requires-2
     same-length
     returns-2)
