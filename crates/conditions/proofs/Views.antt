@@ -21,9 +21,9 @@ use Rattle.state.specs.View.{levelsFrom, keptCuts, keptAt, storedNumber, coreOv
 use Rattle.state.specs.declared.Search.{Search}
 use Rattle.state.proofs.Cores.{kept-over, length-levels}
 use Rattle.conditions.specs.Sizes.{sizesValid, numberFrom}
-use Rattle.conditions.specs.Nested.{levelPasses}
+use Rattle.level_conditions.specs.Nested.{levelPasses}
 use Rattle.conditions.proofs.Numbers.{numbersTo}
-use Rattle.conditions.proofs.LevelLoops.{levelsTo, nestedTo}
+use Rattle.level_conditions.proofs.LevelLoops.{levelsTo, nestedTo}
 
 regrouped : (a b c d e : Bool) → (a && (b && (c && (d && e)))) ≡ ((a && (b && (c && (d && true)))) && e)
 regrouped false b c d e = refl

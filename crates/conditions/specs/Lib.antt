@@ -1,4 +1,3 @@
 -- The parts of validity in the terms of the code's arrays.
 pub mod Sizes
-pub mod Nested
 pub mod Marks

@@ -20,11 +20,11 @@ use Rattle.state.specs.View.{levelOf, noLevel, keptCuts, keptAt, statusOf, inpu
 use Rattle.state.specs.declared.Level.{Level}
 use Rattle.state.specs.declared.Search.{Search}
 use Rattle.conditions.specs.Sizes.{sizesValid}
-use Rattle.conditions.specs.Nested.{levelPasses, nestedIn}
+use Rattle.level_conditions.specs.Nested.{levelPasses, nestedIn}
 use Rattle.conditions.specs.Marks.{markValid}
 use Rattle.conditions.proofs.Sizes.{Sized, sized}
 use Rattle.conditions.proofs.Numbers.{numbersTo}
-use Rattle.conditions.proofs.LevelLoops.{level-fits, levelsTo, levels-none, levels-more, levels-fail, nestedTo, nested-none, nested-more, nested-fail}
+use Rattle.level_conditions.proofs.LevelLoops.{level-fits, levelsTo, levels-none, levels-more, levels-fail, nestedTo, nested-none, nested-more, nested-fail}
 use Rattle.conditions.proofs.Marks.{mark-view}
 use Rattle.conditions.proofs.Views.{sizes-view, constraints-view, divisors-view, numbers-view, thresholds-view, levels-view, nested-view}
 

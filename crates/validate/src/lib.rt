@@ -2,7 +2,7 @@
 ghost use mathlib.Core.Path.{_≡_};
 ghost use Rattle.model_walk.specs.Validity.{admitted};
 ghost use Rattle.state.specs.View.{view};
-use conditions::nesting;
+use level_conditions::nesting;
 use conditions::scalars;
 use conditions::status;
 use layout::MAX_PROPAGATIONS;

@@ -6,7 +6,7 @@ use Rattle.model_problems.specs.Lists.{allOf}
 use Rattle.model_walk.specs.Validity.{valid}
 use Rattle.state.specs.View.{inputsOf, view}
 use Rattle.state.specs.declared.Search.{Search}
-use Rattle.conditions.proofs.LevelLoops.{level-fits}
+use Rattle.level_conditions.proofs.LevelLoops.{level-fits}
 use Rattle.conditions.proofs.Numbers.{numbersTo}
 use Rattle.conditions.proofs.Sizes.{Sized}
 use Rattle.validate.proofs.Valid.{Reached, levelTests, first-reached, last-status, limit-left, next-reached, refuse, refuse-constraints, refuse-divisors, refuse-first, refuse-level, refuse-nested, refuse-sizes, refuse-thresholds, rows-left, sizes-passed}

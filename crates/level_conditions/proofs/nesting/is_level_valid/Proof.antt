@@ -1,8 +1,8 @@
--- `conditions::nesting::is_level_valid` meets its contract. Assumes nothing.
-use Rattle.conditions.proofs.LevelLoops.{level-box, level-reasons, level-gaps}
+-- `level_conditions::nesting::is_level_valid` meets its contract. Assumes nothing.
+use Rattle.level_conditions.proofs.LevelLoops.{level-box, level-reasons, level-gaps}
 use borrow.Author.Needs.{needs}
-use Rattle.conditions.proofs.nesting.is_level_valid.Statement.{statement}
-use Rattle.conditions.proofs.nesting.is_level_valid.Tie as tie
+use Rattle.level_conditions.proofs.nesting.is_level_valid.Statement.{statement}
+use Rattle.level_conditions.proofs.nesting.is_level_valid.Tie as tie
 
 is-box-in-range-requires : tie.Need-is-box-in-range-requires
 is-box-in-range-requires c κs = search needs

@@ -1,4 +1,4 @@
--- `conditions::nesting::is_box_in_range` meets its contract: the bounds below i have passed. Assumes nothing.
+-- `level_conditions::nesting::is_box_in_range` meets its contract: the bounds below i have passed. Assumes nothing.
 use Prim.Native.Nat.{_-_, _≤_}
 use Rattle.layout.specs.Rows.{boxOf}
 use Rattle.model_problems.specs.Lists.{allOf}
@@ -7,8 +7,8 @@ use Rattle.layout.proofs.Ranges.{box-end, box-fails, box-more, box-none}
 use borrow.Author.Needs.{needs}
 use mathlib.Core.Bool.{true}
 use mathlib.Core.Path.{_≡_}
-use Rattle.conditions.proofs.nesting.is_box_in_range.Statement.{statement}
-use Rattle.conditions.proofs.nesting.is_box_in_range.Tie as tie
+use Rattle.level_conditions.proofs.nesting.is_box_in_range.Statement.{statement}
+use Rattle.level_conditions.proofs.nesting.is_box_in_range.Tie as tie
 
 abbrev Inv-loop : tie.InvT-loop
 Inv-loop lower upper n i₀ i = (i ≤ n) × (allOf boundsInRange (boxOf i lower upper) ≡ true)

@@ -1,8 +1,8 @@
--- `conditions::nesting::is_decision_valid` meets its contract: each test in its turn. Assumes nothing.
-use Rattle.conditions.proofs.Decision.{decided-lower, decided-past, decided-shut, decided-upper}
+-- `level_conditions::nesting::is_decision_valid` meets its contract: each test in its turn. Assumes nothing.
+use Rattle.level_conditions.proofs.Decision.{decided-lower, decided-past, decided-shut, decided-upper}
 use borrow.Author.Needs.{needs}
-use Rattle.conditions.proofs.nesting.is_decision_valid.Statement.{statement}
-use Rattle.conditions.proofs.nesting.is_decision_valid.Tie as tie
+use Rattle.level_conditions.proofs.nesting.is_decision_valid.Statement.{statement}
+use Rattle.level_conditions.proofs.nesting.is_decision_valid.Tie as tie
 
 returns : tie.Need-returns
 returns c = search (needs, decided-past)

@@ -1,11 +1,11 @@
--- `conditions::nesting::are_reasons_valid` meets its contract: the reasons below i have passed. Assumes nothing.
+-- `level_conditions::nesting::are_reasons_valid` meets its contract: the reasons below i have passed. Assumes nothing.
 use Prim.Native.Nat.{_-_, _≤_}
-use Rattle.conditions.proofs.Reasons.{above-fails, below-fails, reasons-end, reasons-more, reasons-none, reasonsTo}
+use Rattle.level_conditions.proofs.Reasons.{above-fails, below-fails, reasons-end, reasons-more, reasons-none, reasonsTo}
 use borrow.Author.Needs.{needs}
 use mathlib.Core.Bool.{true}
 use mathlib.Core.Path.{_≡_}
-use Rattle.conditions.proofs.nesting.are_reasons_valid.Statement.{statement}
-use Rattle.conditions.proofs.nesting.are_reasons_valid.Tie as tie
+use Rattle.level_conditions.proofs.nesting.are_reasons_valid.Statement.{statement}
+use Rattle.level_conditions.proofs.nesting.are_reasons_valid.Tie as tie
 
 abbrev Inv-loop : tie.InvT-loop
 Inv-loop below above n last i₀ i = (i ≤ n) × (reasonsTo last below above i ≡ true)

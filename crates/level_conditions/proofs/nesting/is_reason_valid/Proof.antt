@@ -1,8 +1,8 @@
--- `conditions::nesting::is_reason_valid` meets its contract. Assumes nothing.
-use Rattle.conditions.proofs.Reasons.{is-decision, is-domain, is-flipped, is-number}
+-- `level_conditions::nesting::is_reason_valid` meets its contract. Assumes nothing.
+use Rattle.level_conditions.proofs.Reasons.{is-decision, is-domain, is-flipped, is-number}
 use borrow.Author.Needs.{needs}
-use Rattle.conditions.proofs.nesting.is_reason_valid.Statement.{statement}
-use Rattle.conditions.proofs.nesting.is_reason_valid.Tie as tie
+use Rattle.level_conditions.proofs.nesting.is_reason_valid.Statement.{statement}
+use Rattle.level_conditions.proofs.nesting.is_reason_valid.Tie as tie
 
 returns : tie.Need-returns
 returns c = search (needs, is-domain)

@@ -10,7 +10,7 @@ ghost use Rattle.model_problems.specs.Problem.{boundsInRange};
 ghost use Rattle.model_walk.specs.Validity.{reasonValid, reasonsValid, inside, boxInside, decisionValid};
 ghost use Rattle.layout.specs.Rows.{boxOf, thresholdsOf};
 ghost use Rattle.state.specs.View.{reasonOf, reasonsIn, levelOf};
-ghost use Rattle.conditions.specs.Nested.{levelPasses, nestedIn};
+ghost use Rattle.level_conditions.specs.Nested.{levelPasses, nestedIn};
 
 fn is_box_in_range<'a>(lower: &'a [i64], upper: &'a [i64], n: usize) -> bool
     requires { ⌜ (n ≤ length (now lower)) × (n ≤ length (now upper)) ⌝ }

@@ -1,8 +1,8 @@
--- `conditions::nesting::is_nested` meets its contract. Assumes nothing.
-use Rattle.conditions.proofs.LevelLoops.{nested-box, nested-decision}
+-- `level_conditions::nesting::is_nested` meets its contract. Assumes nothing.
+use Rattle.level_conditions.proofs.LevelLoops.{nested-box, nested-decision}
 use borrow.Author.Needs.{needs}
-use Rattle.conditions.proofs.nesting.is_nested.Statement.{statement}
-use Rattle.conditions.proofs.nesting.is_nested.Tie as tie
+use Rattle.level_conditions.proofs.nesting.is_nested.Statement.{statement}
+use Rattle.level_conditions.proofs.nesting.is_nested.Tie as tie
 
 is-box-inside-requires : tie.Need-is-box-inside-requires
 is-box-inside-requires c κs = search needs

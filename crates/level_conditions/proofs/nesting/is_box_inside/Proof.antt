@@ -1,13 +1,13 @@
--- `conditions::nesting::is_box_inside` meets its contract: the bounds below i have passed. Assumes nothing.
+-- `level_conditions::nesting::is_box_inside` meets its contract: the bounds below i have passed. Assumes nothing.
 use Prim.Native.Nat.{_-_, _≤_}
 use Rattle.layout.specs.Rows.{boxOf}
 use Rattle.model_walk.specs.Validity.{boxInside}
-use Rattle.conditions.proofs.Inside.{inside-end, inside-fails, inside-more, inside-none}
+use Rattle.level_conditions.proofs.Inside.{inside-end, inside-fails, inside-more, inside-none}
 use borrow.Author.Needs.{needs}
 use mathlib.Core.Bool.{true}
 use mathlib.Core.Path.{_≡_}
-use Rattle.conditions.proofs.nesting.is_box_inside.Statement.{statement}
-use Rattle.conditions.proofs.nesting.is_box_inside.Tie as tie
+use Rattle.level_conditions.proofs.nesting.is_box_inside.Statement.{statement}
+use Rattle.level_conditions.proofs.nesting.is_box_inside.Tie as tie
 
 abbrev Inv-loop : tie.InvT-loop
 Inv-loop lower upper bottom top n i₀ i = (i ≤ n) × (boxInside (boxOf i lower upper) (boxOf i bottom top) ≡ true)

@@ -21,7 +21,7 @@ use Rattle.linear.proofs.Ranges.{box-fits}
 use Rattle.state.specs.Change.{Whole}
 use Rattle.state.specs.View.{reasonsIn, levelOf, noLevel, levelAt, levelsFrom}
 use Rattle.state.specs.declared.Level.{Level}
-use Rattle.conditions.specs.Nested.{levelPasses, nestedIn}
+use Rattle.level_conditions.specs.Nested.{levelPasses, nestedIn}
 
 -- ---- one level: its box, its reasons, then its gaps
 module _ (n last : ℕ) (thresholds : List ℤ) (l : Level) (r : Bool) (t : r ≡ allOf boundsInRange (boxOf n (l .lower) (l .upper))) where

@@ -1,0 +1,2 @@
+-- Levels that pass, and levels inside one another.
+pub mod Nested
