@@ -1,3 +1,2 @@
-// A conflict, document 01's 'dead end': analysis, and keeping the cut.
+// The analysis of a conflict, document 01's 'dead end'.
 pub mod analysis;
-pub mod keeping;

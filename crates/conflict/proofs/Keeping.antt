@@ -16,7 +16,7 @@ use Rattle.lists.proofs.Bools.{lt-or-le}
 use Rattle.lists.proofs.Tab.{length-tab, getD-tab, getD-tab-from}
 use Rattle.layout.specs.Rows.{constraintAt, rowAt}
 use Rattle.state.specs.View.{keptCuts, droppedCuts}
-use Rattle.analyze.specs.Storing.{RowKept}
+use Rattle.cuts.specs.Storing.{RowKept}
 use Rattle.state.specs.Moved.{placeOf, RowsMoved}
 use Rattle.state.proofs.Moved.{place-less, place-more}
 

@@ -28,9 +28,9 @@ use Rattle.state.specs.Change.{held}
 use Rattle.state.specs.declared.Level.{Level}
 use Rattle.state.proofs.Cores.{kept-rows, number-at}
 use Rattle.analyze.specs.Analyzed.{Analyzed, analysisOf}
-use Rattle.analyze.specs.Storing.{RowKept, NumberKept, foundBelow}
+use Rattle.cuts.specs.Storing.{RowKept, NumberKept, foundBelow}
 use Rattle.analyze.specs.declared.analysis.Analysis.{Analysis}
-use Rattle.analyze.proofs.Numbering.{numbered-equal, numbered-kept}
+use Rattle.cuts.proofs.Numbering.{numbered-equal, numbered-kept}
 use Rattle.levels.specs.Mirror.{boxIn, BoundsKept}
 use Rattle.state.proofs.Moved.{rows-stay}
 use Rattle.propagate.proofs.Warning.{kept-plain}

@@ -18,7 +18,7 @@ use Rattle.layout.specs.Rows.{rowLength, constraintAt, rowAt}
 use Rattle.layout.proofs.Rows.{coefficient-at}
 use Rattle.state.specs.View.{keptCuts, storedNumber}
 use Rattle.bits.specs.Masks.{bit, Mentions, Masked}
-use Rattle.analyze.specs.Storing.{RowKept, NumberKept}
+use Rattle.cuts.specs.Storing.{RowKept, NumberKept}
 use Rattle.conflict.proofs.Keeping.{input}
 
 -- a constraint mentions no variable but those of the mask

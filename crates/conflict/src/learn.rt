@@ -1,8 +1,8 @@
 // Learning from a conflict: the cut, its number, and keeping it.
 use analyze::analysis;
-use analyze::keeping::equal_row;
-use analyze::keeping::keep_number;
-use analyze::keeping::keep_row;
+use cuts::keeping::equal_row;
+use cuts::keeping::keep_number;
+use cuts::keeping::keep_row;
 use bits::masks::row_mask;
 use state::kept::kept_count;
 use state::kept::number_of;

@@ -1,9 +1,9 @@
--- `analyze::keeping::keep_row` meets its contract: the cut goes after the others, or into the last place once the oldest has gone. Assumes nothing.
+-- `cuts::keeping::keep_row` meets its contract: the cut goes after the others, or into the last place once the oldest has gone. Assumes nothing.
 use native.Mathlib.Omega.{arith}
 use borrow.Author.Needs.{needs}
-use Rattle.analyze.proofs.Storing.{row-kept, row-kept-full}
-use Rattle.analyze.proofs.keeping.keep_row.Statement.{statement}
-use Rattle.analyze.proofs.keeping.keep_row.Tie as tie
+use Rattle.cuts.proofs.Storing.{row-kept, row-kept-full}
+use Rattle.cuts.proofs.keeping.keep_row.Statement.{statement}
+use Rattle.cuts.proofs.keeping.keep_row.Tie as tie
 
 add-store-row : tie.Need-add-store-row
 add-store-row c = search needs

@@ -1,4 +1,4 @@
--- `analyze::keeping::equal_row` meets its contract: the first equal row is the first from j on. Assumes nothing.
+-- `cuts::keeping::equal_row` meets its contract: the first equal row is the first from j on. Assumes nothing.
 use Prim.Native.Nat.{_≤_, _-_}
 use native.Mathlib.Nat.{sub-zero}
 use native.Mathlib.Omega.{arith}
@@ -8,9 +8,9 @@ use denote.Ref.{now}
 use Rattle.model_problems.specs.Lists.{tab}
 use Rattle.model_walk.specs.Conflict.{firstEqual}
 use Rattle.layout.specs.Rows.{constraintAt, rowAt}
-use Rattle.analyze.proofs.Numbering.{scan-end, scan-equal, scan-other}
-use Rattle.analyze.proofs.keeping.equal_row.Statement.{statement}
-use Rattle.analyze.proofs.keeping.equal_row.Tie as tie
+use Rattle.cuts.proofs.Numbering.{scan-end, scan-equal, scan-other}
+use Rattle.cuts.proofs.keeping.equal_row.Statement.{statement}
+use Rattle.cuts.proofs.keeping.equal_row.Tie as tie
 
 abbrev Inv-loop : tie.InvT-loop
 Inv-loop rows cut n kept j₀ j =

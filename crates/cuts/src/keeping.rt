@@ -11,7 +11,7 @@ ghost use Rattle.model_problems.specs.Lists.{tab};
 ghost use Rattle.model_problems.specs.Ranges.{maxVariables, maxConstraints, maxCuts};
 ghost use Rattle.model_walk.specs.Conflict.{firstEqual};
 ghost use Rattle.layout.specs.Rows.{rowLength, constraintAt, rowAt, maxRows, rowsLength};
-ghost use Rattle.analyze.specs.Storing.{lastCut, Moved, RowKept, NumberKept, foundBelow};
+ghost use Rattle.cuts.specs.Storing.{lastCut, Moved, RowKept, NumberKept, foundBelow};
 
 // The place of the newest cut where all are held.
 const LAST_CUT: usize = MAX_CUTS - 1;

@@ -17,7 +17,7 @@ use Rattle.lists.proofs.Tab.{length-tab, tab-step, tab-end}
 use Rattle.layout.specs.Rows.{constraintAt, rowAt}
 use Rattle.state.specs.View.{keptCuts, coreOver, coreWith}
 use Rattle.state.proofs.Cores.{kept-rows}
-use Rattle.analyze.specs.Storing.{RowKept, NumberKept, foundBelow}
+use Rattle.cuts.specs.Storing.{RowKept, NumberKept, foundBelow}
 
 -- ---- the scan for an equal row: at its end, at one, past one
 module _ (f : ℕ → Constraint) (count i : ℕ) (cut : Constraint) (found : Option ℕ) (e : found ≡ firstEqual i (tab f i (count - i)) cut) where

@@ -1,4 +1,4 @@
--- `analyze::keeping::drop_row` meets its contract: the places from the first cut up to i hold what stood a row further on. Assumes nothing.
+-- `cuts::keeping::drop_row` meets its contract: the places from the first cut up to i hold what stood a row further on. Assumes nothing.
 use Prim.Native.Nat.{_≤_, _-_, _+_, _*_}
 use native.Mathlib.Omega.{arith}
 use mathlib.Core.Path.{_≡_}
@@ -6,10 +6,10 @@ use borrow.Author.Needs.{needs, sfits-of}
 use lib.IntN.{pos}
 use mir.Facts.{toZ-ofZ}
 use Rattle.layout.specs.Rows.{rowLength}
-use Rattle.analyze.specs.Storing.{lastCut, Moved}
-use Rattle.analyze.proofs.Storing.{move-none, move-more}
-use Rattle.analyze.proofs.keeping.drop_row.Statement.{statement}
-use Rattle.analyze.proofs.keeping.drop_row.Tie as tie
+use Rattle.cuts.specs.Storing.{lastCut, Moved}
+use Rattle.cuts.proofs.Storing.{move-none, move-more}
+use Rattle.cuts.proofs.keeping.drop_row.Statement.{statement}
+use Rattle.cuts.proofs.keeping.drop_row.Tie as tie
 
 abbrev Inv-loop : tie.InvT-loop
 Inv-loop rows₀ m end i₀ rows i = (rowLength * m ≤ i) × ((i ≤ end) × Moved (pos 0) rowLength (rowLength * m) i rows₀ rows)

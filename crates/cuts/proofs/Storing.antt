@@ -18,7 +18,7 @@ use Rattle.layout.proofs.Rows.{row-same}
 use Rattle.layout.specs.Copies.{Placed}
 use Rattle.layout.proofs.Placing.{placed-here, placed-before}
 use Rattle.state.specs.View.{keptCuts, storedNumber}
-use Rattle.analyze.specs.Storing.{lastCut, Moved, RowKept, NumberKept}
+use Rattle.cuts.specs.Storing.{lastCut, Moved, RowKept, NumberKept}
 
 -- ---- the loop
 module _ {A : Type 0} (none : A) where

@@ -1,9 +1,9 @@
--- `analyze::keeping::keep_number` meets its contract, as `keep_row` does. Assumes nothing.
+-- `cuts::keeping::keep_number` meets its contract, as `keep_row` does. Assumes nothing.
 use native.Mathlib.Omega.{arith}
 use borrow.Author.Needs.{needs}
-use Rattle.analyze.proofs.Storing.{number-kept, number-kept-full}
-use Rattle.analyze.proofs.keeping.keep_number.Statement.{statement}
-use Rattle.analyze.proofs.keeping.keep_number.Tie as tie
+use Rattle.cuts.proofs.Storing.{number-kept, number-kept-full}
+use Rattle.cuts.proofs.keeping.keep_number.Statement.{statement}
+use Rattle.cuts.proofs.keeping.keep_number.Tie as tie
 
 mul-numbers : tie.Need-mul-numbers
 mul-numbers c = search needs

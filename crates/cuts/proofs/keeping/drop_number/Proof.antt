@@ -1,12 +1,12 @@
--- `analyze::keeping::drop_number` meets its contract: the places below i hold what stood one further on. Assumes nothing.
+-- `cuts::keeping::drop_number` meets its contract: the places below i hold what stood one further on. Assumes nothing.
 use Prim.Native.Nat.{_≤_, _-_}
 use native.Mathlib.Omega.{arith}
 use mathlib.Core.Path.{_≡_, refl}
 use borrow.Author.Needs.{needs}
-use Rattle.analyze.specs.Storing.{lastCut, Moved}
-use Rattle.analyze.proofs.Storing.{move-none, move-more}
-use Rattle.analyze.proofs.keeping.drop_number.Statement.{statement}
-use Rattle.analyze.proofs.keeping.drop_number.Tie as tie
+use Rattle.cuts.specs.Storing.{lastCut, Moved}
+use Rattle.cuts.proofs.Storing.{move-none, move-more}
+use Rattle.cuts.proofs.keeping.drop_number.Statement.{statement}
+use Rattle.cuts.proofs.keeping.drop_number.Tie as tie
 
 abbrev Inv-loop : tie.InvT-loop
 Inv-loop numbers₀ i₀ numbers i = (i ≤ lastCut) × Moved 0 1 0 i numbers₀ numbers

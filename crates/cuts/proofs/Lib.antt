@@ -1,0 +1,3 @@
+-- Laws of kept cuts: stored, and numbered.
+pub mod Storing
+pub mod Numbering

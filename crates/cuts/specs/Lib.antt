@@ -1,0 +1,2 @@
+-- Rows and numbers of cuts that are kept.
+pub mod Storing
