@@ -7,6 +7,7 @@ from script import joined
 # Lent buffers: room for one block, some blocks and some bytes, and as much as there can be; and numbers for solutions.
 LENGTHS = [512, 1536, 1100, 65536, 3000, 16384]
 NUMBERS = [1, 8, 33, 100, 2048, 8192]
+FEW_NUMBERS = 4  # Lists of problems with the most variables have no end: so many of these numbers are for them.
 
 
 @dataclass
@@ -37,7 +38,7 @@ def write_plan(script, name, turn):
         told.listing = joined(script.do("solutions"))
         script.do("back", "lists %d" % NUMBERS[turn % len(NUMBERS)])
     else:
-        script.do("back", "list %d" % NUMBERS[turn % len(NUMBERS)])
+        script.do("back", "list %d" % NUMBERS[turn % FEW_NUMBERS])
     return told
 
 

@@ -8,6 +8,7 @@ from state_view import LIMIT, View, described
 # Lent buffers: none, too little for a block, whole blocks, and some bytes more; and numbers, by variables of the state.
 LENGTHS = [1536, 512, 1023, 0, 1024, 511, 2048, 513, 65536, 1535]
 ROOMS = [(2, 0), (0, 0), (1, 0), (3, 1), (1, -1), (0, 1), (4, -1), (64, 0)]
+MANY_NUMBERS = 400
 JUNK = [2**63 - 1, 2**64 - 3, -1, 2**62, 5]
 
 
@@ -26,7 +27,7 @@ class States:
         """What is lent in this turn."""
         self.turn += 1
         solutions, more = ROOMS[self.turn % len(ROOMS)]
-        return LENGTHS[self.turn % len(LENGTHS)], max(0, min(solutions * self.base.n + more, 8192))
+        return LENGTHS[self.turn % len(LENGTHS)], max(0, min(solutions, MANY_NUMBERS // self.base.n) * self.base.n + more)
 
     def each(self):
         self.script.do("each %d %d" % self.lent())
@@ -49,12 +50,12 @@ class States:
 
     def litter(self):
         """Other numbers where nothing is read: each call, and then the whole way."""
-        for number, calls in zip(JUNK, [["steps"], ["lists 13"], ["traces 1024"], ["step", "litter 7"], ["run"]]):
+        each = "each %d %d" % self.lent()
+        for number, calls in zip(JUNK, [["steps"], ["lists 13"], ["traces 1024"], ["step", "litter 7", each], ["run", each]]):
             self.script.say("%d where nothing is read" % number)
             self.script.do("back", "litter %d" % number)
             self.each()
             self.script.do(*calls)
-            self.each()
 
     def strike(self, base):
         """The state as it is and marked solution, there and with its open variables decided one by one."""
@@ -117,8 +118,8 @@ def write_states(script):
     states = States(script)
     for k, base in enumerate(EVERYTHING):
         states.try_all(base, (LEVELS if k % 2 else NUMBERS) + MARKS + [divided_kinds, reason_kinds])
-    for base in WHOLE_ARRAYS:
-        states.try_all(base, NUMBERS + LEVELS + MARKS)
+    for k, base in enumerate(WHOLE_ARRAYS):
+        states.try_all(base, (NUMBERS if k < 2 else []) + LEVELS + MARKS)
     for base in FURTHER:
         states.try_all(base, [gap_kinds, wide_kinds])
     for base in STRUCK:

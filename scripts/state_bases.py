@@ -36,10 +36,10 @@ def base_files():
     yield "far-b", problem_file(54, [(MAX_BOUND - 2, MAX_BOUND - 1), (1 - MAX_BOUND, 3 - MAX_BOUND), (MAX_BOUND - 3, MAX_BOUND - 1), FAR_DOWN],
                                 equations([3 - MAX_BOUND, 0, 1, -1, -1], [0, 1, 1, -1, -1]) + [divided(6, MAX_BOUND, 0, 1, 1, 1)])
     # More cuts than are kept, and rows for 64 constraints and 64 cuts.
-    yield "cuts", problem_file(300, [(0, 4)] * 11, CUTS)
-    yield "rows", problem_file(300, [(0, 4)] * 11, CUTS + [[-9 - k] + [0] * 10 + [1] for k in range(54)])
-    # Every depth up to the deepest there can be.
-    yield "deep", problem_file(9, [(0, 3)] * 32, [])
+    yield "cuts", problem_file(223, [(0, 4)] * 11, CUTS)
+    yield "rows", problem_file(130, [(0, 4)] * 11, CUTS + [[-9 - k] + [0] * 10 + [1] for k in range(54)])
+    # At most one of 32 variables is 1: every depth up to the deepest there can be.
+    yield "deep", problem_file(9, [(0, 1)] * 32, [[-1] + [1] * 32])
     yield "one", problem_file(9, [(0, 3)], [[0, -1]])
 
 
@@ -71,9 +71,11 @@ EVERYTHING = [
     Base("far-a", STEP * 2, STRIKE),
     Base("far-b", STEP),
     Base("cuts", ["trace 65536", "trace 47616"]),
+    Base("one"),
+    Base("one", ["run"]),
 ]
 # Those at the ends of the arrays.
-WHOLE_ARRAYS = [Base("rows", ["trace 65536"]), Base("deep", ["run"]), Base("deep", ["run"], STRIKE), Base("one")]
+WHOLE_ARRAYS = [Base("rows", ["trace 65536"]), Base("deep", ["run"]), Base("deep", ["run"], STRIKE)]
 # Those with a further variable, with a threshold or far out.
 FURTHER = [Base("equations-a", STEP), Base("solutions-a", STEP, STRIKE), Base("gaps-a"), Base("gaps-a", STEP, STRIKE, STEP * 3, STRIKE, STEP),
            Base("gaps-a", STEP, STRIKE, STEP * 3, STRIKE, STEP * 5), Base("gaps-b", STEP * 2), Base("gaps-b", STEP * 3), Base("gaps-c", STEP),

@@ -14,9 +14,9 @@ def fixed(s):
     return [put for i in range(s.n) if s.is_open(s.depth, i) for put in [("upper", s.depth, i, s.lower(s.depth, i)), ("above", s.depth, i, DOMAIN)]]
 
 
-def met(s, by=0):
-    """Every kept constraint is met at the lower bounds of the deepest level, an inequality with nothing left over, or this much too large."""
-    return [("row", j, 0, s.row(j)[0] - s.value(j, s.depth) + by) for j in range(s.rows)]
+def met(s):
+    """Every kept constraint is met at the lower bounds of the deepest level, one that was not with nothing left over."""
+    return [("row", j, 0, s.row(j)[0] - s.value(j, s.depth)) for j in range(s.rows) if not s.is_met(j, s.depth)]
 
 
 def solved(s):

@@ -46,6 +46,11 @@ class View:
         constant, *coefficients = self.row(j)
         return constant + sum(a * self.lower(d, i) for i, a in enumerate(coefficients))
 
+    def is_met(self, j, d):
+        """Whether it is met at these bounds."""
+        value = self.value(j, d)
+        return value % self.divisor(j) == 0 if self.divisor(j) else value <= 0
+
     def activity(self, j, d):
         constant, *coefficients = self.row(j)
         return constant + sum(a * (self.lower(d, i) if a > 0 else self.upper(d, i)) for i, a in enumerate(coefficients))
