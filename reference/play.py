@@ -208,12 +208,16 @@ class Player:
     # ---- calls on the state
 
     def search_of(self, state):
-        """The search state that these arrays mean, the same one for the same numbers; None where it is not valid."""
+        """The search state that these arrays mean, the same one for the same numbers; None where they cannot hold it."""
         key = packed(state.words())
         if key not in self.searches:
-            search = state.search()
-            self.searches[key] = search if search and valid(search) else None
+            self.searches[key] = state.search()
         return self.searches[key]
+
+    def taken(self):
+        """The search state that a call takes; None where it is not valid."""
+        search = self.search_of(self.state)
+        return search if search and self.calls.once(valid, search) else None
 
     def refused(self, word, counts, data=b""):
         """A call on a state that is not valid: nothing is answered, and nothing changes."""
@@ -226,18 +230,18 @@ class Player:
         return "%s digest %d" % (" ".join(words), self.state_digest(packed(padded(answer.values)) + data))
 
     def step(self):
-        search = self.search_of(self.state)
+        search = self.taken()
         if not search:
             return [self.refused("step", 3, bytes(BLOCK))]
         answer = self.calls.step(search)
         return [self.answered("step", answer, [], packed([answer.record is not None]) + (answer.record or bytes(BLOCK)))]
 
     def run(self):
-        search = self.search_of(self.state)
+        search = self.taken()
         return [self.answered("run", self.calls.run(search), [], b"") if search else self.refused("run", 2)]
 
     def trace(self, length):
-        search, buffer = self.search_of(self.state), bytearray([UNWRITTEN] * length)
+        search, buffer = self.taken(), bytearray([UNWRITTEN] * length)
         if not search:
             return [self.refused("trace", 3, buffer)]
         answer, records = self.calls.trace(search, length // BLOCK)
@@ -245,7 +249,7 @@ class Player:
         return [self.answered("trace", answer, ["blocks %d" % len(records)], buffer)]
 
     def list(self, length):
-        search, buffer = self.search_of(self.state), [UNLISTED] * length
+        search, buffer = self.taken(), [UNLISTED] * length
         if not search:
             return [self.refused("list", 3, packed(buffer))]
         n = len(search.thresholds)
@@ -254,7 +258,7 @@ class Player:
         return [self.answered("list", answer, ["struck %d" % len(struck)], packed(buffer))]
 
     def exclude(self):
-        search = self.search_of(self.state)
+        search = self.taken()
         if not search:
             return ["exclude refused %d same" % INVALID_SEARCH]
         said, after = self.calls.exclude(search)
@@ -279,7 +283,7 @@ class Player:
 
     def traces_of(self, word, room):
         """Traces to the verdict, or to a state that is refused."""
-        journal, goes_on, search = [], True, self.search_of(self.state)
+        journal, goes_on, search = [], True, self.taken()
         if not search:
             return ["%s refused %d" % (word, INVALID_SEARCH)]
         while goes_on and self.calls.once(valid, search):
@@ -293,7 +297,7 @@ class Player:
 
     def lists(self, length):
         """Listings and strikes, as the program `solutions` makes them."""
-        shown, said, search = [], STRUCK, self.search_of(self.state)
+        shown, said, search = [], STRUCK, self.taken()
         if not search:
             return ["lists refused %d" % INVALID_SEARCH]
         n = len(search.thresholds)

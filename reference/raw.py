@@ -5,14 +5,15 @@ call leaves past n, m, the kept cuts and the depth. A script may not come to rea
 """
 from itertools import chain
 
-from digest import signed, unsigned
+from digest import signed
 from files import MAX_CONSTRAINTS, MAX_VARIABLES, Constraint, Problem, sizes_fit
-from search import DECISION, DOMAIN, FLIPPED, INFEASIBLE, KEPT_CUTS, SOLVED, UNDECIDED, Level, Search
+from search import DECISION, DOMAIN, FLIPPED, INFEASIBLE, SOLVED, UNDECIDED, Level, Search
 
 STATUSES = [UNDECIDED, INFEASIBLE, SOLVED]
 REASONS = {0: DOMAIN, 2**64 - 1: DECISION, 2**64 - 2: FLIPPED}
 REASON_NUMBERS = {reason: number for number, reason in REASONS.items()}
 ROW = 1 + MAX_VARIABLES
+MAX_CUTS = 64
 LEVELS = 1 + MAX_VARIABLES
 
 # The arrays and their sizes; a single number has none.
@@ -21,7 +22,7 @@ PROBLEM = {**SIZES, "lower": (MAX_VARIABLES,), "upper": (MAX_VARIABLES,), "row":
            "threshold": (MAX_VARIABLES,)}
 SCALARS = {**SIZES, "conflicts": (), "propagations": (), "made": (), "depth": (), "status": ()}
 BOUNDS = dict.fromkeys(["lower", "upper", "below", "above"], (LEVELS, MAX_VARIABLES))
-STATE = {**SCALARS, "threshold": (MAX_VARIABLES,), "divisor": (MAX_CONSTRAINTS,), "number": (KEPT_CUTS,), "row": (MAX_CONSTRAINTS + KEPT_CUTS, ROW),
+STATE = {**SCALARS, "threshold": (MAX_VARIABLES,), "divisor": (MAX_CONSTRAINTS,), "number": (MAX_CUTS,), "row": (MAX_CONSTRAINTS + MAX_CUTS, ROW),
          **BOUNDS, "decided": (LEVELS,)}
 SIGNED = ["lower", "upper", "row", "divisor", "threshold"]
 
@@ -105,7 +106,7 @@ class RawState(Arrays):
         return self.get("n") <= MAX_VARIABLES and self.get("m") <= MAX_CONSTRAINTS and self.get("depth") < LEVELS
 
     def kept_cuts(self):
-        return min(self.get("made"), KEPT_CUTS)
+        return min(self.get("made"), MAX_CUTS)
 
     def words(self):
         """All that is read, in a fixed order."""

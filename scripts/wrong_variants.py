@@ -199,13 +199,13 @@ VARIANTS = [
     (
         "bounds",
         "lifted(thresholds[i], bound), number",
-        "lifted(thresholds[i], bound), DOMAIN if in_gap(thresholds[i], bound) else number",
+        "lifted(thresholds[i], bound), 'domain' if in_gap(thresholds[i], bound) else number",
         "a lower bound that jumps without its reason",
     ),
     (
         "bounds",
         "sunk(thresholds[i], bound), number",
-        "sunk(thresholds[i], bound), DOMAIN if in_gap(thresholds[i], bound) else number",
+        "sunk(thresholds[i], bound), 'domain' if in_gap(thresholds[i], bound) else number",
         "an upper bound that jumps without its reason",
     ),
     (
