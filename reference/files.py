@@ -19,7 +19,7 @@ MIN_THRESHOLD = 2
 THRESHOLD_OFFSET = 268
 
 # The numbers of errors.
-TRUNCATED, BAD_CHECKSUM, BAD_MAGIC, SIZE_RANGE, DOMAIN_RANGE, COEFFICIENT_RANGE, NONZERO_PADDING = range(1, 8)
+TRUNCATED, BAD_CHECKSUM, BAD_MAGIC, SIZE_RANGE, DOMAIN_RANGE, COEFFICIENT_RANGE, NONZERO_PADDING, SHORT_BUFFER, INVALID_SEARCH = range(1, 10)
 DIVISOR_RANGE = 10
 THRESHOLD_RANGE = 13
 
@@ -145,6 +145,18 @@ def write_problem(problem):
     """The file of a problem whose values are in range."""
     contents = [head_content(problem)] + [constraint_content(c) for c in problem.constraints]
     return b"".join(sealed(content, k) for k, content in enumerate(contents))
+
+
+def write_into(problem, buffer):
+    """Puts a problem's file at the start of a lent buffer, whose other bytes stay: the number of the first error in the order of writing, or 0."""
+    n, m = len(problem.limits), len(problem.constraints)
+    error = problem_error(problem) if sizes_fit(n, m, problem.budget) else SIZE_RANGE
+    if error:
+        return error
+    if len(buffer) < BLOCK * (1 + m):
+        return SHORT_BUFFER
+    buffer[: BLOCK * (1 + m)] = write_problem(problem)
+    return 0
 
 
 def constraint_of(row):

@@ -1,8 +1,9 @@
-"""The search (docs/SPECIFICATION.md, sections 4 to 8 and 10), as literally as Python allows. Variables count from 0 here, constraint numbers from 1."""
+"""The search (docs/SPECIFICATION.md, sections 5 to 8), as literally as Python allows. Variables count from 0 here, constraint numbers from 1."""
 from dataclasses import dataclass, field, replace
-from math import gcd
 
-from files import MAX_BOUND, MAX_COEFFICIENT, MIN_THRESHOLD, Constraint, Record, divisor_fits, in_range, sizes_fit, write_record
+from bounds import constraint_in_range, falsified, first_falsified, first_open, improve, lifted, resolvent, rounded
+from creep import MOVES_BEFORE, creep
+from files import Constraint, Record, write_record
 
 KEPT_CUTS = 64
 MAX_PROPAGATIONS = 2**62
@@ -69,69 +70,6 @@ class Answer:
     state: Search
 
 
-# ---- thresholds
-
-def in_gap(threshold, value):
-    """Between 0 and the threshold, where the variable has no value."""
-    return 1 <= value < threshold
-
-
-def lifted(threshold, value):
-    """What a lower bound that would become this value becomes."""
-    return threshold if in_gap(threshold, value) else value
-
-
-def sunk(threshold, value):
-    """The same of an upper bound."""
-    return 0 if in_gap(threshold, value) else value
-
-
-# ---- constraints and bounds
-
-def ceil_div(z, d):
-    return -(-z // d)
-
-
-def activity(constraint, level):
-    """The minimum activity."""
-    return constraint.constant + sum(a * (level.lower[i] if a > 0 else level.upper[i]) for i, a in constraint.terms)
-
-
-def open_divisor(constraint, level):
-    """The gcd of the divisor and the coefficients of the open variables."""
-    return gcd(constraint.divisor, *(a for i, a in constraint.terms if level.lower[i] < level.upper[i]))
-
-
-def rest(constraint, level):
-    """The constant, and the terms of the variables that have one value."""
-    return constraint.constant + sum(a * level.lower[i] for i, a in constraint.terms if level.lower[i] == level.upper[i])
-
-
-def falsified(constraint, level):
-    if constraint.divisor:
-        return rest(constraint, level) % open_divisor(constraint, level) != 0
-    return activity(constraint, level) > 0
-
-
-def rounded(constraint):
-    h = gcd(*constraint.coefficients)
-    if h == 0 or constraint.divisor:
-        return constraint
-    return Constraint(ceil_div(constraint.constant, h), [a // h for a in constraint.coefficients])
-
-
-def resolvent(f, j, i):
-    a, b = abs(f.coefficients[i]), abs(j.coefficients[i])
-    g = gcd(a, b)
-    s, t = b // g, a // g
-    numbers = [s * x + t * y for x, y in zip(f.coefficients, j.coefficients)]
-    return rounded(Constraint(s * f.constant + t * j.constant, numbers))
-
-
-def constraint_in_range(constraint):
-    return all(in_range(number, MAX_COEFFICIENT) for number in [constraint.constant] + constraint.coefficients)
-
-
 # ---- opening
 
 def open_problem(problem):
@@ -143,35 +81,6 @@ def open_problem(problem):
 
 # ---- moves
 
-def first_falsified(kept, level):
-    """The number of the first falsified constraint, or None."""
-    return next((number for number, constraint in kept if falsified(constraint, level)), None)
-
-
-def improve(number, constraint, level, thresholds):
-    """Sets the first bound that the constraint improves, past the gap; whether there is one. A divisor constraint implies no bound."""
-    if constraint.divisor:
-        return False
-    whole = activity(constraint, level)
-    for i, a in constraint.terms:
-        if a > 0:
-            bound = -(whole - a * level.lower[i]) // a
-            if bound < level.upper[i]:
-                level.upper[i], level.upper_reason[i] = sunk(thresholds[i], bound), number
-                return True
-        else:
-            bound = ceil_div(whole - a * level.upper[i], -a)
-            if bound > level.lower[i]:
-                level.lower[i], level.lower_reason[i] = lifted(thresholds[i], bound), number
-                return True
-    return False
-
-
-def first_open(level):
-    """The first variable with L < U, or None."""
-    return next((i for i, (lower, upper) in enumerate(zip(level.lower, level.upper)) if lower < upper), None)
-
-
 def decide(search, i):
     level = search.levels[-1].copy()
     level.upper[i], level.upper_reason[i], level.decided = level.lower[i], DECISION, i
@@ -180,7 +89,7 @@ def decide(search, i):
 
 def descend(search):
     """Moves 2 and 3 as often as they can be made: the number of a falsified constraint, or None at the solution."""
-    kept = search.kept()
+    kept, moves = search.kept(), 0
     while True:
         level = search.levels[-1]
         number = first_falsified(kept, level)
@@ -188,6 +97,9 @@ def descend(search):
             return number
         if any(improve(number, constraint, level, search.thresholds) for number, constraint in kept):
             search.propagations += 1
+            moves += 1
+            if moves % MOVES_BEFORE == 0:
+                search.propagations += creep(level, kept, search.thresholds)
             continue
         variable = first_open(level)
         if variable is None:
@@ -312,56 +224,3 @@ def exclude(search):
     back_up(after, after.depth)
     after.status = UNDECIDED
     return STRUCK, after
-
-
-# ---- valid states
-
-def reason_valid(reason, last):
-    return reason in (DOMAIN, DECISION, FLIPPED) or 1 <= reason <= last
-
-
-def level_valid(level, last):
-    bounds = all(lower <= upper and in_range(lower, MAX_BOUND) and in_range(upper, MAX_BOUND) for lower, upper in zip(level.lower, level.upper))
-    return bounds and all(reason_valid(reason, last) for reason in level.lower_reason + level.upper_reason)
-
-
-def thresholds_valid(search):
-    """Each is 0 or from 2 to the highest limit, and no bound lies in its gap."""
-    fit = all(threshold == 0 or MIN_THRESHOLD <= threshold <= MAX_BOUND for threshold in search.thresholds)
-    bounds = [side for level in search.levels for side in (level.lower, level.upper)]
-    return fit and not any(in_gap(threshold, value) for side in bounds for threshold, value in zip(search.thresholds, side))
-
-
-def nested(level, outer):
-    """The level inside the one above it, its decision variable open there and at its lower bound here."""
-    n, i = len(outer.lower), level.decided
-    if i is None or not 0 <= i < n:
-        return False
-    inside = all(outer.lower[v] <= level.lower[v] and level.upper[v] <= outer.upper[v] for v in range(n))
-    return inside and outer.lower[i] < outer.upper[i] and level.lower[i] == level.upper[i] == outer.lower[i]
-
-
-def status_valid(search):
-    if search.status == SOLVED:
-        deepest = search.levels[-1]
-        return first_open(deepest) is None and first_falsified(search.kept(), deepest) is None
-    return search.status == UNDECIDED or first_falsified(search.kept(), search.levels[0]) is not None
-
-
-def valid(search):
-    """None of the conditions of error 9 holds. Here n is the length of a level's lists. A step keeps every condition but that of the bounds set."""
-    n, m = len(search.levels[0].lower), len(search.inputs)
-    last = m + search.made
-    if not (sizes_fit(n, m, search.budget) and search.depth <= n and search.made <= search.conflicts <= search.budget):
-        return False
-    if not all(constraint_in_range(constraint) for _, constraint in search.kept()):
-        return False
-    if not all(divisor_fits(constraint.divisor) for constraint in search.inputs):
-        return False
-    if [number for number, _ in search.cuts] != list(range(last - min(search.made, KEPT_CUTS) + 1, last + 1)):
-        return False
-    if not all(level_valid(level, last) for level in search.levels):
-        return False
-    if not all(nested(level, outer) for outer, level in zip(search.levels, search.levels[1:])):
-        return False
-    return status_valid(search) and thresholds_valid(search) and search.propagations <= MAX_PROPAGATIONS

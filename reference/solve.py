@@ -57,12 +57,17 @@ def listing(data):
     except FileError as error:
         yield "refused %d" % error.number
         return
+    yield from solutions(problem, open_problem(problem), lambda search: run(search)[0], exclude)
+
+
+def solutions(problem, search, run_to_verdict, strike):
+    """The lines from the opened state on, by these two calls."""
     yield plan_line(problem)
-    search, struck, said = open_problem(problem), 0, STRUCK
+    struck, said = 0, STRUCK
     while said == STRUCK:
-        answer, _ = run(search)
+        answer = run_to_verdict(search)
         yield verdict_line(answer)
-        said, search = exclude(answer.state)
+        said, search = strike(answer.state)
         struck += said == STRUCK
     if said == ENDED:
         yield ENDED
