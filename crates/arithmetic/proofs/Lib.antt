@@ -1,2 +1,0 @@
--- What the functions that the program calls ask of literal arrays.
-pub mod Literal

@@ -1,2 +1,0 @@
--- Laws of the functions that make files and problems.
-pub mod Values

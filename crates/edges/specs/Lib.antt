@@ -1,2 +1,0 @@
--- What the contracts of `edges` cite.
-pub mod Space
