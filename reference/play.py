@@ -3,7 +3,7 @@
 
     reference/play.py DATA < SCRIPT
 
-DATA is the folder of the plan files that the script loads. docs/TESTS.md has the script language.
+DATA is the folder of the plan files that the script loads. docs/SCRIPTS.md has the script language.
 """
 import sys
 from pathlib import Path
