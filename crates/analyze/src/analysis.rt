@@ -1,12 +1,12 @@
 // Analysis of a 'dead end': F starts as a false kept constraint and is combined, variable by variable, with the constraints that set the bounds
 // which its lowest value uses. The last F is the cut.
+use derivation::resolving::combine_at;
+use derivation::resolving::is_opposite;
+use derivation::rounding::round_into_range;
 use layout::ROW;
 use layout::copy_row;
 use layout::range::is_in_range;
 use linear::activity::is_falsified;
-use derivation::resolving::combine_at;
-use derivation::resolving::is_opposite;
-use derivation::rounding::round_into_range;
 use state::kept::ABSENT;
 use state::kept::position_of;
 ghost use mathlib.Core.Bool.{true, false};

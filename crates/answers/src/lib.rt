@@ -1,10 +1,10 @@
 // The answers of the calls on a search, and turns from any valid state.
-use turns::Advanced;
-use turns::Ending;
 use engine::advance::advance;
 use state::Level;
 use state::Search;
 use state::Status;
+use turns::Advanced;
+use turns::Ending;
 ghost use Prim.Native.Nat.{_<_, _≤_};
 ghost use mathlib.Core.Path.{_≡_};
 ghost use lib.ListN.{getD};

@@ -1,9 +1,9 @@
 // The listing of all solutions by runs and strikes, against plain enumeration.
 use crate::agree::are_blocks_right;
 use crate::agree::budget_of;
-use problem::Problem;
 use answers::Traced;
 use answers::Verdict;
+use problem::Problem;
 use state::Search;
 use trials::compare::counts_same;
 use trials::compare::numbers_same;

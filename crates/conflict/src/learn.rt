@@ -1,9 +1,9 @@
 // Learning from a conflict: the cut, its number, and keeping it.
 use analyze::analysis;
+use bits::masks::row_mask;
 use cuts::keeping::equal_row;
 use cuts::keeping::keep_number;
 use cuts::keeping::keep_row;
-use bits::masks::row_mask;
 use state::kept::kept_count;
 use state::kept::number_of;
 ghost use mathlib.Core.List.{List};

@@ -1,6 +1,6 @@
 // What the programs do with the bytes of a problem file: print its verdict, write its journal, or print its solutions.
-use libc::STDOUT_FILENO;
 use answers::Verdict;
+use libc::STDOUT_FILENO;
 use state::Search;
 ghost use Rattle.io.specs.Counts.{Counts};
 

@@ -2,9 +2,9 @@
 use crate::TEXT_LENGTH;
 use crate::text;
 use crate::told;
-use search::Exclusion;
 use answers::Listed;
 use answers::Verdict;
+use search::Exclusion;
 use state::Search;
 ghost use mathlib.Core.Path.{_≡_};
 ghost use Prim.Native.Nat.{_≤_};

@@ -1,10 +1,10 @@
 // The text of a verdict or a listing, gathered in a buffer that is written out when it is full.
 use crate::told::tell_output;
+use answers::Verdict;
 use libc::STDOUT_FILENO;
 use problem::Answer;
 use report::LONGEST_LINE;
 use search::Exclusion;
-use answers::Verdict;
 ghost use Prim.Native.Nat.{_+_, _≤_};
 ghost use lib.ListN.{length};
 ghost use Rattle.report.specs.Room.{longestLine};

@@ -1,25 +1,25 @@
 // Turns repeated in place: the loop that `step`, `run`, `trace` and `list` share.
-use turns::Advanced;
-use turns::Ending;
-use turns::apart::lesser;
-use turns::apart::put_rows;
-use turns::back::go_back;
-use turns::track::track;
 use backtrack::decide;
+use bits::divided::columns;
+use bits::divided::divided_mask;
+use bits::divided::first_indivisible;
 use conflict::conflict;
 use conflict::is_spent;
 use levels::mirror::keep_bounds;
 use levels::mirror::mirror;
 use levels::struck::is_last;
 use levels::struck::put_values;
-use bits::divided::columns;
-use bits::divided::divided_mask;
-use bits::divided::first_indivisible;
 use propagate::propagate::Found;
 use propagate::propagate::propagate;
 use state::Level;
 use state::Search;
 use state::Status;
+use turns::Advanced;
+use turns::Ending;
+use turns::apart::lesser;
+use turns::apart::put_rows;
+use turns::back::go_back;
+use turns::track::track;
 ghost use Rattle.state.specs.View.{view};
 ghost use Rattle.turns.specs.Advancing.{Starts, Advances};
 

@@ -1,8 +1,8 @@
 // Document 01's 'opening': the search state at the start, from a problem.
+use derivation::rounding;
 use layout::ROW;
 use layout::copy_row;
 use layout::store_row;
-use derivation::rounding;
 use problem::Problem;
 use state::Level;
 use state::Search;

@@ -1,11 +1,11 @@
 // Propagation: document 01's move 2, repeated at one level.
 use crate::bounds::lower_upper;
 use crate::bounds::raise_lower;
-use bits::divided::first_indivisible;
-use bits::masks::open_mask;
 use crate::scan::Move;
 use crate::scan::first_improvement;
 use crate::scan::first_open;
+use bits::divided::first_indivisible;
+use bits::masks::open_mask;
 use state::kept::kept_count;
 use state::kept::number_of;
 use threshold::lift;

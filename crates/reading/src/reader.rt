@@ -1,5 +1,4 @@
 // The problem in a file.
-use problem::Problem;
 use fields::offsets;
 use fields::reader::bounds_in;
 use fields::reader::budget_in;
@@ -8,6 +7,7 @@ use fields::reader::divisors_in;
 use fields::reader::rows_in;
 use fields::reader::thresholds_in;
 use fields::reader::variables_in;
+use problem::Problem;
 ghost use mathlib.Core.Path.{_≡_};
 ghost use Prim.Native.Nat.{_≤_};
 ghost use Rattle.model_problems.specs.Ranges.{maxVariables, maxConstraints};

@@ -1,6 +1,6 @@
 // What is kept of the constraints when a call starts.
-use layout::ROW;
 use bits::masks::row_mask;
+use layout::ROW;
 use propagate::scan::first_falsified;
 use propagate::scan::measure;
 use state::kept::kept_count;

@@ -2,12 +2,12 @@
 ghost use mathlib.Core.Path.{_≡_};
 ghost use Rattle.model_walk.specs.Validity.{admitted};
 ghost use Rattle.state.specs.View.{view};
-use level_conditions::nesting;
 use conditions::scalars;
 use conditions::status;
 use layout::MAX_PROPAGATIONS;
 use layout::range::are_divisors_in_range;
 use layout::range::are_in_range;
+use level_conditions::nesting;
 use state::Search;
 use state::kept::dropped;
 use state::kept::kept_cuts;

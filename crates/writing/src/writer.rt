@@ -1,10 +1,10 @@
 // The blocks of a problem, written into the parts of a lent buffer.
-use problem::Problem;
 use block::build;
 use fields::offsets;
 use fields::writer::put_sizes;
 use fields::writer::write_constraint;
 use layout::ROW;
+use problem::Problem;
 ghost use mathlib.Core.Path.{_≡_};
 ghost use mathlib.Core.Bool.{true};
 ghost use mathlib.Core.List.{_++_};
