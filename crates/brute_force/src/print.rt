@@ -1,53 +1,39 @@
 // What the program prints.
-use crate::agree::Report;
-use trials::family::Family;
-use trials::print::line;
-use trials::print::number;
-use trials::print::text;
+use libc::STDOUT_FILENO;
 
-// A family, and sums over its problems.
-pub fn family(f: Family, sum: Report) {
-    let row = [
-        f.n,
-        f.m,
-        f.equations,
-        f.divided,
-        f.gaps,
-        f.boxes,
-        f.far,
-        f.coefficient,
-        f.constant,
-        f.random,
-        f.problems,
-        sum.found,
-        sum.conflicts,
-        sum.listed,
-    ];
-    number(f.n);
-    let mut i: usize = 1;
-    while i < 14 {
-        text(b" ");
+pub fn text(s: &[u8]) {
+    io::write_all(STDOUT_FILENO, s);
+}
+
+pub fn number(k: usize) {
+    io::print_decimal(STDOUT_FILENO, k as u64);
+}
+
+// Numbers, a space after each.
+fn numbers(row: &[usize]) {
+    let mut i: usize = 0;
+    while i < row.len() {
         number(row[i]);
+        text(b" ");
         i += 1;
     }
+}
+
+// A family, and sums over what its problems showed.
+pub fn family(f: [usize; 11], sums: [usize; 6]) {
+    numbers(&f);
+    numbers(&[sums[1], sums[2]]);
+    number(sums[3]);
+    text(b"\nset ");
+    numbers(&[sums[4]]);
+    number(sums[5]);
     text(b"\n");
 }
 
-// The bounds set in a family, up to the first verdicts and by the listings.
-pub fn set(sum: Report) {
-    text(b"set ");
-    number(sum.set);
-    text(b" ");
-    number(sum.listed_set);
-    text(b"\n");
-}
-
-// What is wrong with a problem.
-pub fn disagreement(wrong: usize, k: usize) {
+// What is wrong with problem k of a family; one more problem is.
+pub fn disagreement(k: usize, what: &[u8]) -> usize {
     text(b"disagreement: problem ");
     number(k);
-    line(
-        b"\n: more conflicts than points\n: opened state\n: steps\n: cut\n: run\n: trace\n: listing\n: bounds set\n",
-        wrong,
-    );
+    text(what);
+    1
 }
