@@ -248,7 +248,7 @@ def some_problem(random_source):
 def test_round_trips():
     random_source = random.Random(17)
     files = [write_problem(some_problem(random_source)) for _ in range(RANDOM_PROBLEMS)]
-    files += [path.read_bytes() for folder in ("examples", "crates/vectors/data") for path in sorted((ROOT / folder).glob("*.plan"))]
+    files += [path.read_bytes() for folder in ("examples", "crates/play/data") for path in sorted((ROOT / folder).glob("*.plan"))]
     tried = 0
     for k, data in enumerate(files):
         try:
