@@ -2,8 +2,8 @@
 from state_bases import EVERYTHING, FURTHER, STRUCK, WHOLE_ARRAYS
 from state_changes import LEVELS, NUMBERS
 from state_kinds import divided_kinds, gap_kinds, reason_kinds, wide_kinds
-from state_marks import MARKS, deeper, solved
-from state_view import LIMIT, View, described
+from state_marks import MARKS, deeper, emptied, solved
+from state_view import INFEASIBLE, LIMIT, UNDECIDED, View, described
 
 # Lent buffers: none, too little for a block, whole blocks, and some bytes more; and numbers, by variables of the state.
 LENGTHS = [1536, 512, 1023, 0, 1024, 511, 2048, 513, 65536, 1535]
@@ -58,13 +58,18 @@ class States:
             self.script.do(*calls)
 
     def strike(self, base):
-        """The state as it is and marked solution, there and with its open variables decided one by one."""
+        """The state as it is, with no mark, marked 'none' and marked solution, there and with its open variables decided one by one."""
         self.script.part("strikes from %s" % base.name)
         self.reach(base)
         self.script.say("struck out, from " + described(self.base))
         self.each()
         at, number = self.base, 0
         while at:
+            for name, puts in [("with no mark", [("status", UNDECIDED)]), ("marked 'none'", emptied(at, 0, -1) + [("status", INFEASIBLE)])]:
+                self.script.say("struck out %s, with %d more decided" % (name, number))
+                self.script.do("back")
+                self.script.change(puts)
+                self.script.do("exclude", "list %d" % self.lent()[1])
             for name, puts in [("as it is", []), ("marked solution", solved(at))]:
                 self.script.say("struck out %s, with %d more decided" % (name, number))
                 self.script.do("back")

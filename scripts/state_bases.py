@@ -72,7 +72,6 @@ EVERYTHING = [
     Base("far-b", STEP),
     Base("cuts", ["trace 65536", "trace 47616"]),
     Base("one"),
-    Base("one", ["run"]),
 ]
 # Those at the ends of the arrays.
 WHOLE_ARRAYS = [Base("rows", ["trace 65536"]), Base("deep", ["run"]), Base("deep", ["run"], STRIKE)]

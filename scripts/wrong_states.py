@@ -10,14 +10,13 @@ INSIDE = "outer.lower[v] <= level.lower[v] and level.upper[v] <= outer.upper[v]"
 RANGES = "lower <= upper and in_range(lower, MAX_BOUND) and in_range(upper, MAX_BOUND)"
 
 VARIANTS = [
-    ("validity", SIZES, "search.made <= search.conflicts <= search.budget", "a depth above n taken"),
     ("validity", SIZES, SIZES.replace("depth <= n", "depth < n"), "a depth of n refused"),
     ("validity", SIZES, SIZES.replace(" <= search.budget", ""), "conflicts above the budget taken"),
     ("validity", SIZES, SIZES.replace("<= search.budget", "< search.budget"), "conflicts of the budget refused"),
     ("validity", SIZES, SIZES.replace("search.made <= ", ""), "more cuts than conflicts taken"),
     ("validity", SIZES, SIZES.replace("search.made <= ", "search.made - 1 <= "), "one cut more than conflicts taken"),
     ("validity", "sizes_fit(n, m, search.budget) and", "1 <= n and", "sizes and budget of a state not tested"),
-    ("validity", "sizes_fit(n, m, search.budget) and", "sizes_fit(n, m, search.budget - 1) and", "a budget of 1,000,000,001 taken in a state"),
+    ("validity", "sizes_fit(n, m, search.budget) and", "sizes_fit(n, m, max(search.budget - 1, 0)) and", "a budget of 1,000,000,001 taken in a state"),
     ("validity", "for _, constraint in search.kept())", "for constraint in search.inputs)", "cuts out of range taken"),
     ("validity", "for _, constraint in search.kept())", "for _, constraint in search.cuts)", "constraints out of range taken"),
     ("validity", "for _, constraint in search.kept())", "for _, constraint in search.kept()[:1])", "only the first constraint's range tested"),
@@ -51,7 +50,7 @@ VARIANTS = [
     ("validity", "inside and outer.lower[i] < outer.upper[i] and", "inside and", "decided variables not open above taken"),
     ("validity", DECIDED, "level.lower[i] == outer.lower[i]", "decided variables open taken"),
     ("validity", DECIDED, "level.lower[i] == level.upper[i]", "decided variables at another value taken"),
-    ("validity", DECIDED, "level.upper[i] == outer.lower[i] or level.lower[i] == level.upper[i]", "decided variables at one of two values taken"),
+    ("validity", DECIDED, "(level.upper[i] == outer.lower[i] or level.lower[i] == level.upper[i])", "decided variables at one of two values taken"),
     ("validity", "first_open(deepest) is None and", "", "marked solution with an open variable taken"),
     ("validity", "and first_falsified(search.kept(), deepest) is None", "", "marked solution with a false constraint taken"),
     ("validity", "first_falsified(search.kept(), deepest)", "first_falsified(list(enumerate(search.inputs, 1)), deepest)", "marked solution with a false cut taken"),
@@ -80,7 +79,6 @@ VARIANTS = [
     ("calls", "last.propagations <= MAX_PROPAGATIONS", "search.propagations <= MAX_PROPAGATIONS", "a listing that tests the limit at its start"),
     ("calls", "len(struck) < room", "len(struck) + 1 < room", "a listing with one solution fewer than the room"),
     ("calls", "while room and last.verdict", "while last.verdict", "a trace past its room"),
-    ("calls", "            room -= 1\n", "            room -= bool(last.record)\n", "a trace that counts blocks for steps"),
     ("calls", "search.budget - search.conflicts + 1", "search.budget - search.conflicts", "a run of a step fewer than the budget has left"),
     ("calls", "last, records = answer(GO_ON, search), []", "last, records = self.step(search), []", "a trace that takes a step without room"),
     ("search", "    if search.status != SOLVED:\n        return UNSOLVED, search\n", "    if search.status == INFEASIBLE:\n        return UNSOLVED, search\n",
