@@ -1,9 +1,10 @@
 """Bounds that creep: two constraints that set bounds by turns, up to 2^25 times in one step. Here many such moves are made at once.
 
-A round is two moves. Each sets a bound of a variable without a threshold that stays open, by a constraint whose coefficient there is 1 or -1, so that the new bound
-is a sum of other bounds. If the next round and one that is many rounds ahead have the same moves with the same changes, then so has every round between: all that
-is asked on the way (is an inequality falsified, does it improve a bound?) is the sign of a sum that is linear in the bounds; these change alike with each round;
-and such a sign, the same at both ends, is the same between them. A divisor constraint sees which variables are open, and the values of the others: they stay.
+A round is two moves. Each sets a bound of a variable without a threshold that stays open, by a constraint whose coefficient there is 1 or -1, so that the
+new bound is a sum of other bounds. If the next round and one that is many rounds ahead have the same moves with the same changes, then so has every round
+between: all that is asked on the way (is an inequality falsified, does it improve a bound?) is the sign of a sum that is linear in the bounds; these change
+alike with each round; and such a sign, the same at both ends, is the same between them. A divisor constraint sees which variables are open, and the values
+of the others: they stay.
 """
 from bounds import first_falsified, improve
 

@@ -6,7 +6,7 @@ call leaves past n, m, the kept cuts and the depth. A script may not come to rea
 from itertools import chain
 
 from digest import signed
-from files import MAX_CONSTRAINTS, MAX_VARIABLES, Constraint, Problem, sizes_fit
+from files import MAX_CONSTRAINTS, MAX_VARIABLES, Constraint, Problem
 from search import DECISION, DOMAIN, FLIPPED, INFEASIBLE, SOLVED, UNDECIDED, Level, Search
 
 STATUSES = [UNDECIDED, INFEASIBLE, SOLVED]
@@ -72,9 +72,9 @@ class RawProblem(Arrays):
         return list(chain.from_iterable(self.arrays.values()))
 
     def problem(self):
-        """The problem that reading back would give; None where its sizes are out of range."""
+        """The problem that is meant; None where the arrays cannot hold it."""
         n, m, budget = (self.get(name) for name in SIZES)
-        if not sizes_fit(n, m, budget):
+        if n > MAX_VARIABLES or m > MAX_CONSTRAINTS:
             return None
         limits = list(zip(self.arrays["lower"][:n], self.arrays["upper"][:n]))
         rows = [self.row("row", j, 1 + n) for j in range(m)]

@@ -1,5 +1,5 @@
-"""Cases of reading and writing: a sample file and problem, and what is changed in the file, in the problem or in both. Sizes, limits, numbers, divisors and thresholds
-at the ends of their ranges and one past them, stray bytes, wrong lengths and checks. Several errors at once are in scripts/file_errors.py."""
+"""Cases of reading and writing: a sample file and problem, and what is changed in the file, in the problem or in both. Sizes, limits, numbers, divisors and
+thresholds at the ends of their ranges and one past them, stray bytes, wrong lengths and checks. Several errors at once are in scripts/file_errors.py."""
 from dataclasses import dataclass, field
 
 import implementation  # it puts reference/ on the path
@@ -209,8 +209,9 @@ def stray_cases():
     yield reading("a stray byte before the last check", 3, 3, byte(3, 507, 1))
     yield reading("the first byte of the last coefficient", 3, 3, byte(3, 12, 77))
     # Bytes of the last limits and thresholds.
-    for name, edits in [("1", [word(0, 32, 0), byte(0, 35, 1)]), ("1 and 1 in the first", [word(0, 32, 1), byte(0, 35, 1)]), ("2", [word(0, 32, 0), byte(0, 35, 2)])]:
-        yield reading("%s in the last byte of the last upper bound" % name, 3, 3, word(0, 28, 0), *edits)
+    for first, last in [(0, 1), (1, 1), (0, 2)]:
+        edits = [word(0, 28, 0), word(0, 32, first), byte(0, 35, last)]
+        yield reading("%d in the first and %d in the last byte of the last upper bound" % (first, last), 3, 3, *edits)
     for z in (255, 254):
         yield reading("%d in the last byte of the last lower bound" % z, 3, 3, word(0, 28, 0), byte(0, 31, z))
     for k, at in [(2, 16), (2, 131), (2, 136)]:

@@ -1,7 +1,7 @@
 """Made-up states that are valid, or nearly, and what a search makes of them: divisor constraints, reasons, thresholds and bounds far out. Each function gives
 pairs of a name and the numbers that are put."""
 from state_marks import divisor_false_from_1, emptied, false_from_1
-from state_view import DECISION, DOMAIN, FLIPPED, LEAST, MOST, UNDECIDED
+from state_view import FLIPPED, LEAST, MOST, UNDECIDED
 
 FAR = 2**20
 THRESHOLD = 3

@@ -1,7 +1,6 @@
 """A search state as a script finds it, and the numbers of it that a made-up state changes."""
 import implementation  # it puts reference/ on the path
 from digest import WORD
-from raw import RawState
 
 LEAST, MOST = -(2**24), 2**24
 HEAVIEST = 2**30

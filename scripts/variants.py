@@ -3,9 +3,10 @@
 
     scripts/variants.py [NAME ..]
 
-Each variant of scripts/wrong_variants.py and scripts/wrong_states.py (those with these words in their names, where some are given) plays the parts of crates/play/stdin, the quick ones first,
-until it prints another line than crates/play/stdout has; printed are the part and the case. A variant that fails, or takes ten times as long as the reference and
-a minute more, is told apart too. So is one whose `verdict` prints another text for a plan file that is longer than a script can hold.
+Each variant of scripts/wrong_variants.py and scripts/wrong_states.py (those with these words in their names, where some are given) plays the parts of
+crates/play/stdin, the quick ones first, until it prints another line than crates/play/stdout has; printed are the part and the case. A variant that fails, or
+takes ten times as long as the reference and a minute more, is told apart too. So is one whose `verdict` prints another text for a plan file that is longer
+than a script can hold.
 """
 import signal
 import sys
@@ -21,7 +22,7 @@ import wrong_variants
 PLAY = ROOT / "crates/play"
 DATA = PLAY / "data"
 # In the order in which they stand on each other.
-MODULES = ["digest", "files", "bounds", "creep", "search", "validity", "calls", "solve", "raw", "play"]
+MODULES = ["digest", "files", "bounds", "creep", "search", "validity", "calls", "solve", "raw", "holdings", "play"]
 LONG_FILE = "torn-66048.plan"
 VARIANTS = wrong_variants.VARIANTS + wrong_states.VARIANTS
 
