@@ -71,7 +71,7 @@ fn is_listed(p: Problem, e: Enumerated, l: answers::Listed, buffer: &[i64; 768])
         Verdict::NoSolution => l.struck == e.found && points::same(&wanted.solutions, buffer),
         Verdict::Solution => {
             let answer = search::exclude(l.state).answer;
-            let search::Exclusion::Ended = answer else {
+            let shown::Exclusion::Ended = answer else {
                 return false;
             };
             let end = std::num::wrapping_sub_usize(e.end, p.n);

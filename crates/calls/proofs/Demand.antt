@@ -25,9 +25,9 @@ use Rattle.state.specs.View.{view}
 use Rattle.state.specs.declared.Search.{Search}
 use Rattle.validity.proofs.Steps.{impossible}
 use Rattle.soundness.proofs.Demand.{demand-3}
-use Rattle.search.specs.Opening.{SeenOpening, seenOpened, opening}
-use Rattle.search.specs.Seen.{valuesOf}
-use Rattle.search.specs.declared.Opened.{Opened}
+use Rattle.shown.specs.Opening.{SeenOpening, seenOpened, opening}
+use Rattle.shown.specs.Seen.{valuesOf}
+use Rattle.shown.specs.declared.Opened.{Opened}
 use Rattle.answers.specs.declared.Ran.{Ran}
 use Rattle.answers.specs.declared.Verdict.the-variants as verdict
 use Rattle.calls.specs.Calls.{Opens, Call, ran, Makes, told, ListFrom, stateIn, journalOf, NoRun, untilRun, stepsIn, stepsOf, SameAnswer, CallAfter, Decided, Opening, RunOf, CallsHold, WithEnough}

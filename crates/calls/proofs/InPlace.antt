@@ -26,9 +26,9 @@ use Rattle.soundness.proofs.InPlace as place
 use Rattle.soundness.proofs.InPlace.{rounds, Placed, Wide, placed-wide, Between, nothing-between, last-ready, Full, InPlace, none-again}
 use Rattle.state.specs.View.{coreOver, coreOf, view}
 use Rattle.state.specs.declared.Search.{Search}
-use Rattle.search.specs.Seen.{seenRan, turn}
-use Rattle.search.specs.Seen as seen
-use Rattle.search.specs.Listing.{SeenListing, seenListed, struckIn, lastIn, listSeen}
+use Rattle.shown.specs.Seen.{seenRan, turn}
+use Rattle.shown.specs.Seen as seen
+use Rattle.shown.specs.Listing.{SeenListing, seenListed, struckIn, lastIn, listSeen}
 use Rattle.answers.specs.declared.Listed.{Listed}
 use Rattle.answers.specs.declared.Traced.{Traced}
 use Rattle.answers.specs.declared.Verdict.the-variants as said

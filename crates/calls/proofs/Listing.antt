@@ -29,8 +29,8 @@ use Rattle.soundness.proofs.InPlace as place
 use Rattle.soundness.proofs.InPlace.{rounds, Between, nothing-between}
 use Rattle.state.specs.View.{view}
 use Rattle.state.specs.declared.Search.{Search}
-use Rattle.search.specs.Seen.{valuesOf}
-use Rattle.search.specs.declared.Excluded.{Excluded}
+use Rattle.shown.specs.Seen.{valuesOf}
+use Rattle.shown.specs.declared.Excluded.{Excluded}
 use Rattle.answers.specs.declared.Listed.{Listed}
 use Rattle.answers.specs.declared.Ran.{Ran}
 use Rattle.answers.specs.declared.Verdict.the-variants as said

@@ -20,8 +20,8 @@ use Rattle.validity.proofs.Every.{Every}
 use Rattle.soundness.proofs.Unrefused.{state-add, journal-add, journal-long}
 use Rattle.state.specs.View.{view}
 use Rattle.state.specs.declared.Search.{Search}
-use Rattle.search.specs.Seen.{valuesOf}
-use Rattle.search.specs.declared.Stepped.{Stepped}
+use Rattle.shown.specs.Seen.{valuesOf}
+use Rattle.shown.specs.declared.Stepped.{Stepped}
 use Rattle.answers.specs.declared.Ran.{Ran}
 use Rattle.answers.specs.declared.Traced.{Traced}
 use Rattle.answers.specs.declared.Verdict.the-variants.{GoOn}

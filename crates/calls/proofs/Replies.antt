@@ -22,12 +22,12 @@ use Rattle.validity.proofs.Steps.{impossible}
 use Rattle.soundness.proofs.Together.{advance-long}
 use Rattle.state.specs.View.{view}
 use Rattle.state.specs.declared.Search.{Search}
-use Rattle.search.specs.Seen.{blockOr, valuesOf, stepTrace, runTrace, seenStepped, seenRan, turn, stepSeen, runSeen, traceSeen}
-use Rattle.search.specs.Seen as seen
-use Rattle.search.specs.Excluding.{SeenExclusion, exclusionOf, seenExcluded, shownExclusion, excludeSeen}
-use Rattle.search.specs.declared.Excluded.{Excluded}
-use Rattle.search.specs.declared.Exclusion.{Exclusion}
-use Rattle.search.specs.declared.Exclusion.the-variants as out
+use Rattle.shown.specs.Seen.{blockOr, valuesOf, stepTrace, runTrace, seenStepped, seenRan, turn, stepSeen, runSeen, traceSeen}
+use Rattle.shown.specs.Seen as seen
+use Rattle.shown.specs.Excluding.{SeenExclusion, exclusionOf, seenExcluded, shownExclusion, excludeSeen}
+use Rattle.shown.specs.declared.Excluded.{Excluded}
+use Rattle.shown.specs.declared.Exclusion.{Exclusion}
+use Rattle.shown.specs.declared.Exclusion.the-variants as out
 use Rattle.answers.specs.declared.Listed.{Listed}
 use Rattle.answers.specs.declared.Ran.{Ran}
 use Rattle.answers.specs.declared.Verdict.the-variants as said

@@ -15,8 +15,8 @@ use Rattle.fields.specs.Fields.{room, zeros}
 use Rattle.state.specs.View.{view}
 use Rattle.state.specs.declared.Search.{Search}
 use Rattle.validity.proofs.Steps.{impossible}
-use Rattle.search.specs.Seen.{Seen, verdictOf, seenTraced, stepTrace, runTrace, seenStepped, seenRan, valuesOf, blockOr, shown, turn, blockIn, stepSeen, runSeen, traceSeen}
-use Rattle.search.specs.declared.Stepped.{Stepped}
+use Rattle.shown.specs.Seen.{Seen, verdictOf, seenTraced, stepTrace, runTrace, seenStepped, seenRan, valuesOf, blockOr, shown, turn, blockIn, stepSeen, runSeen, traceSeen}
+use Rattle.shown.specs.declared.Stepped.{Stepped}
 use Rattle.answers.specs.declared.Ran.{Ran}
 use Rattle.answers.specs.declared.Traced.{Traced}
 use Rattle.answers.specs.declared.Verdict.{Verdict}

@@ -18,7 +18,7 @@ use Rattle.soundness.proofs.Standing.{answered}
 use Rattle.soundness.proofs.InPlace.{rounds, Ready}
 use Rattle.state.specs.View.{view}
 use Rattle.state.specs.declared.Search.{Search}
-use Rattle.search.specs.declared.Excluded.{Excluded}
+use Rattle.shown.specs.declared.Excluded.{Excluded}
 use Rattle.calls.specs.Calls.{Call, stepped, traced as tracing, ran}
 use Rattle.calls.specs.Listing as own
 use Rattle.calls.specs.Listing.{called, turnsLeft, turnsIn, setInRuns}

@@ -16,10 +16,10 @@ use Rattle.model_claims.specs.Demand.{Accepted, SameSolutions, MeetsCuts, withB
 use Rattle.fields.specs.Fields.{room, zeros}
 use Rattle.problem.specs.declared.Answer.the-variants.{Done}
 use Rattle.state.specs.declared.Search.{Search}
-use Rattle.search.specs.Opening.{seenOpened, opening}
-use Rattle.search.specs.Seen.{seenStepped, seenRan, seenTraced, stepSeen, runSeen, traceSeen}
-use Rattle.search.specs.declared.Opened.{Opened}
-use Rattle.search.specs.declared.Stepped.{Stepped}
+use Rattle.shown.specs.Opening.{seenOpened, opening}
+use Rattle.shown.specs.Seen.{seenStepped, seenRan, seenTraced, stepSeen, runSeen, traceSeen}
+use Rattle.shown.specs.declared.Opened.{Opened}
+use Rattle.shown.specs.declared.Stepped.{Stepped}
 use Rattle.answers.specs.declared.Ran.{Ran}
 use Rattle.answers.specs.declared.Traced.{Traced}
 use Rattle.answers.specs.declared.Verdict.the-variants as verdict

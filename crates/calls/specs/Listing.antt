@@ -22,13 +22,13 @@ use Rattle.model_claims.specs.Demand.{Accepted, MeetsCuts}
 use Rattle.fields.specs.Fields.{room, zeros}
 use Rattle.state.specs.View.{view}
 use Rattle.state.specs.declared.Search.{Search}
-use Rattle.search.specs.Excluding.{seenExcluded, excludeSeen}
-use Rattle.search.specs.Listing.{seenListed, listSeen}
-use Rattle.search.specs.declared.Opened.{Opened}
+use Rattle.shown.specs.Excluding.{seenExcluded, excludeSeen}
+use Rattle.shown.specs.Listing.{seenListed, listSeen}
+use Rattle.shown.specs.declared.Opened.{Opened}
 use Rattle.answers.specs.declared.Ran.{Ran}
-use Rattle.search.specs.declared.Excluded.{Excluded}
-use Rattle.search.specs.declared.Exclusion.{Exclusion}
-use Rattle.search.specs.declared.Exclusion.the-variants as exclusion
+use Rattle.shown.specs.declared.Excluded.{Excluded}
+use Rattle.shown.specs.declared.Exclusion.{Exclusion}
+use Rattle.shown.specs.declared.Exclusion.the-variants as exclusion
 use Rattle.answers.specs.declared.Listed.{Listed}
 use Rattle.answers.specs.declared.Verdict.{Verdict}
 use Rattle.answers.specs.declared.Verdict.the-variants as verdict

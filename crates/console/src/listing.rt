@@ -4,7 +4,7 @@ use crate::text;
 use crate::told;
 use answers::Listed;
 use answers::Verdict;
-use search::Exclusion;
+use shown::Exclusion;
 use state::Search;
 ghost use mathlib.Core.Path.{_≡_};
 ghost use Prim.Native.Nat.{_≤_};

@@ -4,7 +4,7 @@ use answers::Verdict;
 use libc::STDOUT_FILENO;
 use problem::Answer;
 use report::LONGEST_LINE;
-use search::Exclusion;
+use shown::Exclusion;
 ghost use Prim.Native.Nat.{_+_, _≤_};
 ghost use lib.ListN.{length};
 ghost use Rattle.report.specs.Room.{longestLine};

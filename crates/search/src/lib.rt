@@ -3,50 +3,20 @@
 use answers::Listed;
 use answers::Ran;
 use answers::Traced;
-use answers::Verdict;
 use problem::Answer;
+use shown::Excluded;
+use shown::Exclusion;
+use shown::Opened;
+use shown::Stepped;
 use state::Level;
 use state::Search;
 use state::Status;
 ghost use mathlib.Core.Path.{_≡_};
 ghost use Rattle.model_walk.specs.Search.{openFile};
-ghost use Rattle.search.specs.Opening.{blank as blankState, seenOpened, opening};
-ghost use Rattle.search.specs.Excluding.{seenExcluded, excludeSeen};
-ghost use Rattle.search.specs.Listing.{seenListed, listSeen};
-ghost use Rattle.search.specs.Seen.{seenStepped, seenRan, seenTraced, stepSeen, runSeen, traceSeen};
-
-// What opening gives: the search state, or an error and a blank state, which is not valid.
-pub struct Opened {
-    pub answer: Answer,
-    pub state: Search,
-}
-
-// What a turn gives. `values` are the solution's, zeros past them or where there is none; `block` is the journal block if a conflict was counted
-// (`recorded`), else zeros; an error gives back the state whole.
-pub struct Stepped {
-    pub verdict: Verdict,
-    pub values: [i64; 32],
-    pub count: usize,
-    pub propagations: usize,
-    pub recorded: bool,
-    pub block: [u8; 512],
-    pub state: Search,
-}
-
-// What striking out a solution answers: 'struck'; 'ended' for one that no decision led to; 'no form' for a state that is not marked as solved; or 9 for one
-// that is refused.
-pub enum Exclusion {
-    Struck,
-    Ended,
-    Unsolved,
-    Invalid,
-}
-
-// What striking out gives. Unless a solution was struck out, the state is the given one, whole.
-pub struct Excluded {
-    pub answer: Exclusion,
-    pub state: Search,
-}
+ghost use Rattle.shown.specs.Opening.{blank as blankState, seenOpened, opening};
+ghost use Rattle.shown.specs.Excluding.{seenExcluded, excludeSeen};
+ghost use Rattle.shown.specs.Listing.{seenListed, listSeen};
+ghost use Rattle.shown.specs.Seen.{seenStepped, seenRan, seenTraced, stepSeen, runSeen, traceSeen};
 
 // The state that a refused file gives.
 fn blank() -> Search

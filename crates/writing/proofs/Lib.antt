@@ -1,3 +1,2 @@
 -- Laws of writing: the cascade of its errors, and the bytes that are written.
 pub mod WriteCascade
-pub mod Writing

@@ -14,12 +14,12 @@ use Rattle.format.proofs.AcceptedShape.{Sizes, sizes}
 use Rattle.problem.specs.declared.Answer.the-variants.{Done, SizeRange, DomainRange, CoefficientRange, ShortBuffer, DivisorRange, ThresholdRange}
 use Rattle.problem.specs.declared.Problem.{Problem}
 use Rattle.problem.specs.Answer.{number, written}
-use Rattle.writing.specs.Writable.{Writable}
+use Rattle.file_blocks.specs.Writable.{Writable}
 use Rattle.layout.specs.Sizes.{sizesFit}
 use Rattle.layout.proofs.Limits.{sizes-fit}
 use Rattle.problem.specs.View.{problemOf}
 use Rattle.lists.proofs.Bools.{said-no, said-yes}
-use Rattle.writing.proofs.Writing.{variable-count, constraint-count}
+use Rattle.file_blocks.proofs.Writing.{variable-count, constraint-count}
 
 module _ (p : Problem) where
   length-is : fileLength (problemOf p) ≡ blockLength * suc (p .m)

@@ -1,6 +1,6 @@
 // Writing problem files, document 01's 'writer'.
-mod writer;
 
+use file_blocks::writer;
 use layout::range::sizes_in_range;
 use problem::Answer;
 use problem::Problem;

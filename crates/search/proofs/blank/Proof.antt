@@ -1,7 +1,7 @@
 -- `search::blank` meets its contract. Assumes nothing.
 use mathlib.Core.Path.{refl}
 use Rattle.fields.specs.Fields.{zeros}
-use Rattle.search.specs.Opening.{blankLevel, blank}
+use Rattle.shown.specs.Opening.{blankLevel, blank}
 use Rattle.search.proofs.blank.Statement.{statement}
 use Rattle.search.proofs.blank.Tie as tie
 

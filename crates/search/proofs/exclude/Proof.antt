@@ -6,8 +6,8 @@ use borrow.Author.Needs.{needs}
 use Rattle.model_walk.specs.Validity.{admitted}
 use Rattle.lists.proofs.Bools.{said-no, said-yes}
 use Rattle.state.specs.View.{view}
-use Rattle.search.proofs.Showing.{valid-view}
-use Rattle.search.proofs.Excluding.{exclude-refused, exclude-unsolved, exclude-ended, exclude-struck}
+use Rattle.shown.proofs.Showing.{valid-view}
+use Rattle.shown.proofs.Excluding.{exclude-refused, exclude-unsolved, exclude-ended, exclude-struck}
 use Rattle.search.proofs.exclude.Statement.{statement}
 use Rattle.search.proofs.exclude.Tie as tie
 

@@ -9,7 +9,7 @@ use Rattle.lists.proofs.Bools.{clash, said-no, said-yes}
 use Rattle.state.specs.View.{view}
 use Rattle.propagate.proofs.States.{sizes}
 use Rattle.answers.proofs.Proceeding.{after-sizes}
-use Rattle.search.proofs.Showing.{valid-view, few-view, list-shown, list-refused}
+use Rattle.shown.proofs.Showing.{valid-view, few-view, list-shown, list-refused}
 use Rattle.search.proofs.list.Statement.{statement}
 use Rattle.search.proofs.list.Tie as tie
 

@@ -9,7 +9,7 @@ use Rattle.problem.specs.Answer.{number}
 use Rattle.problem.specs.declared.Answer.{Answer}
 use Rattle.problem.specs.declared.Answer.the-variants.{Done, Truncated, BadChecksum, BadMagic, SizeRange, DomainRange, CoefficientRange, NonzeroPadding, ShortBuffer, InvalidSearch, DivisorRange, ThresholdRange}
 use Rattle.problem.proofs.Answer.{the-type}
-use Rattle.search.proofs.Openings.{can-open, opened, not-opened}
+use Rattle.shown.proofs.Openings.{can-open, opened, not-opened}
 use Rattle.search.proofs.open.Statement.{statement}
 use Rattle.search.proofs.open.Tie as tie
 

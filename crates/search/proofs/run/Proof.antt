@@ -8,7 +8,7 @@ use Rattle.lists.proofs.Bools.{clash, said-no, said-yes}
 use Rattle.state.specs.View.{view}
 use Rattle.propagate.proofs.States.{sizes}
 use Rattle.answers.proofs.Proceeding.{after-sizes}
-use Rattle.search.proofs.Showing.{valid-view, few-view, run-shown, run-refused}
+use Rattle.shown.proofs.Showing.{valid-view, few-view, run-shown, run-refused}
 use Rattle.search.proofs.run.Statement.{statement}
 use Rattle.search.proofs.run.Tie as tie
 

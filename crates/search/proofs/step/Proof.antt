@@ -1,7 +1,7 @@
 -- `search::step` meets its contract. Assumes nothing.
 use borrow.Author.Needs.{needs}
-use Rattle.search.specs.Seen.{noBlock}
-use Rattle.search.proofs.Showing.{step-seen}
+use Rattle.shown.specs.Seen.{noBlock}
+use Rattle.shown.proofs.Showing.{step-seen}
 use Rattle.search.proofs.step.Statement.{statement}
 use Rattle.search.proofs.step.Tie as tie
 

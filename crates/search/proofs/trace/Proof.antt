@@ -7,7 +7,7 @@ use Rattle.model_walk.specs.Validity.{admitted}
 use Rattle.lists.proofs.Bools.{said-no, said-yes}
 use Rattle.state.specs.View.{view}
 use Rattle.answers.proofs.Proceeding.{after-sizes}
-use Rattle.search.proofs.Showing.{valid-view, few-view, trace-shown, trace-refused}
+use Rattle.shown.proofs.Showing.{valid-view, few-view, trace-shown, trace-refused}
 use Rattle.search.proofs.trace.Statement.{statement}
 use Rattle.search.proofs.trace.Tie as tie
 

@@ -11,7 +11,7 @@ use Rattle.state.specs.View.{view}
 use Rattle.state.specs.declared.Level.{Level}
 use Rattle.state.specs.declared.Search.{Search}
 use Rattle.state.specs.declared.Status.the-variants.{Undecided}
-use Rattle.search.specs.declared.Opened.{Opened}
+use Rattle.shown.specs.declared.Opened.{Opened}
 
 -- the state that a refused file gives: it has no variables, so no call takes it
 unfoldable pub blankLevel : Level

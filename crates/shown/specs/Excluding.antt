@@ -5,9 +5,9 @@ use Rattle.model_walk.specs.Search as model
 use Rattle.model_walk.specs.Exclude.{Exclusion as ModelExclusion, struck, ended, unsolved, Excluded as ModelExcluded, excludeCall}
 use Rattle.state.specs.View.{view}
 use Rattle.state.specs.declared.Search.{Search}
-use Rattle.search.specs.declared.Exclusion.{Exclusion}
-use Rattle.search.specs.declared.Exclusion.the-variants.{Struck, Ended, Unsolved, Invalid}
-use Rattle.search.specs.declared.Excluded.{Excluded}
+use Rattle.shown.specs.declared.Exclusion.{Exclusion}
+use Rattle.shown.specs.declared.Exclusion.the-variants.{Struck, Ended, Unsolved, Invalid}
+use Rattle.shown.specs.declared.Excluded.{Excluded}
 
 -- ---- what a caller sees
 pub record SeenExclusion : Type 0 where

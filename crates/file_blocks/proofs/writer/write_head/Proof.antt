@@ -1,7 +1,7 @@
 use borrow.Author.Needs.{needs}
-use Rattle.writing.proofs.Writing.{head-sealed}
-use Rattle.writing.proofs.writer.write_head.Statement.{statement}
-use Rattle.writing.proofs.writer.write_head.Tie as tie
+use Rattle.file_blocks.proofs.Writing.{head-sealed}
+use Rattle.file_blocks.proofs.writer.write_head.Statement.{statement}
+use Rattle.file_blocks.proofs.writer.write_head.Tie as tie
 
 clear-requires : tie.Need-clear-requires
 clear-requires c κs = search needs

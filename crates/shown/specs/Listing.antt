@@ -9,7 +9,7 @@ use Rattle.model_walk.specs.Listing.{Listing, listCall}
 use Rattle.state.specs.View.{view}
 use Rattle.state.specs.declared.Search.{Search}
 use Rattle.answers.specs.declared.Listed.{Listed}
-use Rattle.search.specs.Seen.{Seen, seenRan, shown, turn}
+use Rattle.shown.specs.Seen.{Seen, seenRan, shown, turn}
 
 -- ---- what a caller sees
 pub record SeenListing : Type 0 where

@@ -8,9 +8,9 @@ use Rattle.model_files.specs.File.{blockOf}
 use Rattle.model_problems.specs.Lists.{parts}
 use Rattle.block.specs.Placed.{Placed}
 use Rattle.problem.specs.View.{problemOf}
-use Rattle.writing.proofs.Writing.{no-blocks, head-placed, row-passes, divisor-passes, blocks-more, file-written}
-use Rattle.writing.proofs.writer.write_blocks.Statement.{statement}
-use Rattle.writing.proofs.writer.write_blocks.Tie as tie
+use Rattle.file_blocks.proofs.Writing.{no-blocks, head-placed, row-passes, divisor-passes, blocks-more, file-written}
+use Rattle.file_blocks.proofs.writer.write_blocks.Statement.{statement}
+use Rattle.file_blocks.proofs.writer.write_blocks.Tie as tie
 
 -- The blocks of the constraints before j stand after the head, and the buffer has its length.
 abbrev Inv-loop : tie.InvT-loop

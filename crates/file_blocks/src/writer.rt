@@ -17,7 +17,7 @@ ghost use Rattle.model_problems.specs.Problem.{domainInRange, thresholdsInRange
 ghost use Rattle.model_files.specs.File.{boundsBytes, thresholdBytes, headBytes, fileOf, fileLength};
 ghost use Rattle.block.specs.Placed.{Placed};
 ghost use Rattle.problem.specs.View.{problemOf};
-ghost use Rattle.writing.specs.Writable.{Writable};
+ghost use Rattle.file_blocks.specs.Writable.{Writable};
 
 // Puts the bounds of the variables after them.
 fn put_bounds(problem: Problem, head: &mut [u8])
@@ -66,7 +66,7 @@ fn write_head(problem: Problem, head: &mut [u8])
 }
 
 // Writes the blocks of a problem at the buffer's start, and leaves the bytes after them.
-pub(crate) fn write_blocks(problem: Problem, buffer: &mut [u8])
+pub fn write_blocks(problem: Problem, buffer: &mut [u8])
     requires { ⌜ Writable problem (length (now buffer)) ⌝ }
     ensures { λ r. ⌜ now (buffer .exit) ≡ fileOf (problemOf problem) ++ drop (fileLength (problemOf problem)) (now (buffer .entry)) ⌝ }
 {

@@ -35,11 +35,11 @@ use Rattle.turns.specs.declared.Ending.the-variants as ending
 use Rattle.turns.specs.declared.Advanced.{Advanced}
 use Rattle.validity.proofs.Repeating.{advance-one}
 use Rattle.answers.specs.declared.Traced.{Traced}
-use Rattle.search.specs.Seen.{Seen, verdictOf, refusedIn, seenTraced, seenStepped, seenRan, valuesOf, noBlock, blockOr, shown, turn, blockIn, stepSeen, runSeen, traceSeen}
+use Rattle.shown.specs.Seen.{Seen, verdictOf, refusedIn, seenTraced, seenStepped, seenRan, valuesOf, noBlock, blockOr, shown, turn, blockIn, stepSeen, runSeen, traceSeen}
 use Rattle.answers.specs.Answered.{caseOf, valuesAt, answered, refusal, ranOf, listedOf}
-use Rattle.search.specs.Listing.{SeenListing, seenListed, struckIn, lastIn, listSeen}
+use Rattle.shown.specs.Listing.{SeenListing, seenListed, struckIn, lastIn, listSeen}
 use Rattle.answers.proofs.Proceeding.{room-none, trace-alone}
-use Rattle.search.proofs.Listing.{withoutBlocks, Lists, lists-same}
+use Rattle.shown.proofs.Listing.{withoutBlocks, Lists, lists-same}
 
 -- ---- a state that passed the test
 module _ (s : Search) (e : admitted (view s) ≡ true) where

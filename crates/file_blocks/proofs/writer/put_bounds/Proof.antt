@@ -9,9 +9,9 @@ use Rattle.model_problems.specs.Lists.{parts}
 use Rattle.block.proofs.Placing.{none-placed}
 use Rattle.block.specs.Placed.{Placed}
 use Rattle.problem.specs.View.{problemOf}
-use Rattle.writing.proofs.Writing.{lower-room, upper-room, bounds-more, fields-end}
-use Rattle.writing.proofs.writer.put_bounds.Statement.{statement}
-use Rattle.writing.proofs.writer.put_bounds.Tie as tie
+use Rattle.file_blocks.proofs.Writing.{lower-room, upper-room, bounds-more, fields-end}
+use Rattle.file_blocks.proofs.writer.put_bounds.Statement.{statement}
+use Rattle.file_blocks.proofs.writer.put_bounds.Tie as tie
 
 -- The bounds before i stand after the sizes.
 abbrev Inv-loop : tie.InvT-loop

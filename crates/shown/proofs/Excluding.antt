@@ -18,8 +18,8 @@ use Rattle.state.specs.declared.Status.{Status}
 use Rattle.state.specs.declared.Status.the-variants.{Undecided, Infeasible, Solved}
 use Rattle.state.proofs.Status.{the-type}
 use Rattle.state.proofs.Cores.{length-levels}
-use Rattle.search.specs.declared.Exclusion.the-variants.{Struck, Ended, Unsolved, Invalid}
-use Rattle.search.specs.Excluding.{exclusionOf, wholeIn, seenExcluded, keptWhole, shownExclusion, excludeSeen}
+use Rattle.shown.specs.declared.Exclusion.the-variants.{Struck, Ended, Unsolved, Invalid}
+use Rattle.shown.specs.Excluding.{exclusionOf, wholeIn, seenExcluded, keptWhole, shownExclusion, excludeSeen}
 
 pub exclude-refused : (s : Search) → admitted (view s) ≡ false → seenExcluded (record { answer = Invalid; state = s }) ≡ excludeSeen s
 unfolding excludeSeen excludeCall

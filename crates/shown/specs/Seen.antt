@@ -15,7 +15,7 @@ use Rattle.state.specs.View.{view}
 use Rattle.state.specs.declared.Search.{Search}
 use Rattle.answers.specs.declared.Verdict.{Verdict}
 use Rattle.answers.specs.declared.Verdict.the-variants.{GoOn, NoSolution, OutOfBudget, Solution, Invalid}
-use Rattle.search.specs.declared.Stepped.{Stepped}
+use Rattle.shown.specs.declared.Stepped.{Stepped}
 use Rattle.answers.specs.declared.Ran.{Ran}
 use Rattle.answers.specs.declared.Traced.{Traced}
 

@@ -8,9 +8,9 @@ use Rattle.model_problems.specs.Lists.{parts}
 use Rattle.block.proofs.Placing.{none-placed}
 use Rattle.block.specs.Placed.{Placed}
 use Rattle.problem.specs.View.{problemOf}
-use Rattle.writing.proofs.Writing.{threshold-room, thresholds-more, fields-end}
-use Rattle.writing.proofs.writer.put_thresholds.Statement.{statement}
-use Rattle.writing.proofs.writer.put_thresholds.Tie as tie
+use Rattle.file_blocks.proofs.Writing.{threshold-room, thresholds-more, fields-end}
+use Rattle.file_blocks.proofs.writer.put_thresholds.Statement.{statement}
+use Rattle.file_blocks.proofs.writer.put_thresholds.Tie as tie
 
 -- The thresholds before i stand in their place.
 abbrev Inv-loop : tie.InvT-loop

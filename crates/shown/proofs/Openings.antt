@@ -19,7 +19,7 @@ use Rattle.opening.specs.Accepted.{Accepted}
 use Rattle.opening.proofs.Accepted.{accepted}
 use Rattle.state.specs.View.{view}
 use Rattle.state.specs.declared.Search.{Search}
-use Rattle.search.specs.Opening.{blank, SeenOpening, seenOpened, opening}
+use Rattle.shown.specs.Opening.{blank, SeenOpening, seenOpened, opening}
 
 module _ (f : List ℕ) (r : Reading) (e : seenRead r ≡ readingOf (readFile f)) where
   answer-number : number (r .answer) ≡ readError f

@@ -1,0 +1,2 @@
+-- Laws of the bytes that are written.
+pub mod Writing

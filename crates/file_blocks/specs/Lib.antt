@@ -1,0 +1,2 @@
+-- What is known of a problem that is written.
+pub mod Writable
