@@ -115,6 +115,7 @@ def bound_files():
         yield "bound-%s" % name, problem_file(1, [(-9, 9)], [numbers, [-sign * bound, sign]])
         yield "bound-%s-missed" % name, problem_file(1, [(-9, 9)], [numbers, [-sign * bound + 1, sign]])
     yield "rounding", problem_file(5, [(0, 10)] * 2, [[-2, 6, -3], [5, -4, -6], [-29, 10, 5]])
+    yield "halved-into-range", problem_file(5, [(0, 1), (0, 10), (0, 1)], [[2, MAX_COEFFICIENT, -1, 1], [-1, MAX_COEFFICIENT, 1, 1]])
     yield "divided-by-the-divisor", problem_file(5, [(0, 10)] * 2, [[-7, 2, 3], [8, -2, -3]])
 
 
