@@ -16,7 +16,7 @@ use linear::activity::is_falsified;
 use state::kept::{ABSENT, position_of};
 
 // The cut, and for each variable the number of the constraint taken in, 0 for none.
-#[derive(Drop)]
+#[derive(Clone, Copy)]
 pub struct Analysis {
     pub cut: [i64; 33],
     pub used: [usize; 32],

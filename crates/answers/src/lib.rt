@@ -12,7 +12,7 @@ use state::{Level, Search, Status};
 use turns::{Advanced, Ending};
 
 // What a turn, a run or a trace answers: 'go on', 'none', 'spent', a solution, or 9 for a state that is refused.
-#[derive(Drop)]
+#[derive(Clone, Copy)]
 pub enum Verdict {
     GoOn,
     NoSolution,
@@ -22,7 +22,7 @@ pub enum Verdict {
 }
 
 // What a run gives.
-#[derive(Drop)]
+#[derive(Clone, Copy)]
 pub struct Ran {
     pub verdict: Verdict,
     pub values: [i64; 32],
@@ -32,7 +32,7 @@ pub struct Ran {
 }
 
 // What a trace gives: `blocks` journal blocks stand at the buffer's start.
-#[derive(Drop)]
+#[derive(Clone, Copy)]
 pub struct Traced {
     pub verdict: Verdict,
     pub values: [i64; 32],
@@ -44,7 +44,7 @@ pub struct Traced {
 
 // What a listing gives: the values of the `struck` solutions that were struck out stand at the buffer's start, n for each; the rest is what the run after
 // the last of them gives.
-#[derive(Drop)]
+#[derive(Clone, Copy)]
 pub struct Listed {
     pub struck: usize,
     pub verdict: Verdict,

@@ -7,7 +7,7 @@ use problem::Problem;
 pub const MARK: i64 = -4611686018427387904;
 
 // What is found. A variable that the problem does not have is 0 at every point.
-#[derive(Drop)]
+#[derive(Clone, Copy)]
 pub struct Enumerated {
     pub points: usize,
     pub found: usize,

@@ -12,7 +12,7 @@ use cuts::keeping::{equal_row, keep_number, keep_row};
 use state::kept::{kept_count, number_of};
 
 // The cut and what it was resolved from, its number, and how many cuts are made now.
-#[derive(Drop)]
+#[derive(Clone, Copy)]
 pub struct Learned {
     pub cut: [i64; 33],
     pub used: [usize; 32],

@@ -20,7 +20,7 @@ pub fn is_spent(conflicts: usize, budget: usize) -> bool
 }
 
 // The backjump level, and how many cuts are made now.
-#[derive(Drop)]
+#[derive(Clone, Copy)]
 pub struct Met {
     pub back: usize,
     pub made: usize,

@@ -12,7 +12,7 @@ use crate::mirror::ROOM;
 use linear::divisibility::is_falsified;
 
 // The backjump level, and how many levels were tested to find it.
-#[derive(Drop)]
+#[derive(Clone, Copy)]
 pub struct BackjumpLevel {
     pub level: usize,
     pub tested: usize,

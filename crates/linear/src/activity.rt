@@ -103,7 +103,7 @@ pub fn implied_lower(p: i64, a: i64) -> i64
 }
 
 // A bound that a constraint improves.
-#[derive(Drop)]
+#[derive(Clone, Copy)]
 pub enum Improvement {
     Lower(i64),
     Upper(i64),

@@ -6,27 +6,27 @@ ghost use Rattle.numerals.specs.Words.{digit_of, size_in, AtMost, plus_of, minus
 const LARGEST: usize = 9_223_372_036_854_775_807;
 
 // The value of digits, if there are some and nothing else, and it is not too large.
-#[derive(Drop)]
+#[derive(Clone, Copy)]
 enum Size {
     Value(usize),
     Wrong,
 }
 
-#[derive(Drop)]
+#[derive(Clone, Copy)]
 pub enum Number {
     Value(i64),
     Wrong,
 }
 
 // A date as it is written. Whether the calendar has that day is not asked.
-#[derive(Drop)]
+#[derive(Clone, Copy)]
 pub struct Day {
     pub year: u32,
     pub month: u32,
     pub day: u32,
 }
 
-#[derive(Drop)]
+#[derive(Clone, Copy)]
 pub enum Date {
     Value(Day),
     Wrong,

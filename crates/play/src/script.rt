@@ -10,7 +10,7 @@ const LEAST: usize = 9_223_372_036_854_775_808;
 const NONE: usize = LARGEST;
 
 // What comes of a line: it is played, or there is a reason why not.
-#[derive(Drop)]
+#[derive(Clone, Copy)]
 pub(crate) enum Outcome {
     Played,
     NoCommand,
@@ -21,7 +21,7 @@ pub(crate) enum Outcome {
 }
 
 // What a line asks for: signature k, and its numbers, the last of them as `value` and those before it as `i` and `j`. Where it cannot be played, k is none.
-#[derive(Drop)]
+#[derive(Clone, Copy)]
 pub(crate) struct Line {
     pub(crate) k: usize,
     pub(crate) i: usize,
@@ -31,7 +31,7 @@ pub(crate) struct Line {
 }
 
 // A number's 64 bits, whether there is a number, and the place after it.
-#[derive(Drop)]
+#[derive(Clone, Copy)]
 struct Number {
     is_one: bool,
     bits: usize,
@@ -39,7 +39,7 @@ struct Number {
 }
 
 // A number and its limit: the places after them, and whether one was missing or past its limit up to here.
-#[derive(Drop)]
+#[derive(Clone, Copy)]
 struct Argument {
     bits: usize,
     next: usize,

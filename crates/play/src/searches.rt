@@ -10,7 +10,7 @@ use state::Search;
 
 // Where the calls have come: what the last gave, the digest of the blocks or the solutions, how many solutions were shown, whether to go on, and whether the
 // last strike said 'ended'.
-#[derive(Drop)]
+#[derive(Clone, Copy)]
 struct Searched {
     last: Traced,
     sum: usize,

@@ -10,7 +10,7 @@ use layout::range::sizes_in_range;
 
 // A problem, document 01's 'plan'. Its constraints lie in 64 rows of 33 numbers: the constant, then a coefficient for each of 32 variables. What stands
 // past the first n variables and m constraints is ignored; a problem that was read has zeros there.
-#[derive(Drop)]
+#[derive(Clone, Copy)]
 pub struct Problem {
     // 'n', the variables
     pub n: usize,
@@ -29,7 +29,7 @@ pub struct Problem {
 }
 
 // Document 01's table with document 02's 10 and 13, 0 to 10 and 13 in this order; `Done` where none of its conditions holds.
-#[derive(Drop)]
+#[derive(Clone, Copy)]
 pub enum Answer {
     Done,
     Truncated,
@@ -66,7 +66,7 @@ pub fn error_number(answer: Answer) -> usize
 }
 
 // What reading gives: the problem, or an error and a problem of zeros.
-#[derive(Drop)]
+#[derive(Clone, Copy)]
 pub struct Reading {
     pub answer: Answer,
     pub problem: Problem,

@@ -22,7 +22,7 @@ use state::kept::{kept_count, number_of};
 use threshold::{lift, sink};
 
 // Where propagation stops: at a conflict in the constraint at a position, at a decision at a variable, or at the solution.
-#[derive(Drop)]
+#[derive(Clone, Copy)]
 pub enum Found {
     Conflict(usize),
     Decide(usize),
@@ -30,7 +30,7 @@ pub enum Found {
 }
 
 // That, and the count of bounds that constraints set so far.
-#[derive(Drop)]
+#[derive(Clone, Copy)]
 pub struct Propagated {
     pub found: Found,
     pub count: usize,

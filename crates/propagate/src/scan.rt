@@ -18,7 +18,7 @@ use linear::activity::{Improvement, further, improvement_at, min_activity};
 const UNKNOWN: i64 = 36028797018963968;
 
 // What move 2 finds: a better bound (position of the constraint, variable, bound), or nothing.
-#[derive(Drop)]
+#[derive(Clone, Copy)]
 pub enum Move {
     Lower(usize, usize, i64),
     Upper(usize, usize, i64),

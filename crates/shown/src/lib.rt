@@ -4,7 +4,7 @@ use problem::Answer;
 use state::Search;
 
 // What opening gives: the search state, or an error and a blank state, which is not valid.
-#[derive(Drop)]
+#[derive(Clone, Copy)]
 pub struct Opened {
     pub answer: Answer,
     pub state: Search,
@@ -12,7 +12,7 @@ pub struct Opened {
 
 // What a turn gives. `values` are the solution's, zeros past them or where there is none; `block` is the journal block if a conflict was counted
 // (`recorded`), else zeros; an error gives back the state whole.
-#[derive(Drop)]
+#[derive(Clone, Copy)]
 pub struct Stepped {
     pub verdict: Verdict,
     pub values: [i64; 32],
@@ -25,7 +25,7 @@ pub struct Stepped {
 
 // What striking out a solution answers: 'struck'; 'ended' for one that no decision led to; 'no form' for a state that is not marked as solved; or 9 for one
 // that is refused.
-#[derive(Drop)]
+#[derive(Clone, Copy)]
 pub enum Exclusion {
     Struck,
     Ended,
@@ -34,7 +34,7 @@ pub enum Exclusion {
 }
 
 // What striking out gives. Unless a solution was struck out, the state is the given one, whole.
-#[derive(Drop)]
+#[derive(Clone, Copy)]
 pub struct Excluded {
     pub answer: Exclusion,
     pub state: Search,

@@ -13,7 +13,7 @@ pub const DECISION: usize = 18446744073709551615;
 pub const FLIPPED: usize = 18446744073709551614;
 
 // A decision level ('frame'): the bounds, the reason of each, and the decision variable, which has no meaning at level 0.
-#[derive(Drop)]
+#[derive(Clone, Copy)]
 pub struct Level {
     pub lower: [i64; 32],
     pub upper: [i64; 32],
@@ -22,7 +22,7 @@ pub struct Level {
     pub decided: usize,
 }
 
-#[derive(Drop)]
+#[derive(Clone, Copy)]
 pub enum Status {
     Undecided,
     Infeasible,
@@ -33,7 +33,7 @@ pub enum Status {
 // for an inequality; the kept cuts follow, oldest first, with their numbers in `numbers`. `propagations` counts the bounds that constraints set (N5), and
 // `thresholds` has a variable's least value above 0, 0 for none (N6). What
 // stands past n, m, the kept cuts and the depth is not read.
-#[derive(Drop)]
+#[derive(Clone, Copy)]
 pub struct Search {
     pub n: usize,
     pub m: usize,

@@ -6,7 +6,7 @@ pub mod back;
 pub mod track;
 
 // How turns repeated end: after as many as were asked for, or with a verdict.
-#[derive(Drop)]
+#[derive(Clone, Copy)]
 pub enum Ending {
     GoOn,
     NoSolution,
@@ -15,7 +15,7 @@ pub enum Ending {
 }
 
 // The ending, how many solutions were struck out, how many conflicts were counted since the last of them, and the state.
-#[derive(Drop)]
+#[derive(Clone, Copy)]
 pub struct Advanced {
     pub ending: Ending,
     pub struck: usize,
