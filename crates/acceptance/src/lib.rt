@@ -1,1 +1,2 @@
 // Laws alone: see proofs/.
+#![tactic(auto)]

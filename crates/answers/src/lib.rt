@@ -1,4 +1,6 @@
 // The answers of the calls on a search, and turns from any valid state.
+#![tactic(auto)]
+
 ghost use Rattle.std.specs.Prelude.{◌<◌, ◌≤◌, ◌≡◌, get_or};
 ghost use Rattle.layout.specs.Rows.{number_in};
 ghost use Rattle.fields.specs.Fields.{filled};

@@ -1,4 +1,6 @@
 // A program's arguments, and the files that they name. What is wrong is told on standard error in one line, and nothing goes to standard output.
+#![tactic(auto)]
+
 mod files;
 mod given;
 mod request;

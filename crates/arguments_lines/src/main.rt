@@ -1,4 +1,6 @@
 // Prints how each argument is understood: as a number, as a date, and as a file's name, by how many bytes of the file there is room for.
+#![tactic(auto)]
+
 ghost use Rattle.std.specs.Prelude.{◌≤◌, length};
 
 use libc::STDOUT_FILENO;

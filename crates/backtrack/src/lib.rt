@@ -1,5 +1,7 @@
 // Decisions and backjumps: what is kept of the constraints is saved for each level that a decision leaves, and taken back when the search goes back
 // to it.
+#![tactic(auto)]
+
 ghost use Rattle.std.specs.Prelude.{◌≡◌, ◌+◌, ◌-◌, ◌*◌, ◌≤◌, ◌<◌, ◌-ℤ◌, length};
 ghost use Rattle.model_problems.specs.Ranges.{max_variables, max_constraints, max_budget};
 ghost use Rattle.integer.specs.Size.{Within};

@@ -1,4 +1,6 @@
 // The bytes of 512-byte blocks: numbers read and written, a block's check, and a block written field by field.
+#![tactic(auto)]
+
 pub mod build;
 pub mod check;
 pub mod journal;

@@ -1,4 +1,6 @@
 // Small problems against plain enumeration. A line of standard input is a family of problems, eleven numbers; a line of output says what they showed.
+#![tactic(auto)]
+
 mod agree;
 mod family;
 mod number;

@@ -1,4 +1,6 @@
 // Whether a conflict can be counted; and a counted one: what is learned from it, the level to go back to, and its journal record.
+#![tactic(auto)]
+
 pub mod learn;
 
 ghost use Rattle.std.specs.Prelude.{true, false, ◌≡◌};

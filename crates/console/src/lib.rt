@@ -1,4 +1,6 @@
 // What the programs do with the bytes of a problem file: print its verdict, write its journal, or print its solutions.
+#![tactic(auto)]
+
 ghost use Rattle.io.specs.Counts.{IsPrefixLen};
 
 use answers::Verdict;

@@ -1,4 +1,6 @@
 // A solution struck out of a search.
+#![tactic(auto)]
+
 ghost use Rattle.std.specs.Prelude.{◌≡◌, ◌<◌};
 ghost use Rattle.model_walk.specs.Search.{undecided};
 ghost use Rattle.model_walk.specs.Conflict.{back_up};

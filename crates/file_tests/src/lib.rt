@@ -1,4 +1,6 @@
 // The tests on the bytes of a problem file: document 01's errors 1 to 4 and 7.
+#![tactic(auto)]
+
 ghost use Rattle.std.specs.Prelude.{◌≡◌, ◌≤◌, length};
 ghost use Rattle.model_problems.specs.Ranges.{max_variables};
 ghost use Rattle.model_files.specs.Bytes.{block_length};

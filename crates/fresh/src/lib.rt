@@ -1,4 +1,6 @@
 // A fresh opening, as a caller sees it: the search state of a problem that is not refused, or else its number with a blank state.
+#![tactic(auto)]
+
 ghost use Rattle.std.specs.Prelude.{◌≡◌};
 ghost use Rattle.model_problems.specs.Problem.{result_of};
 ghost use Rattle.model_walk.specs.Search.{opened_by};

@@ -1,4 +1,6 @@
 // The arithmetic of document 01's 'Lines and bounds'. Divisors are unsigned, as the model's are.
+#![tactic(auto)]
+
 ghost use Rattle.std.specs.Prelude.{◌≡◌, ◌<◌, ◌^◌, nat_abs};
 ghost use Rattle.model_problems.specs.Division.{floor_div, ceil_div, exact_div, gcd as gcd_of};
 ghost use Rattle.integer.specs.Size.{Within};

@@ -1,4 +1,6 @@
 // The program `journal`: it reads a problem file from standard input and writes the journal's blocks to standard output. An error writes nothing.
+#![tactic(auto)]
+
 fn main() {
     let use_text = b"use: journal < FILE\n\
         Reads a problem file, searches for its first solution as `verdict` does, and writes a block of\n\

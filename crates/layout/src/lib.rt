@@ -1,5 +1,7 @@
 // Constraints in rows of 33 numbers, and the sizes and ranges of documents 01 and 02, each once: rows are tested, compared, copied and stored here. specs/ says how
 // flat arrays are read as the model's constraints and boxes.
+#![tactic(auto)]
+
 ghost use Rattle.std.specs.Prelude.{◌+◌, ◌*◌, ◌≤◌, ◌<◌, ◌≡◌, length};
 ghost use Rattle.model_problems.specs.Ranges.{max_variables};
 ghost use Rattle.model_problems.specs.Constraint.{equal, equalℤ};

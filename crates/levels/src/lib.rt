@@ -1,4 +1,6 @@
 // What a search keeps of its levels in flat arrays, the backjump level, which is sought there, and the values of solutions that it strikes out.
+#![tactic(auto)]
+
 pub mod level;
 pub mod mirror;
 pub mod struck;

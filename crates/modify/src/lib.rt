@@ -1,5 +1,7 @@
 // Problems changed: a constraint put at the end or in place of another, constraints left out, a variable closed. A constraint that is put in is a row of 33
 // numbers and its divisor; what stands past the first n variables in it is ignored.
+#![tactic(auto)]
+
 ghost use Rattle.std.specs.Prelude.{◌≡◌, ◌+◌, ◌*◌, ◌<◌, ◌≤◌, length};
 ghost use Rattle.model_problems.specs.Ranges.{max_variables, max_constraints};
 ghost use Rattle.layout.specs.Rows.{row_length, divided_at};

@@ -1,4 +1,6 @@
 // What a word says: a number, or a date.
+#![tactic(auto)]
+
 ghost use Rattle.std.specs.Prelude.{◌≡◌, ◌≤◌, ◌-◌, ◌^◌, length};
 ghost use Rattle.std.proofs.Math.Seq.{slice};
 ghost use Rattle.numerals.specs.Words.{digit_of, size_in, AtMost, plus_of, minus_of, number_in, date_in};

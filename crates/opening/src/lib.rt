@@ -1,4 +1,6 @@
 // Document 01's 'opening': the search state at the start, from a problem.
+#![tactic(auto)]
+
 ghost use Rattle.std.specs.Prelude.{◌≡◌, true, map, ◌+◌, ◌<◌, ◌≤◌};
 ghost use Rattle.model_problems.specs.Lists.{tab};
 ghost use Rattle.model_problems.specs.Ranges.{max_variables, max_constraints};

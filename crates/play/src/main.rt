@@ -1,5 +1,7 @@
 // Plays a script from standard input: lines that make files, problems and search states, call the product on them and print what it answers. A command is
 // a function; each module plays those of its subject and leaves the others to the next.
+#![tactic(auto)]
+
 use libc::STDIN_FILENO;
 use script::Outcome;
 

@@ -1,4 +1,6 @@
 // Problems, document 01's 'plans', the numbers of errors, and the tests of a problem's numbers that reading, writing and opening share.
+#![tactic(auto)]
+
 pub mod range;
 
 ghost use Rattle.std.specs.Prelude.{◌≡◌};

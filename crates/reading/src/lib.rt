@@ -1,4 +1,6 @@
 // Reading problem files, document 01's 'plan files'.
+#![tactic(auto)]
+
 mod reader;
 
 ghost use Rattle.std.specs.Prelude.{◌≡◌};

@@ -1,4 +1,6 @@
 // Journal records ('Journal block'): the 512 bytes of a record, written into a part of a lent buffer.
+#![tactic(auto)]
+
 ghost use Rattle.std.specs.Prelude.{◌≡◌, true, ◌+◌, ◌*◌, ◌≤◌, length};
 ghost use Rattle.model_problems.specs.Ranges.{max_variables};
 ghost use Rattle.model_files.specs.Bytes.{block_length};

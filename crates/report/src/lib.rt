@@ -1,4 +1,6 @@
 // What the programs print, put line by line into a lent buffer, so that many lines cost one system call.
+#![tactic(auto)]
+
 mod line;
 mod text;
 

@@ -1,4 +1,6 @@
 // Prints each line of the report, with numbers at the edges of their ranges.
+#![tactic(auto)]
+
 ghost use Rattle.std.specs.Prelude.{◌≤◌, length};
 
 use libc::STDOUT_FILENO;

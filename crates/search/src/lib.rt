@@ -1,5 +1,7 @@
 // The public calls on a search: open a file or a problem, take a turn, run to a verdict, run with the journal, strike out a solution, and list solutions. None has a
 // `requires`: each does its own checking.
+#![tactic(auto)]
+
 ghost use Rattle.std.specs.Prelude.{◌≡◌};
 ghost use Rattle.model_walk.specs.Search.{open_file};
 ghost use Rattle.model_acceptance.specs.Acceptable.{open_given};

@@ -1,4 +1,6 @@
 // What the calls show a caller, beside the answers of turns. How each is read as the documents' answer stands in specs/.
+#![tactic(auto)]
+
 use answers::Verdict;
 use problem::Answer;
 use state::Search;

@@ -1,4 +1,6 @@
 // The program `solutions`, document 02's N4: it reads a problem file from standard input and prints every solution, in dictionary order.
+#![tactic(auto)]
+
 fn main() {
     let use_text = b"use: solutions < FILE\n\
         Reads a problem file and prints every solution, in dictionary order of the values.\n\

@@ -1,4 +1,5 @@
 // The search state, document 01's 'walk', and its levels.
+#![tactic(auto)]
 
 ghost use Rattle.std.specs.Prelude.{◌≡◌};
 ghost use Rattle.state.specs.Change.{Whole};

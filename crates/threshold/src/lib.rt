@@ -1,4 +1,6 @@
 // Document 02's N6: a variable with a threshold t may be 0 or less, or at least t; t is 0 where it may be any number. Bounds jump over the gap between.
+#![tactic(auto)]
+
 ghost use Rattle.std.specs.Prelude.{◌≡◌, ◌^◌};
 ghost use Rattle.integer.specs.Size.{Within};
 ghost use Rattle.model_problems.specs.Threshold.{in_gap, lifted, sunk, next_value};

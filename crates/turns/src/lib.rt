@@ -1,4 +1,6 @@
 // What turns repeated in place stand on: how they end, the divisor constraints set apart, going back, and what is tracked. The loop itself is `engine`.
+#![tactic(auto)]
+
 use state::Search;
 
 pub mod apart;

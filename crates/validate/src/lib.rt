@@ -1,4 +1,6 @@
 // Document 01's 'foreign walk' (9): whether a search state is one that a turn or a run takes.
+#![tactic(auto)]
+
 ghost use Rattle.std.specs.Prelude.{◌≡◌};
 ghost use Rattle.model_walk.specs.Validity.{admitted};
 ghost use Rattle.state.specs.View.{view};

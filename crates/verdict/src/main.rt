@@ -1,4 +1,6 @@
 // The program `verdict`, document 01's 'Writer and program': it reads a problem file from standard input and prints its verdict.
+#![tactic(auto)]
+
 fn main() {
     let use_text = b"use: verdict < FILE\n\
         Reads a problem file and searches for its first solution, in dictionary order of the values.\n\

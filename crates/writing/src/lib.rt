@@ -1,4 +1,5 @@
 // Writing problem files, document 01's 'writer'.
+#![tactic(auto)]
 
 ghost use Rattle.std.specs.Prelude.{◌≡◌};
 ghost use Rattle.model_files.specs.File.{write_file};
