@@ -4,7 +4,7 @@ use native.Mathlib.Omega.{arith}
 use mathlib.Core.Bool.{Bool}
 use mathlib.Core.List.{List, [], ◌∷◌, ◌++◌}
 use mathlib.Core.Option.{some}
-use mathlib.Core.Path.{◌≡◌, sym, ap, ap₂, ◌∙◌}
+use mathlib.Core.Path.{◌≡◌, sym, subst, ap, ap₂, ◌∙◌}
 use lib.Dec.{T, leb, leb→le, le→leb, eqb→eq}
 use lib.ListN.{length, drop, length-append, length-drop}
 use lib.Seq.{drop-append-le}
@@ -90,7 +90,7 @@ keep-fits c k h g i =
       numbers = keep-numbers c k h;
       thresholds = h.thresholds;
       outside = h.outside;
-      levels = rw e (every_map (LevelFits n last) (LevelFits n (suc last)) (levels c) (level-more n last) h.levels);
+      levels = subst (λ (t : ℕ). Every (LevelFits n t) (levels c)) (sym e) (every_map (LevelFits n last) (LevelFits n (suc last)) (levels c) (level-more n last) h.levels);
       stacked = h.stacked;
     }
 

@@ -1,0 +1,13 @@
+-- `backtrack::place` meets its contract. Assumes nothing.
+use mathlib.Core.Path.{sym}
+use Rattle.state.proofs.Moved.{place-less, place-more}
+use borrow.Author.Rules.{rules}
+use Rattle.backtrack.proofs.place.Reads as reads
+use Rattle.backtrack.proofs.place.Lts as lts
+use Rattle.backtrack.proofs.place.Goals as goal
+
+pub returns-then-j-m : goal.returns-then-j-m
+returns-then-j-m c = sym (place-less _ _ _ c.if-j-m.true)
+
+pub returns : goal.returns
+returns c = sym (place-more _ _ _ c.if-j-m.false)

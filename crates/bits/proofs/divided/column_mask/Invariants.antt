@@ -1,0 +1,22 @@
+-- `bits::divided::column_mask` meets its contract: the mask is that of the inputs passed. Assumes nothing.
+use Prim.Native.Nat.{ℕ, ◌+◌, ◌-◌, ◌*◌, ◌≤◌, ◌<◌, ◌^◌}
+use native.Mathlib.Omega.{arith}
+use mathlib.Core.Bool.{false}
+use mathlib.Core.Logic.{◌⊎◌}
+use mathlib.Core.Path.{◌≡◌, refl}
+use Rattle.layout.proofs.Elements.{number_read, cell-read}
+use lib.IntN.{pos}
+use Rattle.layout.specs.Rows.{row_length, number_in, cell}
+use Rattle.bits.specs.Divided.{Unmentioned}
+use Rattle.bits.proofs.Bits.{Covers, covers-none, covers-small, covers-all, covers_out, covers-in}
+use borrow.Author.Rules.{rules, sfits_of}
+use Rattle.bits.proofs.divided.column_mask.Reads as reads
+use Rattle.bits.proofs.divided.column_mask.Lts as lts
+use Rattle.bits.proofs.divided.is_mentioned.Reads as is-mentioned-reads
+use Rattle.bits.proofs.divided.column_mask.Given as goal
+
+abbrev pub invariant-loop-j : goal.invariant-loop-j
+invariant-loop-j l = (l.j ≤ l.m) × Covers (λ (k : ℕ). (number_in l.divisors k ≡ pos 0) ⊎ Unmentioned l.lines l.i k) l.m l.j l.mask
+
+abbrev pub decreases-loop-j : goal.decreases-loop-j
+decreases-loop-j l = l.j

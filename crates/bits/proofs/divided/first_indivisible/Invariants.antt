@@ -1,0 +1,29 @@
+-- `bits::divided::first_indivisible` meets its contract: the constraints whose bit is gone are not falsified. Assumes nothing.
+use Rattle.bits.proofs.Bits.{bit_past}
+use Prim.Native.Nat.{ℕ, ◌+◌, ◌*◌, ◌≤◌, ◌<◌, ◌^◌}
+use native.Mathlib.Omega.{arith}
+use mathlib.Core.Bool.{true, false}
+use mathlib.Core.Logic.{◌⊎◌, inl, inr, ⊎_elim}
+use mathlib.Core.Path.{◌≡◌, sym, ◌∙◌}
+use borrow.Author.Rules.{rules}
+use native.Mathlib.Nat.{eq-or-lt_of_le}
+use Rattle.lists.proofs.Bools.{lt-or-le}
+use Rattle.layout.proofs.Elements.{number_read}
+use Rattle.linear.proofs.Ranges.{row_fits}
+use Rattle.model_problems.specs.Constraint.{falsified}
+use Rattle.layout.specs.Rows.{row_at, input_at, box_of}
+use Rattle.bits.specs.Masks.{bit}
+use Rattle.bits.specs.Divided.{FirstIndivisible}
+use Rattle.bits.proofs.divided.first_indivisible.Reads as reads
+use Rattle.bits.proofs.divided.first_indivisible.Lts as lts
+use Rattle.linear.proofs.divisibility.is_falsified.Reads as is-falsified-reads
+use Rattle.bits.proofs.masks.first.Reads as first_reads
+use Rattle.bits.proofs.masks.rest.Reads as rest-reads
+use Rattle.bits.proofs.divided.first_indivisible.Given as goal
+
+abbrev pub invariant-loop-left : goal.invariant-loop-left
+invariant-loop-left l =
+    (l.left < 2 ^ l.m) × ((j : ℕ) → bit l.left j ≡ 0 → (bit l.mask j ≡ 0) ⊎ (falsified (input_at l.n l.lines l.divisors j) (box_of l.n l.lower l.upper) ≡ false))
+
+abbrev pub decreases-loop-left : goal.decreases-loop-left
+decreases-loop-left l = l.left

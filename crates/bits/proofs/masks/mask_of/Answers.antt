@@ -1,0 +1,15 @@
+-- `bits::masks::mask_of` meets its contract. Assumes nothing.
+use Prim.Native.Nat.{◌+◌, ◌-◌}
+use native.Mathlib.Omega.{arith}
+use mathlib.Core.Path.{◌≡◌}
+use borrow.Author.Rules.{rules}
+use Rattle.bits.proofs.masks.mask_of.Goals as goal
+
+pub returns-then-j-m : goal.returns-then-j-m
+returns-then-j-m c = λ n kept rows k h. k.input _ c.if-j-m.true
+
+pub returns : goal.returns
+returns c =
+    let a = c.args in
+    let e : a.m + (a.j - a.m) ≡ a.j = omega arith in
+    λ n kept rows k h. rw e at (k.cut (a.j - a.m) (omega arith))

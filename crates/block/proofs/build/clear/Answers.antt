@@ -1,0 +1,10 @@
+use Rattle.std.proofs.Common.{◌≡◌, ◌-◌, ◌≤◌, ◌++◌, length, drop, replicate, rules}
+use Rattle.model_files.specs.Bytes.{block_length}
+use Rattle.block.proofs.Sealing.{cleared_more, cleared-all}
+use Rattle.block.proofs.build.clear.Goals as goal
+
+pub loop-i-preserved : goal.loop-i-preserved
+loop-i-preserved c = search (rules, cleared_more)
+
+pub returns : goal.returns
+returns c = search (rules, cleared-all)

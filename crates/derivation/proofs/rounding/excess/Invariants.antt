@@ -1,0 +1,15 @@
+-- `linear::rounding::excess` meets its contract. Assumes nothing.
+use Prim.Native.Nat.{◌≤◌, ◌-◌, ◌+◌}
+use native.Mathlib.Omega.{arith}
+use mathlib.Core.Path.{ap, ◌∙◌}
+use borrow.Author.Rules.{rules}
+use lib.IntN.{nat_abs}
+use Rattle.layout.proofs.Elements.{cell-read}
+use Rattle.derivation.proofs.RoundingLaws.{excess-at, excess-none}
+use Rattle.derivation.proofs.rounding.excess.Given as goal
+
+abbrev pub invariant-loop-i : goal.invariant-loop-i
+invariant-loop-i l = l.i ≤ l.n
+
+abbrev pub decreases-loop-i : goal.decreases-loop-i
+decreases-loop-i l = l.n - l.i

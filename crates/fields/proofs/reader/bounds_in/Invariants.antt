@@ -1,0 +1,15 @@
+use Prim.Native.Nat.{◌-◌, ◌≤◌}
+use native.Mathlib.Omega.{arith}
+use mathlib.Core.Path.{◌≡◌}
+use borrow.Author.Rules.{sfits_of, rules}
+use Rattle.fields.specs.Fields.{filled, bound_in}
+use Rattle.fields.specs.Fields.{room, zeros}
+use Rattle.fields.proofs.Arrays.{bound-is, filled_none, filled_more, filled-end}
+use Rattle.fields.proofs.reader.bounds_in.Given as goal
+
+-- The bounds before i are read, and zeros stand after them.
+abbrev pub invariant-loop-i : goal.invariant-loop-i
+invariant-loop-i l = (l.i ≤ l.n) × (l.bounds ≡ filled (bound_in l.file l.side) l.i room)
+
+abbrev pub decreases-loop-i : goal.decreases-loop-i
+decreases-loop-i l = l.n - l.i

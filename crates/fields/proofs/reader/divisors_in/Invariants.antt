@@ -1,0 +1,14 @@
+use Prim.Native.Nat.{◌-◌, ◌≤◌}
+use native.Mathlib.Omega.{arith}
+use mathlib.Core.Path.{◌≡◌}
+use borrow.Author.Rules.{sfits_of, rules}
+use Rattle.fields.specs.Fields.{divisor_room, zeros, filled, divisor_in}
+use Rattle.fields.proofs.Arrays.{filled_none, filled_more, filled-end, divisor-is}
+use Rattle.fields.proofs.reader.divisors_in.Given as goal
+
+-- The divisors before j are read, and zeros stand after them.
+abbrev pub invariant-loop-j : goal.invariant-loop-j
+invariant-loop-j l = (l.j ≤ l.m) × (l.divisors ≡ filled (divisor_in l.file) l.j divisor_room)
+
+abbrev pub decreases-loop-j : goal.decreases-loop-j
+decreases-loop-j l = l.m - l.j

@@ -1,0 +1,15 @@
+use Prim.Native.Nat.{◌-◌, ◌≤◌}
+use native.Mathlib.Omega.{arith}
+use mathlib.Core.Path.{◌≡◌}
+use borrow.Author.Rules.{sfits_of, rules}
+use Rattle.fields.specs.Fields.{filled, cell_in}
+use Rattle.fields.specs.Fields.{cells, zeros}
+use Rattle.fields.proofs.Arrays.{filled_none, filled_more, filled-end}
+use Rattle.fields.proofs.reader.rows_in.Given as goal
+
+-- The numbers before c are read, and zeros stand after them.
+abbrev pub invariant-loop-c : goal.invariant-loop-c
+invariant-loop-c l = (l.c ≤ l.count) × (l.rows ≡ filled (cell_in l.file) l.c cells)
+
+abbrev pub decreases-loop-c : goal.decreases-loop-c
+decreases-loop-c l = l.count - l.c

@@ -1,0 +1,38 @@
+use Prim.Native.Nat.{◌+◌, ◌*◌, ◌-◌, ◌≤◌}
+use native.Mathlib.Omega.{arith}
+use mathlib.Core.Path.{◌≡◌}
+use lib.ListN.{length}
+use borrow.Author.Rules.{sfits_of, rules}
+use Rattle.model_files.specs.Bytes.{block_length}
+use Rattle.model_files.specs.File.{coefficient_bytes}
+use Rattle.model_problems.specs.Lists.{parts}
+use Rattle.layout.specs.Rows.{constraint_at}
+use Rattle.block.proofs.Placing.{none-placed}
+use Rattle.block.specs.Placed.{Placed}
+use Rattle.fields.proofs.Writing.{constant-room, coefficient-room, coefficients-more, numbers-end}
+use Rattle.fields.proofs.writer.put_numbers.Goals as goal
+
+pub put_i32-requires : goal.put_i32-requires
+put_i32-requires c = search (rules, constant-room)
+
+pub loop-i-init : goal.loop-i-init
+loop-i-init c = search (rules, none-placed)
+
+pub put_i32-requires-in-loop-i : goal.put_i32-requires-in-loop-i
+put_i32-requires-in-loop-i c = (search rules, coefficient-room _ _ _ _ c.loop-i-test.true c.requires.2 (sfits_of c.put_i32-arg-in-loop-i-2-1.given))
+
+pub loop-i-preserved : goal.loop-i-preserved
+loop-i-preserved c = (
+  search rules,
+  omega (arith, c.put_i32-in-loop-i.auto.0, c.loop-i.invariant.1),
+  coefficients-more _ _ _ _
+      c.loop-i-test.true
+      _
+      c.number_offset-in-loop-i.ensures
+      (sfits_of c.put_i32-arg-in-loop-i-2-1.given)
+      c.loop-i.invariant.2
+      c.put_i32-in-loop-i.ensures,
+)
+
+pub returns : goal.returns
+returns c = search (rules, numbers-end)

@@ -1,0 +1,6 @@
+use borrow.Author.Rules.{rules}
+use Rattle.fields.proofs.Writing.{sizes-placed}
+use Rattle.fields.proofs.writer.put_sizes.Goals as goal
+
+pub returns : goal.returns
+returns c = search sizes-placed

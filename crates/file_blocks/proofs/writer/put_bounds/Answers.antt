@@ -1,0 +1,40 @@
+use Prim.Native.Nat.{◌+◌, ◌*◌, ◌-◌, ◌≤◌}
+use native.Mathlib.Omega.{arith}
+use mathlib.Core.Path.{◌≡◌}
+use lib.ListN.{length}
+use borrow.Author.Rules.{sfits_of, rules}
+use Rattle.model_files.specs.Bytes.{block_length}
+use Rattle.model_files.specs.File.{bounds_bytes}
+use Rattle.model_problems.specs.Lists.{parts}
+use Rattle.block.proofs.Placing.{none-placed}
+use Rattle.block.specs.Placed.{Placed}
+use Rattle.problem.specs.View.{problem_of}
+use Rattle.file_blocks.proofs.Writing.{lower-room, upper-room, bounds-more, fields-end}
+use Rattle.file_blocks.proofs.writer.put_bounds.Goals as goal
+
+pub loop-i-init : goal.loop-i-init
+loop-i-init c = search (rules, none-placed)
+
+pub put_i32-requires : goal.put_i32-requires
+put_i32-requires c = search (rules, lower-room)
+
+pub put_i32-requires-in-loop-i : goal.put_i32-requires-in-loop-i
+put_i32-requires-in-loop-i c = (search rules, upper-room _ _ c.loop-i-test.true c.requires.1 (sfits_of c.put_i32-arg-in-loop-i-3-1.given))
+
+pub loop-i-preserved : goal.loop-i-preserved
+loop-i-preserved c = (
+  search rules,
+  omega (arith, c.put_i32-in-loop-i.auto.0, c.put_i32.auto.0, c.loop-i.invariant.1),
+  bounds-more _ _
+      c.loop-i-test.true
+      _
+      c.bounds_offset-at.ensures.0
+      (sfits_of c.put_i32-arg-in-loop-i-1.given)
+      (sfits_of c.put_i32-arg-in-loop-i-3-1.given)
+      c.loop-i.invariant.2
+      c.put_i32.ensures
+      c.put_i32-in-loop-i.ensures,
+)
+
+pub returns : goal.returns
+returns c = search (rules, fields-end)

@@ -1,0 +1,14 @@
+-- `integer::gcd_above` meets its contract: the greatest common divisor of what is left is that of the arguments. Assumes nothing.
+use native.Mathlib.Omega.{arith}
+use native.Mathlib.Nat.{mod-lt}
+use mathlib.Core.Logic.{inl, inr}
+use mathlib.Core.Path.{◌≡◌, refl, sym, ◌∙◌}
+use Rattle.model_problems.specs.Division.{gcd}
+use Rattle.integer.specs.Divisor.{gcd-step, gcd-zero, gcd-small}
+use Rattle.integer.proofs.gcd_above.Given as goal
+
+abbrev pub invariant-loop-y : goal.invariant-loop-y
+invariant-loop-y l = gcd l.a l.b ≡ gcd l.x l.y
+
+abbrev pub decreases-loop-y : goal.decreases-loop-y
+decreases-loop-y l = l.y

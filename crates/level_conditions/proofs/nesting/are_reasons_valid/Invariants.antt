@@ -1,0 +1,13 @@
+-- `level_conditions::nesting::are_reasons_valid` meets its contract: the reasons below i have passed. Assumes nothing.
+use Prim.Native.Nat.{◌-◌, ◌≤◌}
+use Rattle.level_conditions.proofs.Reasons.{above-fails, below_fails, reasons-end, reasons-more, reasons-none, reasons_to}
+use borrow.Author.Rules.{rules}
+use mathlib.Core.Bool.{true}
+use mathlib.Core.Path.{◌≡◌}
+use Rattle.level_conditions.proofs.nesting.are_reasons_valid.Given as goal
+
+abbrev pub invariant-loop-i : goal.invariant-loop-i
+invariant-loop-i l = (l.i ≤ l.n) × (reasons_to l.last l.below l.above l.i ≡ true)
+
+abbrev pub decreases-loop-i : goal.decreases-loop-i
+decreases-loop-i l = l.n - l.i

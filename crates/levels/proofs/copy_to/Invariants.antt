@@ -1,0 +1,18 @@
+-- `levels::copy_to` meets its contract. Assumes nothing.
+use Prim.Native.Nat.{ℕ, ◌≤◌, ◌<◌, ◌-◌, ◌+◌}
+use native.Mathlib.Omega.{arith}
+use mathlib.Core.Path.{◌≡◌}
+use Rattle.layout.specs.Rows.{number_in}
+use Rattle.layout.proofs.Elements.{number_read}
+use Rattle.levels.proofs.Copying.{copied_none, copied_more}
+use Rattle.levels.specs.Copied.{Copied}
+use borrow.Author.Rules.{rules}
+use Rattle.levels.proofs.copy_to.Reads as reads
+use Rattle.levels.proofs.copy_to.Lts as lts
+use Rattle.levels.proofs.copy_to.Given as goal
+
+abbrev pub invariant-loop-j : goal.invariant-loop-j
+invariant-loop-j l = (l.j ≤ l.count) × Copied l.j l.at l.from l.initial.to l.to
+
+abbrev pub decreases-loop-j : goal.decreases-loop-j
+decreases-loop-j l = l.count - l.j

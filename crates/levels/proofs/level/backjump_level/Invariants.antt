@@ -1,0 +1,54 @@
+-- `levels::level::backjump_level` meets its contract: every level passed falsifies the constraint, and where one does not, none above it does. Assumes
+-- nothing.
+use Prim.Native.Nat.{ℕ, suc, ◌+◌, ◌*◌, ◌-◌, ◌≤◌, ◌<◌}
+use native.Mathlib.Omega.{arith}
+use mathlib.Core.Bool.{true, false}
+use mathlib.Core.Path.{◌≡◌, sym, subst, ◌∙◌}
+use borrow.Author.Rules.{rules}
+use borrow.Author.Tests.{not-true, not-false}
+use native.Mathlib.Nat.{eq-or-lt_of_le}
+use mathlib.Core.List.{List}
+use mathlib.Core.Logic.{⊎_elim}
+use lib.IntN.{ℤ}
+use lib.ListN.{length, drop, take, length-drop}
+use lib.Seq.{take_all}
+use mir.Syntax.{w64}
+use mir.Val.{to_z}
+use mir.Facts.{to_z-of_z}
+use Rattle.layout.proofs.Elements.{back}
+use Rattle.lists.proofs.Bools.{clash}
+use Rattle.model_problems.specs.Ranges.{max_variables}
+use Rattle.model_problems.specs.Constraint.{Constraint, falsified}
+use Rattle.model_walk.specs.Conflict.{levels_tested}
+use Rattle.layout.specs.Rows.{divided_at}
+use Rattle.linear.specs.Ranges.{DivisorFits}
+use Rattle.levels.specs.Mirror.{box_in}
+use Rattle.levels.specs.Level.{LevelsNested, LeastFalsifying}
+use Rattle.levels.proofs.Nesting.{level-fits, clear-outward}
+use Rattle.levels.proofs.level.backjump_level.Given as goal
+
+-- the levels from `level` on were tested, and falsify the constraint
+pub record Passed (k : Constraint) (n depth : ℕ) (lowers uppers : List ℤ) (level tested : ℕ) : Type 0 where
+  pub count : tested + level ≡ depth + 1
+  pub falsifies : (t : ℕ) → level ≤ t → t ≤ depth → falsified k (box_in n lowers uppers t) ≡ true
+
+abbrev pub invariant-loop-level : goal.invariant-loop-level
+invariant-loop-level l = Passed (divided_at l.n l.cut 0 (to_z w64 l.q)) l.n l.depth l.lowers l.uppers l.level l.tested
+
+abbrev pub decreases-loop-level : goal.decreases-loop-level
+decreases-loop-level l = l.level
+
+-- the part of an array from a place on
+pub whole_part : (xs : List ℤ) (k : ℕ) → take (length xs - k) (drop k xs) ≡ drop k xs
+whole_part xs k = take_all (length xs - k) (drop k xs) (omega (arith, length-drop k xs))
+
+-- what the test of the level told
+pub tested : (c : goal.After-is_falsified) →
+    let l = c in
+    let a = l.args in
+    c.is_falsified.result ≡ falsified (divided_at a.n a.cut.now 0 (back a.q)) (box_in a.n a.lowers.now a.uppers.now (l.loop-level.level - 1))
+unfolding box_in
+tested c =
+    let l = c in
+    let at = max_variables * (l.loop-level.level - 1) in
+    rw (whole_part l.args.lowers.now at, whole_part l.args.uppers.now at) at c.is_falsified.ensures

@@ -1,0 +1,20 @@
+-- `levels::mirror::mirror` meets its contract. Assumes nothing.
+use Prim.Native.Nat.{ℕ, ◌+◌, ◌-◌, ◌≤◌, ◌<◌}
+use native.Mathlib.Omega.{arith}
+use mathlib.Core.Path.{◌≡◌, sym}
+use borrow.Author.Rules.{rules}
+use Rattle.model_problems.specs.Ranges.{max_variables}
+use Rattle.levels.specs.Mirror.{Mirrored}
+use Rattle.levels.proofs.Mirroring.{mirrored-none, mirrored-more}
+use Rattle.levels.proofs.mirror.mirror.Reads as reads
+use Rattle.levels.proofs.mirror.mirror.Lts as lts
+use Rattle.levels.proofs.mirror.keep_bounds.Reads as keep-bounds-reads
+use Rattle.state.proofs.whole.Reads as whole-reads
+use Rattle.levels.proofs.mirror.mirror.Given as goal
+
+abbrev pub invariant-loop-t : goal.invariant-loop-t
+invariant-loop-t l =
+    (l.t ≤ l.depth) × ((n : ℕ) → n ≤ max_variables → Mirrored n l.levels l.lowers l.uppers l.t)
+
+abbrev pub decreases-loop-t : goal.decreases-loop-t
+decreases-loop-t l = l.depth - l.t

@@ -1,0 +1,7 @@
+-- `opening::from_problem` meets its contract. Assumes nothing.
+use borrow.Author.Rules.{rules}
+use Rattle.opening.proofs.Opened.{opened}
+use Rattle.opening.proofs.from_problem.Goals as goal
+
+pub returns : goal.returns
+returns c = opened c.args.p _ _ _ c.rounded_rows-rows.ensures c.first_level-first.ensures

@@ -1,0 +1,53 @@
+-- `propagate::scan::measure` meets its contract: the constraints passed are tracked. Assumes nothing.
+use Prim.Native.Nat.{◌≤◌, ◌<◌, ◌-◌, ◌*◌, ◌+◌}
+use native.Mathlib.Omega.{arith}
+use mathlib.Core.Path.{◌≡◌}
+use lib.Dec.{lit<}
+use Rattle.model_problems.specs.Constraint.{activity}
+use Rattle.integer.specs.Tests.{back}
+use Rattle.linear.specs.Ranges.{RowFits, BoxFits}
+use Rattle.layout.specs.Rows.{row_length, row_at, box_of}
+use Rattle.propagate.specs.Tracked.{Tracked}
+use Rattle.propagate.proofs.Tracking.{scan-row, scan-box, tracked-more, tracked-some, unknown-reach}
+use borrow.Author.Rules.{rules}
+use Rattle.propagate.proofs.scan.measure.Reads as reads
+use Rattle.propagate.proofs.scan.measure.Lts as lts
+use Rattle.linear.proofs.activity.min_activity.Reads as min-activity-reads
+use Rattle.propagate.proofs.scan.measure.Goals as goal
+
+pub loop-j-init : goal.loop-j-init
+loop-j-init c = (c.requires.1.0, c.requires.1.1)
+
+-- what `min_activity` asks
+ready : (c : goal.After-min_activity-arg-in-loop-j-2-1) →
+    let l = c in
+    let a = l.args in
+    RowFits a.n a.rows.now (row_length * l.loop-j.j) × BoxFits a.n a.lower.now a.upper.now
+ready c =
+    let l = c in
+    let f = l.requires.0 in
+    (scan-row f l.loop-j.j (search rules) c.loop-j-test.true, scan-box f (search rules) (search rules))
+
+pub min_activity-requires : goal.min_activity-requires
+min_activity-requires c = ready c
+
+-- the least value is the model's activity
+least : (c : goal.After-min_activity) →
+    let l = c in
+    let a = l.args in
+    c.min_activity.result ≡ activity (row_at a.n a.rows.now l.loop-j.j) (box_of a.n a.lower.now a.upper.now)
+unfolding row_at
+least c = c.min_activity.ensures.0
+
+pub loop-j-preserved : goal.loop-j-preserved
+loop-j-preserved c =
+    let l = c in
+    let h = c.loop-j-test.true in
+    let r = ready c.before in
+    rw (back (lit< tt) c.min_activity.ensures.1) (
+      omega (arith, h),
+      tracked-more _ _ _ _ _ _ l.loop-j.j _ _ (omega (arith, h, l.requires.0.count)) l.loop-j.invariant.1 (least c) c.min_activity.ensures.1 (unknown-reach _ _ _ _ _ r.0 r.1),
+    )
+
+pub returns : goal.returns
+returns c = tracked-some _ _ _ _ _ _ _ _ c.loop-j-test.false c.loop-j.invariant.1

@@ -1,0 +1,20 @@
+use borrow.Author.Rules.{rules}
+use Prim.Native.Nat.{◌+◌, ◌*◌, ◌-◌, ◌≤◌}
+use mathlib.Core.Path.{◌≡◌}
+use lib.ListN.{length}
+use Rattle.model_problems.specs.Ranges.{max_variables}
+use Rattle.model_files.specs.Bytes.{block_length}
+use Rattle.block.specs.Placed.{Placed}
+use Rattle.block.proofs.Placing.{none-placed}
+use Rattle.record.specs.Written.{used_place, used_of}
+use Rattle.record.proofs.Putting.{used-placed, all_placed}
+use Rattle.record.proofs.put_used.Goals as goal
+
+pub loop-i-init : goal.loop-i-init
+loop-i-init c = search (rules, none-placed)
+
+pub loop-i-preserved : goal.loop-i-preserved
+loop-i-preserved c = (search rules, (search rules, used-placed c.args.used.now _ c.loop-i-test.true c.loop-i.invariant.1.1 c.put_u32.ensures))
+
+pub returns : goal.returns
+returns c = search (rules, all_placed)

@@ -1,0 +1,17 @@
+use borrow.Author.Rules.{rules}
+use Prim.Native.Nat.{◌+◌, ◌*◌, ◌-◌, ◌≤◌}
+use mathlib.Core.Path.{◌≡◌}
+use lib.ListN.{length}
+use Rattle.model_problems.specs.Ranges.{max_variables}
+use Rattle.model_files.specs.Bytes.{block_length}
+use Rattle.block.specs.Placed.{Placed}
+use Rattle.block.proofs.Placing.{none-placed}
+use Rattle.record.specs.Written.{used_place, used_of}
+use Rattle.record.proofs.Putting.{used-placed, all_placed}
+use Rattle.record.proofs.put_used.Given as goal
+
+abbrev pub invariant-loop-i : goal.invariant-loop-i
+invariant-loop-i l = (l.i ≤ max_variables) × ((length l.out ≡ block_length) × Placed l.initial.out used_place (used_place + 4 * l.i) (used_of l.i l.used) l.out)
+
+abbrev pub decreases-loop-i : goal.decreases-loop-i
+decreases-loop-i l = max_variables - l.i

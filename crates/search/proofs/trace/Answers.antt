@@ -1,0 +1,31 @@
+-- `search::trace` meets its contract. Assumes nothing.
+use borrow.Author.Rules.{rules}
+use native.Mathlib.Omega.{arith}
+use mathlib.Core.Bool.{true}
+use mathlib.Core.Path.{◌≡◌, refl}
+use Rattle.model_walk.specs.Validity.{admitted}
+use Rattle.lists.proofs.Bools.{said-no, said-yes}
+use Rattle.state.specs.View.{view}
+use Rattle.answers.proofs.Proceeding.{after-sizes}
+use Rattle.shown.proofs.Showing.{valid-view, few-view, trace-shown, trace-refused}
+use Rattle.search.proofs.trace.Goals as goal
+
+tested : (c : goal.Else-not-is_admitted) → admitted (view c.args.s) ≡ true
+tested c = said-yes c.is_admitted.ensures c.if-not-is_admitted.false
+
+pub returns-then-not-is_admitted : goal.returns-then-not-is_admitted
+returns-then-not-is_admitted c = rw c.refused.ensures (trace-refused _ _ (said-no c.is_admitted.ensures c.if-not-is_admitted.true))
+
+pub proceed-a-requires : goal.proceed-a-requires
+proceed-a-requires c =
+    record { valid = valid-view _ (tested c.before.before); few = few-view _ (tested c.before.before); kept = λ k. omega arith; apart = λ k. refl; roomy = omega arith }
+
+pub answer-requires : goal.answer-requires
+answer-requires c =
+    let z = after-sizes (valid-view _ (tested c.before.before.before.before.before.before)) c.proceed-a.ensures in
+    (z.few, z.shallow)
+
+pub returns : goal.returns
+returns c =
+    rw c.answer.ensures
+    (trace-shown _ _ _ _ _ _ (tested c.before.before.before.before.before.before.before) c.proceed-a.ensures)

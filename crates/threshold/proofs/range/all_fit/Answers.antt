@@ -1,0 +1,22 @@
+-- `threshold::range::all_fit` meets its contract: the variables below i have passed. Assumes nothing.
+use Prim.Native.Nat.{◌-◌, ◌≤◌}
+use mathlib.Core.Bool.{true}
+use mathlib.Core.Path.{◌≡◌}
+use borrow.Author.Rules.{rules}
+use Rattle.model_problems.specs.Lists.{all_pairs}
+use Rattle.model_problems.specs.Threshold.{threshold_fits}
+use Rattle.layout.specs.Rows.{box_of, thresholds_of}
+use Rattle.threshold.proofs.Loops.{beside_none, beside-more, beside_end, beside-fails}
+use Rattle.threshold.proofs.range.all_fit.Goals as goal
+
+pub loop-i-init : goal.loop-i-init
+loop-i-init c = search (rules, beside_none)
+
+pub returns-then-not-fits : goal.returns-then-not-fits
+returns-then-not-fits c = search (rules, beside-fails)
+
+pub loop-i-preserved : goal.loop-i-preserved
+loop-i-preserved c = search (rules, beside-more)
+
+pub returns : goal.returns
+returns c = search (rules, beside_end)

@@ -1,0 +1,22 @@
+-- `threshold::range::are_thresholds` meets its contract: the thresholds below i have passed. Assumes nothing.
+use Prim.Native.Nat.{◌-◌, ◌≤◌}
+use mathlib.Core.Bool.{true}
+use mathlib.Core.Path.{◌≡◌}
+use borrow.Author.Rules.{rules}
+use Rattle.model_problems.specs.Lists.{all_of}
+use Rattle.model_problems.specs.Threshold.{is_threshold}
+use Rattle.layout.specs.Rows.{thresholds_of}
+use Rattle.threshold.proofs.Loops.{each_none, each_more, each-end, each-fails}
+use Rattle.threshold.proofs.range.are_thresholds.Goals as goal
+
+pub loop-i-init : goal.loop-i-init
+loop-i-init c = search (rules, each_none)
+
+pub returns-then-not-is_threshold : goal.returns-then-not-is_threshold
+returns-then-not-is_threshold c = search (rules, each-fails)
+
+pub loop-i-preserved : goal.loop-i-preserved
+loop-i-preserved c = search (rules, each_more)
+
+pub returns : goal.returns
+returns c = search (rules, each-end)
