@@ -14,11 +14,11 @@ use Rattle.state.specs.declared.Search.{Search}
 use Rattle.conditions.specs.Sizes.{sizes_valid}
 
 module _ (n m budget conflicts made depth : ℕ) (r : Bool) (t : r ≡ sizes_fit n m budget) where
-  pub unfit : not r ≡ true → false ≡ sizes_valid n m budget conflicts made depth
+  pub unfit : r ≡ false → false ≡ sizes_valid n m budget conflicts made depth
   unfolding sizes_valid
   unfit h = rw (said-no t h)
 
-  module _ (fit : not r ≡ false) where
+  module _ (fit : r ≡ true) where
     pub too-deep : n < depth → false ≡ sizes_valid n m budget conflicts made depth
     unfolding sizes_valid all
     too-deep h = rw (said-yes t fit, lt-leb depth n h)

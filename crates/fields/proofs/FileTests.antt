@@ -46,10 +46,10 @@ module _ (f : List ℕ) (k : ℕ) where
     unfolding check_matches
     check-test = sym (rw (part-is f k) at e)
 
-    pub checks-more : all (tab (check_matches f) 0 k) ≡ true → not r ≡ false → all (tab (check_matches f) 0 (k + 1)) ≡ true
+    pub checks-more : all (tab (check_matches f) 0 k) ≡ true → r ≡ true → all (tab (check_matches f) 0 (k + 1)) ≡ true
     checks-more a h = all_more (check_matches f) k a (check-test ∙ not-false r h)
 
-    pub check-fails : k < length f / block_length → not r ≡ true → false ≡ checks_match f
+    pub check-fails : k < length f / block_length → r ≡ false → false ≡ checks_match f
     unfolding checks_match
     check-fails l h = sym (all-fails (check_matches f) (length f / block_length) k l (check-test ∙ not-true r h))
 
@@ -79,11 +79,11 @@ module _ (f : List ℕ) (n m b : ℕ) (en : n ≡ variables_in f) (em : m ≡ co
   unfolding problem_in
   sizes-test = sym (t ∙ sizes-fit n m b (problem_in f) (variables-in f ∙ sym en) (constraints-in f ∙ sym em) (sym eb))
 
-  pub sizes-fail : not r ≡ true → false ≡ sizes_match f
+  pub sizes-fail : r ≡ false → false ≡ sizes_match f
   unfolding sizes_match
   sizes-fail h = rw (sizes-test, not-true r h)
 
-  pub count-test : not r ≡ false → eqb (length f) (block_length * (m + 1)) ≡ sizes_match f
+  pub count-test : r ≡ true → eqb (length f) (block_length * (m + 1)) ≡ sizes_match f
   unfolding sizes_match block_count_matches
   count-test h = rw (sizes-test, not-false r h, ← em, add-one m)
 
@@ -94,21 +94,21 @@ module _ (b : List ℕ) (n a : ℕ) (ea : a ≡ 4 * (n + 1)) (r : Bool) (e : r �
   unfolding coefficient_offset
   before-test = let z : 4 + 4 * n ≡ 4 * (n + 1) = omega arith in rw (z, ← ea) (sym e)
 
-  pub stray-before : not r ≡ true → false ≡ block_padded n b
+  pub stray-before : r ≡ false → false ≡ block_padded n b
   unfolding block_padded
   stray-before h = rw (before-test, not-true r h)
 
-  pub stray-after : (t : Bool) → not r ≡ false → t ≡ zero_from (divisor_offset + 4) b → t ≡ block_padded n b
+  pub stray-after : (t : Bool) → r ≡ true → t ≡ zero_from (divisor_offset + 4) b → t ≡ block_padded n b
   unfolding block_padded
   stray-after t h z = rw (before-test, not-false r h) z
 
 -- the head's, before its thresholds and after them
 module _ (b : List ℕ) (n a d : ℕ) (ea : a ≡ bounds_offset n) (ed : d ≡ threshold_offset 0) (r : Bool) (e : r ≡ zero_between a d b) where
-  pub head-before : not r ≡ true → false ≡ head_padded n b
+  pub head-before : r ≡ false → false ≡ head_padded n b
   unfolding head_padded
   head-before h = rw (← ea, ← ed, ← e, not-true r h)
 
-  pub head-after : (t : Bool) (x : ℕ) → x ≡ threshold_offset n → not r ≡ false → t ≡ zero_from x b → t ≡ head_padded n b
+  pub head-after : (t : Bool) (x : ℕ) → x ≡ threshold_offset n → r ≡ true → t ≡ zero_from x b → t ≡ head_padded n b
   unfolding head_padded
   head-after t x ex h z = rw (← ea, ← ed, ← ex, ← e, not-false r h) z
 
@@ -118,11 +118,11 @@ module _ (f : List ℕ) (n : ℕ) (en : n ≡ variables_in f) where
     unfolding block
     head-test = rw (← en) (sym e)
 
-    pub head-nonzero : not r ≡ true → false ≡ padding_zero f
+    pub head-nonzero : r ≡ false → false ≡ padding_zero f
     unfolding padding_zero
     head-nonzero h = rw (head-test, not-true r h)
 
-    pub padding-end : (m j : ℕ) → m ≡ constraints_in f → not r ≡ false → m ≤ j → j ≤ m → all (tab (constraint_padded f) 0 j) ≡ true → true ≡ padding_zero f
+    pub padding-end : (m j : ℕ) → m ≡ constraints_in f → r ≡ true → m ≤ j → j ≤ m → all (tab (constraint_padded f) 0 j) ≡ true → true ≡ padding_zero f
     unfolding padding_zero
     padding-end m j em h l k z = rw (head-test, not-false r h, ← em) (sym (all_end (constraint_padded f) m j l k z))
 
@@ -131,10 +131,10 @@ module _ (f : List ℕ) (n : ℕ) (en : n ≡ variables_in f) where
     unfolding constraint_padded
     padded-test = rw (← en, ← add-one j, ← part-is f (j + 1)) (sym e)
 
-    pub padding-more : all (tab (constraint_padded f) 0 j) ≡ true → not r ≡ false → all (tab (constraint_padded f) 0 (j + 1)) ≡ true
+    pub padding-more : all (tab (constraint_padded f) 0 j) ≡ true → r ≡ true → all (tab (constraint_padded f) 0 (j + 1)) ≡ true
     padding-more z h = all_more (constraint_padded f) j z (padded-test ∙ not-false r h)
 
-    pub padding-nonzero : (m : ℕ) → m ≡ constraints_in f → j < m → not r ≡ true → false ≡ padding_zero f
+    pub padding-nonzero : (m : ℕ) → m ≡ constraints_in f → j < m → r ≡ false → false ≡ padding_zero f
     unfolding padding_zero
     padding-nonzero m em l h =
         rw (← em, all-fails (constraint_padded f) m j l (padded-test ∙ not-true r h)) (sym (and-false (head_padded (variables_in f) (block f 0))))

@@ -16,7 +16,7 @@ back z = to_z w64 (of_z w64 z)
 
 pub number_read : (xs : List ℤ) (k : ℕ) → mag (get_or xs k (pos 0)) < 2 ^ 63 → back (get_or xs k (pos 0)) ≡ number_in xs k
 unfolding number_in
-number_read xs k h = to_z-of_z (record { sfits = h })
+number_read xs k h = to_z-of_z {w = w64} (record { sfits = h })
 
 pub cell-read : (rows : List ℤ) (start i k : ℕ) → k ≡ start + 1 + i → mag (get_or rows k (pos 0)) < 2 ^ 63 →
     back (get_or rows k (pos 0)) ≡ cell rows start i

@@ -25,19 +25,19 @@ module _ (lower upper : ℤ) (f : SFits w64 lower) (r : Bool) (t : r ≡ within 
   lower-test : r ≡ within max_bound lower
   lower-test = t ∙ ap (within max_bound) (to_z-of_z f)
 
-  pub lower-beyond : not r ≡ true → false ≡ bounds_in_range (record { lower = lower; upper = upper })
+  pub lower-beyond : r ≡ false → false ≡ bounds_in_range (record { lower = lower; upper = upper })
   unfolding bounds_in_range all
   lower-beyond h = rw (said-no lower-test h)
 
-  module _ (g : SFits w64 upper) (h : not r ≡ false) (q : Bool) (u : q ≡ within max_bound (back upper)) where
+  module _ (g : SFits w64 upper) (h : r ≡ true) (q : Bool) (u : q ≡ within max_bound (back upper)) where
     upper-test : q ≡ within max_bound upper
     upper-test = u ∙ ap (within max_bound) (to_z-of_z g)
 
-    pub upper-beyond : not q ≡ true → false ≡ bounds_in_range (record { lower = lower; upper = upper })
+    pub upper-beyond : q ≡ false → false ≡ bounds_in_range (record { lower = lower; upper = upper })
     unfolding bounds_in_range all
     upper-beyond k = rw (said-yes lower-test h, said-no upper-test k)
 
-    pub in_order : not q ≡ false → le_z (back lower) (back upper) ≡ bounds_in_range (record { lower = lower; upper = upper })
+    pub in_order : q ≡ true → le_z (back lower) (back upper) ≡ bounds_in_range (record { lower = lower; upper = upper })
     unfolding bounds_in_range all
     in_order k = rw (to_z-of_z f, to_z-of_z g, said-yes lower-test h, said-yes upper-test k, and-true (le_z lower upper))
 
@@ -57,11 +57,11 @@ module _ (lower upper : List ℤ) where
     unfolding bounds_at number_in
     here = rw (to_z-of_z f, to_z-of_z g) at t
 
-    pub box-more : all_of bounds_in_range (box_of i lower upper) ≡ true → not r ≡ false → all_of bounds_in_range (box_of (i + 1) lower upper) ≡ true
+    pub box-more : all_of bounds_in_range (box_of i lower upper) ≡ true → r ≡ true → all_of bounds_in_range (box_of (i + 1) lower upper) ≡ true
     unfolding box_of
     box-more a h = every_more bounds_in_range (bounds_at lower upper) i a (said-yes here h)
 
-    pub box-fails : (n : ℕ) → i < n → not r ≡ true → false ≡ all_of bounds_in_range (box_of n lower upper)
+    pub box-fails : (n : ℕ) → i < n → r ≡ false → false ≡ all_of bounds_in_range (box_of n lower upper)
     unfolding box_of
     box-fails n l h = every-fails bounds_in_range (bounds_at lower upper) n i l (said-no here h)
 
@@ -74,11 +74,11 @@ module _ (n : ℕ) (rows : List ℤ) where
   range-end count j l h a = every-end in_range (row_at n rows) count j l h a
 
   module _ (j : ℕ) (r : Bool) (t : r ≡ in_range (constraint_at n rows (row_length * j))) where
-    pub range-more : all_of in_range (tab (row_at n rows) 0 j) ≡ true → not r ≡ false → all_of in_range (tab (row_at n rows) 0 (j + 1)) ≡ true
+    pub range-more : all_of in_range (tab (row_at n rows) 0 j) ≡ true → r ≡ true → all_of in_range (tab (row_at n rows) 0 (j + 1)) ≡ true
     unfolding row_at
     range-more a h = every_more in_range (row_at n rows) j a (said-yes t h)
 
-    pub range-fails : (count : ℕ) → j < count → not r ≡ true → false ≡ all_of in_range (tab (row_at n rows) 0 count)
+    pub range-fails : (count : ℕ) → j < count → r ≡ false → false ≡ all_of in_range (tab (row_at n rows) 0 count)
     unfolding row_at
     range-fails count l h = every-fails in_range (row_at n rows) count j l (said-no t h)
 
@@ -100,8 +100,8 @@ module _ (n : ℕ) (rows divisors : List ℤ) where
     unfolding divisor_in_range input_at divided_at number_in
     divisor-test = rw (to_z-of_z f) at t
 
-    pub divisors-more : all_of divisor_in_range (tab (input_at n rows divisors) 0 j) ≡ true → not r ≡ false → all_of divisor_in_range (tab (input_at n rows divisors) 0 (j + 1)) ≡ true
+    pub divisors-more : all_of divisor_in_range (tab (input_at n rows divisors) 0 j) ≡ true → r ≡ true → all_of divisor_in_range (tab (input_at n rows divisors) 0 (j + 1)) ≡ true
     divisors-more a h = every_more divisor_in_range (input_at n rows divisors) j a (said-yes divisor-test h)
 
-    pub divisors-fail : (count : ℕ) → j < count → not r ≡ true → false ≡ all_of divisor_in_range (tab (input_at n rows divisors) 0 count)
+    pub divisors-fail : (count : ℕ) → j < count → r ≡ false → false ≡ all_of divisor_in_range (tab (input_at n rows divisors) 0 count)
     divisors-fail count l h = every-fails divisor_in_range (input_at n rows divisors) count j l (said-no divisor-test h)

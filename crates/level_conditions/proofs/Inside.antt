@@ -44,11 +44,11 @@ module _ (lower upper bottom top : List ℤ) where
     unfolding bounds_at number_in
     here = sym (rw (to_z-of_z f, to_z-of_z g, to_z-of_z u, to_z-of_z v) at t)
 
-    pub inside-more : box_inside (box_of i lower upper) (box_of i bottom top) ≡ true → not r ≡ false →
+    pub inside-more : box_inside (box_of i lower upper) (box_of i bottom top) ≡ true → r ≡ true →
         box_inside (box_of (i + 1) lower upper) (box_of (i + 1) bottom top) ≡ true
     unfolding box_inside box_of
     inside-more a h = pairs-more inside (bounds_at lower upper) (bounds_at bottom top) i a (here ∙ not-false r h)
 
-    pub inside-fails : (n : ℕ) → i < n → not r ≡ true → false ≡ box_inside (box_of n lower upper) (box_of n bottom top)
+    pub inside-fails : (n : ℕ) → i < n → r ≡ false → false ≡ box_inside (box_of n lower upper) (box_of n bottom top)
     unfolding box_inside box_of
     inside-fails n l h = pairs-fails inside (bounds_at lower upper) (bounds_at bottom top) n i l (here ∙ not-true r h)

@@ -25,22 +25,22 @@ use Rattle.level_conditions.specs.Nested.{level_passes, nested_in}
 
 -- ---- one level: its box, its reasons, then its gaps
 module _ (n last : ℕ) (thresholds : List ℤ) (l : Level) (r : Bool) (t : r ≡ all_of bounds_in_range (box_of n l.lower l.upper)) where
-  pub level-box : not r ≡ true → false ≡ level_passes last (thresholds_of n thresholds) (level_of n l)
+  pub level-box : r ≡ false → false ≡ level_passes last (thresholds_of n thresholds) (level_of n l)
   unfolding level_passes level_valid level_of
   level-box h = rw (← t, not-true r h)
 
-  module _ (h : not r ≡ false) (q : Bool) (u : q ≡ all_of (reasons_valid last) (tab (reasons_in l.below l.above) 0 n)) where
-    pub level-reasons : not q ≡ true → false ≡ level_passes last (thresholds_of n thresholds) (level_of n l)
+  module _ (h : r ≡ true) (q : Bool) (u : q ≡ all_of (reasons_valid last) (tab (reasons_in l.below l.above) 0 n)) where
+    pub level-reasons : q ≡ false → false ≡ level_passes last (thresholds_of n thresholds) (level_of n l)
     unfolding level_passes level_valid level_of
     level-reasons k = rw (← t, not-false r h, ← u, not-true q k)
 
-    pub level-gaps : not q ≡ false → (p : Bool) → p ≡ all_pairs outside_gap (thresholds_of n thresholds) (box_of n l.lower l.upper) →
+    pub level-gaps : q ≡ true → (p : Bool) → p ≡ all_pairs outside_gap (thresholds_of n thresholds) (box_of n l.lower l.upper) →
         p ≡ level_passes last (thresholds_of n thresholds) (level_of n l)
     unfolding level_passes level_valid level_allowed level_of
     level-gaps k p v = rw (← t, not-false r h, ← u, not-false q k) v
 
 -- the bounds of a level that passed
-pub level-fits : (n last : ℕ) (ts : List ℤ) (l o : Level) → l ≡ o → Whole o → n ≤ max_variables → (r : Bool) → r ≡ level_passes last ts (level_of n l) → not r ≡ false →
+pub level-fits : (n last : ℕ) (ts : List ℤ) (l o : Level) → l ≡ o → Whole o → n ≤ max_variables → (r : Bool) → r ≡ level_passes last ts (level_of n l) → r ≡ true →
     BoxFits n l.lower l.upper
 unfolding level_passes level_valid level_of
 level-fits n last ts l o w v few r t h =
@@ -71,20 +71,20 @@ module _ (n last : ℕ) (ts : List ℤ) (levels : List Level) where
     unfolding level_at
     here = rw (← w) (sym t)
 
-    pub levels-more : levels_to n last ts levels d ≡ true → not r ≡ false → levels_to n last ts levels (d + 1) ≡ true
+    pub levels-more : levels_to n last ts levels d ≡ true → r ≡ true → levels_to n last ts levels (d + 1) ≡ true
     unfolding levels_to levels_from all_of
     levels-more a h = rw (add-one d) (and_both (here ∙ not-false r h) a)
 
-    pub levels-fail : (depth : ℕ) → d ≤ depth → not r ≡ true → false ≡ levels_to n last ts levels (depth + 1)
+    pub levels-fail : (depth : ℕ) → d ≤ depth → r ≡ false → false ≡ levels_to n last ts levels (depth + 1)
     levels-fail depth h k = sym (fails-at d (depth + 1) (omega arith) (here ∙ not-true r k))
 
 -- ---- one level in the one above it: its box, then its decision
 module _ (n : ℕ) (l o : Level) (r : Bool) (t : r ≡ box_inside (box_of n l.lower l.upper) (box_of n o.lower o.upper)) where
-  pub nested-box : not r ≡ true → false ≡ nested_in n (level_of n l) (level_of n o)
+  pub nested-box : r ≡ false → false ≡ nested_in n (level_of n l) (level_of n o)
   unfolding nested_in level_of
   nested-box h = rw (← t, not-true r h)
 
-  pub nested-decision : not r ≡ false → (q : Bool) →
+  pub nested-decision : r ≡ true → (q : Bool) →
       q ≡ decision_valid n l.decided (box_of n l.lower l.upper) (box_of n o.lower o.upper) → q ≡ nested_in n (level_of n l) (level_of n o)
   unfolding nested_in level_of
   nested-decision h q u = rw (← t, not-false r h) u
@@ -115,8 +115,8 @@ module _ (n : ℕ) (levels : List Level) where
     unfolding level_at
     inner = rw (← add-one d, ← v, ← w) (sym t)
 
-    pub nested-more : nested_to n levels d ≡ true → not r ≡ false → nested_to n levels (d + 1) ≡ true
+    pub nested-more : nested_to n levels d ≡ true → r ≡ true → nested_to n levels (d + 1) ≡ true
     nested-more a h = rw (add-one d) (one_more d ∙ and_both (inner ∙ not-false r h) a)
 
-    pub nested-fail : (depth : ℕ) → d < depth → not r ≡ true → false ≡ nested_to n levels depth
+    pub nested-fail : (depth : ℕ) → d < depth → r ≡ false → false ≡ nested_to n levels depth
     nested-fail depth h k = sym (unnested-at d depth h (inner ∙ not-true r k))

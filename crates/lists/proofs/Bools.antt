@@ -20,11 +20,11 @@ pub clash : {A : Type 0} {b : Bool} → b ≡ true → b ≡ false → A
 clash e f = let z : ◌≡◌ {A = ℕ} 0 1 = cc in absurd (omega arith)
 
 -- ---- what the code's `if !r` tells of a test t, for a call that ensures r ≡ t
-pub said-no : {r t : Bool} → r ≡ t → not r ≡ true → t ≡ false
-said-no {r} e h = sym e ∙ not-true r h
+pub said-no : {r t : Bool} → r ≡ t → r ≡ false → t ≡ false
+said-no e h = sym e ∙ h
 
-pub said-yes : {r t : Bool} → r ≡ t → not r ≡ false → t ≡ true
-said-yes {r} e h = sym e ∙ not-false r h
+pub said-yes : {r t : Bool} → r ≡ t → r ≡ true → t ≡ true
+said-yes e h = sym e ∙ h
 
 -- ---- and, or
 pub and-true : (a b : Bool) → (a && b) ≡ true → (a ≡ true) × (b ≡ true)

@@ -34,10 +34,10 @@ module _ (p : Problem) where
   unfolding problem_of
   sizes-are r t = t ∙ sizes-fit p.n p.m p.budget (problem_of p) variable-count constraint-count refl
 
-  pub sized : (r : Bool) → r ≡ sizes_fit p.n p.m p.budget → not r ≡ false → sizes_in_range (problem_of p) ≡ true
+  pub sized : (r : Bool) → r ≡ sizes_fit p.n p.m p.budget → r ≡ true → sizes_in_range (problem_of p) ≡ true
   sized r t h = said-yes (sizes-are r t) h
 
-  pub size-range : (r : Bool) → r ≡ sizes_fit p.n p.m p.budget → not r ≡ true → number SizeRange ≡ problem_error (problem_of p)
+  pub size-range : (r : Bool) → r ≡ sizes_fit p.n p.m p.budget → r ≡ false → number SizeRange ≡ problem_error (problem_of p)
   unfolding number problem_error first_error
   size-range r t h = rw (said-no (sizes-are r t) h)
 
@@ -52,22 +52,22 @@ module _ (p : Problem) where
     pub constraints-few : p.m ≤ max_constraints
     constraints-few = omega (arith, in-range.few-constraints, constraint-count)
 
-    pub domain-range : (r : Bool) → r ≡ domain_in_range (problem_of p) → not r ≡ true → number DomainRange ≡ problem_error (problem_of p)
+    pub domain-range : (r : Bool) → r ≡ domain_in_range (problem_of p) → r ≡ false → number DomainRange ≡ problem_error (problem_of p)
     unfolding number problem_error first_error
     domain-range r e h = rw (t₄, said-no e h)
 
     module _ (t₅ : domain_in_range (problem_of p) ≡ true) where
-      pub threshold-range : (r : Bool) → r ≡ thresholds_in_range (problem_of p) → not r ≡ true → number ThresholdRange ≡ problem_error (problem_of p)
+      pub threshold-range : (r : Bool) → r ≡ thresholds_in_range (problem_of p) → r ≡ false → number ThresholdRange ≡ problem_error (problem_of p)
       unfolding number problem_error first_error
       threshold-range r e h = rw (t₄, t₅, said-no e h)
 
       module _ (t₁₃ : thresholds_in_range (problem_of p) ≡ true) where
-        pub coefficient-range : (r : Bool) → r ≡ constraints_in_range (problem_of p) → not r ≡ true → number CoefficientRange ≡ problem_error (problem_of p)
+        pub coefficient-range : (r : Bool) → r ≡ constraints_in_range (problem_of p) → r ≡ false → number CoefficientRange ≡ problem_error (problem_of p)
         unfolding number problem_error first_error
         coefficient-range r e h = rw (t₄, t₅, t₁₃, said-no e h)
 
         module _ (t₆ : constraints_in_range (problem_of p) ≡ true) where
-          pub divisor_range : (r : Bool) → r ≡ divisors_in_range (problem_of p) → not r ≡ true → number DivisorRange ≡ problem_error (problem_of p)
+          pub divisor_range : (r : Bool) → r ≡ divisors_in_range (problem_of p) → r ≡ false → number DivisorRange ≡ problem_error (problem_of p)
           unfolding number problem_error first_error
           divisor_range r e h = rw (t₄, t₅, t₁₃, t₆, said-no e h)
 

@@ -25,7 +25,7 @@ module _ (f : List ℕ) where
   unfolding read_file result_of reading_of seen_read
   error-is e a q h n g = rw (g, h, n)
 
-  pub truncated : (r : Bool) (q : Reading) → r ≡ whole_blocks f → not r ≡ true → q ≡ record { answer = Truncated; problem = empty } → seen_read q ≡ reading_of (read_file f)
+  pub truncated : (r : Bool) (q : Reading) → r ≡ whole_blocks f → r ≡ false → q ≡ record { answer = Truncated; problem = empty } → seen_read q ≡ reading_of (read_file f)
   unfolding read_error first_error number
   truncated r q e h g = error-is 0 Truncated q (rw (said-no e h)) refl g
 
@@ -34,17 +34,17 @@ module _ (f : List ℕ) where
     unfolding whole_blocks
     has-head = leb-true _ _ (and-true _ _ t₁).0
 
-    pub bad-checksum : (r : Bool) (q : Reading) → r ≡ checks_match f → not r ≡ true → q ≡ record { answer = BadChecksum; problem = empty } → seen_read q ≡ reading_of (read_file f)
+    pub bad-checksum : (r : Bool) (q : Reading) → r ≡ checks_match f → r ≡ false → q ≡ record { answer = BadChecksum; problem = empty } → seen_read q ≡ reading_of (read_file f)
     unfolding read_error first_error number
     bad-checksum r q e h g = error-is 1 BadChecksum q (rw (t₁, said-no e h)) refl g
 
     module _ (t₂ : checks_match f ≡ true) where
-      pub bad-magic : (r : Bool) (q : Reading) → r ≡ magic_matches f → not r ≡ true → q ≡ record { answer = BadMagic; problem = empty } → seen_read q ≡ reading_of (read_file f)
+      pub bad-magic : (r : Bool) (q : Reading) → r ≡ magic_matches f → r ≡ false → q ≡ record { answer = BadMagic; problem = empty } → seen_read q ≡ reading_of (read_file f)
       unfolding read_error first_error number
       bad-magic r q e h g = error-is 2 BadMagic q (rw (t₁, t₂, said-no e h)) refl g
 
       module _ (t₃ : magic_matches f ≡ true) where
-        pub size-range : (r : Bool) (q : Reading) → r ≡ sizes_match f → not r ≡ true → q ≡ record { answer = SizeRange; problem = empty } → seen_read q ≡ reading_of (read_file f)
+        pub size-range : (r : Bool) (q : Reading) → r ≡ sizes_match f → r ≡ false → q ≡ record { answer = SizeRange; problem = empty } → seen_read q ≡ reading_of (read_file f)
         unfolding sizes_match read_error first_error number
         size-range r q e h g = error-is 3 SizeRange q (rw (t₁, t₂, t₃, said-no e h)) refl g
 
@@ -72,7 +72,7 @@ module _ (f : List ℕ) (t₄ : sizes_match f ≡ true) where
     view = ap problem_of ep ∙ view-of-file f in-range
 
     module _ (t₁ : whole_blocks f ≡ true) (t₂ : checks_match f ≡ true) (t₃ : magic_matches f ≡ true) where
-      pub domain-range : (r : Bool) (q : Reading) → r ≡ domain_in_range (problem_of p) → not r ≡ true → q ≡ record { answer = DomainRange; problem = empty } → seen_read q ≡ reading_of (read_file f)
+      pub domain-range : (r : Bool) (q : Reading) → r ≡ domain_in_range (problem_of p) → r ≡ false → q ≡ record { answer = DomainRange; problem = empty } → seen_read q ≡ reading_of (read_file f)
       unfolding read_error first_error number
       domain-range r q e h g =
           let t : domain_in_range (problem_in f) ≡ false = rw view at (said-no e h) in
@@ -82,7 +82,7 @@ module _ (f : List ℕ) (t₄ : sizes_match f ≡ true) where
         t₅' : domain_in_range (problem_in f) ≡ true
         t₅' = rw view at t₅
 
-        pub threshold-range : (r : Bool) (q : Reading) → r ≡ thresholds_in_range (problem_of p) → not r ≡ true → q ≡ record { answer = ThresholdRange; problem = empty } → seen_read q ≡ reading_of (read_file f)
+        pub threshold-range : (r : Bool) (q : Reading) → r ≡ thresholds_in_range (problem_of p) → r ≡ false → q ≡ record { answer = ThresholdRange; problem = empty } → seen_read q ≡ reading_of (read_file f)
         unfolding read_error first_error number
         threshold-range r q e h g =
             let t : thresholds_in_range (problem_in f) ≡ false = rw view at (said-no e h) in
@@ -92,7 +92,7 @@ module _ (f : List ℕ) (t₄ : sizes_match f ≡ true) where
           t₁₃' : thresholds_in_range (problem_in f) ≡ true
           t₁₃' = rw view at t₁₃
 
-          pub coefficient-range : (r : Bool) (q : Reading) → r ≡ constraints_in_range (problem_of p) → not r ≡ true → q ≡ record { answer = CoefficientRange; problem = empty } → seen_read q ≡ reading_of (read_file f)
+          pub coefficient-range : (r : Bool) (q : Reading) → r ≡ constraints_in_range (problem_of p) → r ≡ false → q ≡ record { answer = CoefficientRange; problem = empty } → seen_read q ≡ reading_of (read_file f)
           unfolding read_error first_error number
           coefficient-range r q e h g =
               let t : constraints_in_range (problem_in f) ≡ false = rw view at (said-no e h) in
@@ -102,7 +102,7 @@ module _ (f : List ℕ) (t₄ : sizes_match f ≡ true) where
             t₆' : constraints_in_range (problem_in f) ≡ true
             t₆' = rw view at t₆
 
-            pub divisor_range : (r : Bool) (q : Reading) → r ≡ divisors_in_range (problem_of p) → not r ≡ true → q ≡ record { answer = DivisorRange; problem = empty } → seen_read q ≡ reading_of (read_file f)
+            pub divisor_range : (r : Bool) (q : Reading) → r ≡ divisors_in_range (problem_of p) → r ≡ false → q ≡ record { answer = DivisorRange; problem = empty } → seen_read q ≡ reading_of (read_file f)
             unfolding read_error first_error number
             divisor_range r q e h g =
                 let t : divisors_in_range (problem_in f) ≡ false = rw view at (said-no e h) in
@@ -112,10 +112,10 @@ module _ (f : List ℕ) (t₄ : sizes_match f ≡ true) where
               t₁₀' : divisors_in_range (problem_in f) ≡ true
               t₁₀' = rw view at t₁₀
 
-              pub nonzero-padding : (r : Bool) (q : Reading) → r ≡ padding_zero f → not r ≡ true → q ≡ record { answer = NonzeroPadding; problem = empty } → seen_read q ≡ reading_of (read_file f)
+              pub nonzero-padding : (r : Bool) (q : Reading) → r ≡ padding_zero f → r ≡ false → q ≡ record { answer = NonzeroPadding; problem = empty } → seen_read q ≡ reading_of (read_file f)
               unfolding read_error first_error number
               nonzero-padding r q e h g = error-is f 6 NonzeroPadding q (rw (t₁, t₂, t₃, t₄', t₅', t₁₃', t₆', t₁₀', said-no e h)) refl g
 
-              pub accepted : (r : Bool) → r ≡ padding_zero f → not r ≡ false → seen_read (record { answer = Done; problem = p }) ≡ reading_of (read_file f)
+              pub accepted : (r : Bool) → r ≡ padding_zero f → r ≡ true → seen_read (record { answer = Done; problem = p }) ≡ reading_of (read_file f)
               unfolding read_file read_error first_error result_of reading_of seen_read number
               accepted r e h = rw (ep, t₁, t₂, t₃, t₄', t₅', t₁₃', t₆', t₁₀', said-yes e h)

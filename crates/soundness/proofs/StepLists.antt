@@ -216,10 +216,10 @@ unfolding after_turns
 ends_on s o e r =
     record {
       last = suc r.last;
-      before = λ k. elim k [ zero ↦ λ h. e | suc k ↦ λ h. r.before k (omega arith) ];
+      before = λ k. elim k as (λ (k : ℕ). k < suc r.last → (step (after_turns k s)).verdict ≡ go_on) [ zero ↦ λ h. e | suc k ↦ λ h. r.before k (omega arith) ];
       ran = r.ran;
       reached = r.reached;
-      later = λ k. elim k [ zero ↦ λ h. let z : ⊥ = omega arith in absurd z | suc k ↦ λ h. r.later k (omega arith) ];
+      later = λ k. elim k as (λ (k : ℕ). suc r.last ≤ k → SaysSame (step (after_turns k s)) o) [ zero ↦ λ h. let z : ⊥ = omega arith in absurd z | suc k ↦ λ h. r.later k (omega arith) ];
     }
 
 continue-ends : (s : Search) (v : Verdict) (go : Search → Outcome) → (step s).verdict ≡ v → (¬ (v ≡ go_on) → Repeats (step s)) →

@@ -18,11 +18,11 @@ module _ (t lower upper : ℤ) (f : SFits w64 t) (g : SFits w64 upper) (r : Bool
   range-test : r ≡ none_or_from_two upper t
   range-test = rw (to_z-of_z f, to_z-of_z g) at e
 
-  pub out_of_range : not r ≡ true → false ≡ threshold_fits t (record { lower = lower; upper = upper })
+  pub out_of_range : r ≡ false → false ≡ threshold_fits t (record { lower = lower; upper = upper })
   unfolding threshold_fits
   out_of_range h = rw (said-no range-test h)
 
-  module _ (h : not r ≡ false) where
+  module _ (h : r ≡ true) where
     pub without : of_z w64 t ≡ 0 → true ≡ threshold_fits t (record { lower = lower; upper = upper })
     unfolding threshold_fits
     without z = rw (said-yes range-test h, equal f (fits_lit (pos 0) tt) z)

@@ -31,11 +31,11 @@ module _ (thresholds : List ℤ) where
     unfolding number_in
     here = rw (to_z-of_z f) at t
 
-    pub each_more : all_of is_threshold (thresholds_of i thresholds) ≡ true → not r ≡ false → all_of is_threshold (thresholds_of (i + 1) thresholds) ≡ true
+    pub each_more : all_of is_threshold (thresholds_of i thresholds) ≡ true → r ≡ true → all_of is_threshold (thresholds_of (i + 1) thresholds) ≡ true
     unfolding thresholds_of
     each_more a h = every_more is_threshold (number_in thresholds) i a (said-yes here h)
 
-    pub each-fails : (n : ℕ) → i < n → not r ≡ true → false ≡ all_of is_threshold (thresholds_of n thresholds)
+    pub each-fails : (n : ℕ) → i < n → r ≡ false → false ≡ all_of is_threshold (thresholds_of n thresholds)
     unfolding thresholds_of
     each-fails n l h = every-fails is_threshold (number_in thresholds) n i l (said-no here h)
 
@@ -56,11 +56,11 @@ module _ (test : ℤ → Bounds → Bool) (thresholds lower upper : List ℤ) wh
     unfolding bounds_at number_in
     both = rw (to_z-of_z e, to_z-of_z f, to_z-of_z g) at t
 
-    pub beside-more : all_pairs test (thresholds_of i thresholds) (box_of i lower upper) ≡ true → not r ≡ false →
+    pub beside-more : all_pairs test (thresholds_of i thresholds) (box_of i lower upper) ≡ true → r ≡ true →
         all_pairs test (thresholds_of (i + 1) thresholds) (box_of (i + 1) lower upper) ≡ true
     unfolding thresholds_of box_of
     beside-more a h = pairs-more test (number_in thresholds) (bounds_at lower upper) i a (said-yes both h)
 
-    pub beside-fails : (n : ℕ) → i < n → not r ≡ true → false ≡ all_pairs test (thresholds_of n thresholds) (box_of n lower upper)
+    pub beside-fails : (n : ℕ) → i < n → r ≡ false → false ≡ all_pairs test (thresholds_of n thresholds) (box_of n lower upper)
     unfolding thresholds_of box_of
     beside-fails n l h = pairs-fails test (number_in thresholds) (bounds_at lower upper) n i l (said-no both h)

@@ -61,30 +61,30 @@ tests-view s =
     (status_valid (core_of s) (status_of s.status)) (all_of (level_allowed ts) (levels (core_of s)))))
 
 module _ (s : Search) (r₁ : Bool) (t₁ : r₁ ≡ sizes_valid s.n s.m s.budget s.conflicts s.made s.depth) where
-  pub refuse-sizes : not r₁ ≡ true → false ≡ valid (view s)
+  pub refuse-sizes : r₁ ≡ false → false ≡ valid (view s)
   unfolding tests sizes_of
   refuse-sizes h = rw (tests-view s, ← t₁, not-true r₁ h)
 
-  module _ (h₁ : not r₁ ≡ false) where
+  module _ (h₁ : r₁ ≡ true) where
     pub sizes-passed : Sized s
     sizes-passed = sized s (said-yes t₁ h₁)
 
     module _ (k : ℕ) (e : k ≡ kept_cuts s.made) (r₂ : Bool) (t₂ : r₂ ≡ all_of in_range (tab (row_at s.n s.rows) 0 (s.m + k))) where
-      pub refuse-constraints : not r₂ ≡ true → false ≡ valid (view s)
+      pub refuse-constraints : r₂ ≡ false → false ≡ valid (view s)
       unfolding tests sizes_of
       refuse-constraints h = rw (tests-view s, ← t₁, not-false r₁ h₁, ← e, ← t₂, not-true r₂ h)
 
-      module _ (h₂ : not r₂ ≡ false) (r₃ : Bool) (t₃ : r₃ ≡ all_of divisor_in_range (inputs_of s)) where
-        pub refuse-divisors : not r₃ ≡ true → false ≡ valid (view s)
+      module _ (h₂ : r₂ ≡ true) (r₃ : Bool) (t₃ : r₃ ≡ all_of divisor_in_range (inputs_of s)) where
+        pub refuse-divisors : r₃ ≡ false → false ≡ valid (view s)
         unfolding tests sizes_of
         refuse-divisors h = rw (tests-view s, ← t₁, not-false r₁ h₁, ← e, ← t₂, not-false r₂ h₂, ← t₃, not-true r₃ h)
 
-        module _ (h₃ : not r₃ ≡ false) (r₄ : Bool) (t₄ : r₄ ≡ all_of is_threshold (thresholds_of s.n s.thresholds)) where
-          pub refuse-thresholds : not r₄ ≡ true → false ≡ valid (view s)
+        module _ (h₃ : r₃ ≡ true) (r₄ : Bool) (t₄ : r₄ ≡ all_of is_threshold (thresholds_of s.n s.thresholds)) where
+          pub refuse-thresholds : r₄ ≡ false → false ≡ valid (view s)
           unfolding tests sizes_of
           refuse-thresholds h = rw (tests-view s, ← t₁, not-false r₁ h₁, ← e, ← t₂, not-false r₂ h₂, ← t₃, not-false r₃ h₃, ← t₄, not-true r₄ h)
 
-          module _ (h₄ : not r₄ ≡ false) (d : ℕ) (f : d ≡ s.made - max_cuts) (r₅ : Bool) (t₅ : r₅ ≡ numbers_to s.numbers (s.m + d + 1) k) where
+          module _ (h₄ : r₄ ≡ true) (d : ℕ) (f : d ≡ s.made - max_cuts) (r₅ : Bool) (t₅ : r₅ ≡ numbers_to s.numbers (s.m + d + 1) k) where
             pub rows_left : valid (view s) ≡ (r₅ && level_tests s)
             unfolding tests sizes_of
             rows_left = rw (tests-view s, ← t₁, not-false r₁ h₁, ← e, ← t₂, not-false r₂ h₂, ← t₃, not-false r₃ h₃, ← t₄, not-false r₄ h₄, ← f, ← t₅)
@@ -104,10 +104,10 @@ unfolding level_tests
 refuse-levels s left h = rw (left, ← h)
 
 module _ (s : Search) (o : Level) (w : o ≡ get_or s.levels 0 no_level) (r : Bool) (t : r ≡ level_passes (s.m + s.made) (thresholds_of s.n s.thresholds) (level_of s.n o)) (left : valid (view s) ≡ level_tests s) where
-  pub refuse-first : not r ≡ true → false ≡ valid (view s)
+  pub refuse-first : r ≡ false → false ≡ valid (view s)
   refuse-first h = refuse-levels s left (levels-fail s.n (s.m + s.made) _ s.levels 0 o w r t s.depth (omega arith) h)
 
-  pub first-reached : not r ≡ false → Sized s → Whole (get_or s.levels 0 no_level) → Reached s o 0
+  pub first-reached : r ≡ true → Sized s → Whole (get_or s.levels 0 no_level) → Reached s o 0
   first-reached h z v =
       record {
         sizes = z;
@@ -121,17 +121,17 @@ module _ (s : Search) (o : Level) (w : o ≡ get_or s.levels 0 no_level) (r : Bo
 
 module _ (s : Search) (o : Level) (d : ℕ) (at : Reached s o d) (below : d < s.depth) (l : Level) (w : l ≡ get_or s.levels (d + 1) no_level) (r : Bool)
     (t : r ≡ level_passes (s.m + s.made) (thresholds_of s.n s.thresholds) (level_of s.n l)) where
-  pub refuse-level : not r ≡ true → false ≡ valid (view s)
+  pub refuse-level : r ≡ false → false ≡ valid (view s)
   refuse-level h = refuse-levels s at.left (levels-fail s.n (s.m + s.made) _ s.levels (d + 1) l w r t s.depth (omega arith) h)
 
   module _ (q : Bool) (u : q ≡ nested_in s.n (level_of s.n l) (level_of s.n o)) where
-    pub refuse-nested : not q ≡ true → false ≡ valid (view s)
+    pub refuse-nested : q ≡ false → false ≡ valid (view s)
     unfolding level_tests
     refuse-nested h =
         rw (at.left, ← nested-fail s.n s.levels d o at.here l w q u s.depth below h)
         (sym (and-false (levels_to s.n (s.m + s.made) (thresholds_of s.n s.thresholds) s.levels (s.depth + 1))))
 
-    pub next-reached : not r ≡ false → not q ≡ false → Whole (get_or s.levels (d + 1) no_level) → Reached s l (d + 1)
+    pub next-reached : r ≡ true → q ≡ true → Whole (get_or s.levels (d + 1) no_level) → Reached s l (d + 1)
     next-reached h k v =
         record {
           sizes = at.sizes;

@@ -39,7 +39,7 @@ number_of-falsified-requires c =
 
 -- the divisor as it comes back from its bits, and whether it is 0
 divisor-back : (c : goal.After-divisor_of-q) → to_z w64 (of_z w64 c.divisor_of-q.result) ≡ c.divisor_of-q.result
-divisor-back c = to_z-of_z (sfits_of c.divisor_of-q.type-inv)
+divisor-back c = to_z-of_z {w = w64} (sfits_of c.divisor_of-q.type-inv)
 
 divided : (c : goal.Then-q-ne0) → c.divisor_of-q.result ≡ pos 0 → ⊥
 divided c z = c.if-q-ne0.true (ap (of_z w64) z)

@@ -3,6 +3,7 @@ use Prim.Native.Nat.{ℕ, ◌≤◌, ◌<◌, ◌^◌}
 use native.Mathlib.Omega.{arith}
 use lib.Signed.{◌≤ℤ◌}
 use mir.Facts.{to_z-of_z}
+use mir.Syntax.{w64}
 use Rattle.integer.specs.Tests.{le_z-true}
 use Rattle.layout.specs.Rows.{number_in}
 use Rattle.bits.proofs.Bits.{Covers, covers-none, covers-small, covers-all, covers_out, covers-in}
@@ -22,7 +23,7 @@ overflow_mul-mask c = omega (arith, small c.before.before.before.before)
 pub loop-i-preserved-then-upper-i : goal.loop-i-preserved-then-upper-i
 loop-i-preserved-then-upper-i c =
     let l = c in
-    (search rules, covers_out _ _ _ _ l.loop-i.invariant.1 (unfold number_in in le_z-true (rw (to_z-of_z (sfits_of c.t10-1.given), to_z-of_z (sfits_of c.t14-1.given)) at c.if-upper-i.true)) c.loop-i-test.true l.loop-i.invariant.0)
+    (search rules, covers_out _ _ _ _ l.loop-i.invariant.1 (unfold number_in in le_z-true (rw (to_z-of_z {w = w64} (sfits_of c.t10-1.given), to_z-of_z {w = w64} (sfits_of c.t14-1.given)) at c.if-upper-i.true)) c.loop-i-test.true l.loop-i.invariant.0)
 
 pub overflow_mul-mask-else-upper-i : goal.overflow_mul-mask-else-upper-i
 overflow_mul-mask-else-upper-i c = omega (arith, small c.before.before.before.before)

@@ -5,6 +5,7 @@ use mathlib.Core.Path.{◌≡◌}
 use borrow.Author.Rules.{rules, sfits_of}
 use lib.IntN.{pos}
 use mir.Facts.{to_z-of_z}
+use mir.Syntax.{w64}
 use Rattle.layout.specs.Rows.{row_length}
 use Rattle.cuts.specs.Storing.{last_cut, Moved}
 use Rattle.cuts.proofs.Storing.{move-none, move-more}
@@ -16,7 +17,7 @@ loop-i-init c = (omega arith, (omega arith, move-none (pos 0) row_length _ _))
 pub loop-i-preserved : goal.loop-i-preserved
 loop-i-preserved c =
     let l = c.loop-i in
-    (omega arith, (omega arith, move-more (pos 0) row_length _ l.i _ l.rows _ l.invariant.0 (omega (arith, c.requires)) (to_z-of_z (sfits_of c.v-1.given)) l.invariant.1.1))
+    (omega arith, (omega arith, move-more (pos 0) row_length _ l.i _ l.rows _ l.invariant.0 (omega (arith, c.requires)) (to_z-of_z {w = w64} (sfits_of c.v-1.given)) l.invariant.1.1))
 
 pub returns : goal.returns
 returns c =

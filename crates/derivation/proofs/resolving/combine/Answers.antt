@@ -5,6 +5,7 @@ use mathlib.Core.Path.{◌≡◌, refl, ap₂, ◌∙◌}
 use borrow.Author.Rules.{rules, sfits_of}
 use lib.IntN.{ℤ, pos, ◌+ℤ◌, ◌*ℤ◌}
 use mir.Facts.{to_z-of_z}
+use mir.Syntax.{w64}
 use Rattle.layout.specs.Rows.{number_in, cell}
 use Rattle.layout.proofs.Elements.{number_read, cell-read}
 use Rattle.layout.proofs.Filled.{Filled, fill-constant, fill-coefficient}
@@ -40,7 +41,7 @@ loop-i-init c =
     let j = number_read a.rows.now a.start c.mix-arg-2-1.given in (
       omega arith,
       fill-constant a.r.now _ s.requires.1.1.1
-          (to_z-of_z (sfits_of c.mix.type-inv) ∙ c.mix.ensures ∙ ap₂ (λ (x y : ℤ). pos a.s *ℤ x +ℤ pos a.t *ℤ y) f j),
+          (to_z-of_z {w = w64} (sfits_of c.mix.type-inv) ∙ c.mix.ensures ∙ ap₂ (λ (x y : ℤ). pos a.s *ℤ x +ℤ pos a.t *ℤ y) f j),
     )
 
 pub overflow_add-at : goal.overflow_add-at
@@ -100,7 +101,7 @@ loop-i-preserved c =
     let j = cell-read a.rows.now a.start i (a.start + 1 + i) refl c.mix-arg-in-loop-i-2-1.given in (
       omega arith,
       fill-coefficient _ (omega arith) l.loop-i.invariant.1
-          (to_z-of_z (sfits_of c.mix-in-loop-i.type-inv) ∙ c.mix-in-loop-i.ensures ∙ ap₂ (λ (x y : ℤ). pos a.s *ℤ x +ℤ pos a.t *ℤ y) f j),
+          (to_z-of_z {w = w64} (sfits_of c.mix-in-loop-i.type-inv) ∙ c.mix-in-loop-i.ensures ∙ ap₂ (λ (x y : ℤ). pos a.s *ℤ x +ℤ pos a.t *ℤ y) f j),
     )
 
 pub returns : goal.returns

@@ -5,6 +5,7 @@ use mathlib.Core.Path.{◌≡◌, ap, ◌∙◌}
 use borrow.Author.Rules.{rules, sfits_of}
 use lib.IntN.{ℤ}
 use mir.Facts.{to_z-of_z}
+use mir.Syntax.{w64}
 use Rattle.model_problems.specs.Division.{ceil_div, exact_div}
 use Rattle.layout.specs.Rows.{number_in, cell}
 use Rattle.layout.proofs.Elements.{number_read, cell-read}
@@ -18,7 +19,7 @@ loop-i-init c =
     let read = number_read a.t1 0 c.ceil_div-arg-1.given in (
       omega arith,
       fill-constant a.t1 _ (search rules)
-          (to_z-of_z (sfits_of c.ceil_div.type-inv) ∙ c.ceil_div.ensures.0 ∙ ap (λ (z : ℤ). ceil_div z a.h) read),
+          (to_z-of_z {w = w64} (sfits_of c.ceil_div.type-inv) ∙ c.ceil_div.ensures.0 ∙ ap (λ (z : ℤ). ceil_div z a.h) read),
     )
 
 pub exact_div-requires : goal.exact_div-requires
@@ -32,7 +33,7 @@ loop-i-preserved c =
     let read = cell-read a.t1 0 i (i + 1) (omega arith) c.exact_div-arg-1.given in (
       omega arith,
       fill-coefficient _ (omega arith) l.loop-i.invariant.1
-          (to_z-of_z (sfits_of c.exact_div.type-inv) ∙ c.exact_div.ensures.0 ∙ ap (exact_div a.h) read),
+          (to_z-of_z {w = w64} (sfits_of c.exact_div.type-inv) ∙ c.exact_div.ensures.0 ∙ ap (exact_div a.h) read),
     )
 
 pub returns : goal.returns

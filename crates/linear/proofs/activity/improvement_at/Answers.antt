@@ -76,7 +76,7 @@ returns-then-slack-a c =
     let d : x.result ≡ term a.a (record { lower = a.lower; upper = a.upper }) = simp (to_z-of_z, s.ranges.a, s.ranges.lower, s.ranges.upper) at x.ensures.0 in
     let e : c.implied_upper.result ≡ implied_upper (a.activity -ℤ x.result) (nat_abs a.a) =
     simp (to_z-of_z, s.ranges.a, s.ranges.activity, fits (lit< tt) z, rest r z) at c.implied_upper.ensures in
-    rw (to_z-of_z (sfits_of {w = w64} c.implied_upper.type-inv))
+    rw (to_z-of_z {w = w64} (sfits_of {w = w64} c.implied_upper.type-inv))
     (upper-yes a.activity a.lower a.upper a.a c.implied_upper.result r.holds g t (e ∙ ap (λ (z : ℤ). implied_upper (a.activity -ℤ z) (nat_abs a.a)) d))
 
 pub returns-then-a-gt0 : goal.returns-then-a-gt0
@@ -117,7 +117,7 @@ returns-then-slack-a-2 c =
     let d : x.result ≡ term a.a (record { lower = a.lower; upper = a.upper }) = simp (to_z-of_z, s.ranges.a, s.ranges.lower, s.ranges.upper) at x.ensures.0 in
     let e : c.implied_lower.result ≡ implied_lower (a.activity -ℤ x.result) (nat_abs a.a) =
     simp (to_z-of_z, s.ranges.a, s.ranges.activity, fits (lit< tt) z, rest r z) at c.implied_lower.ensures in
-    rw (to_z-of_z (sfits_of {w = w64} c.implied_lower.type-inv))
+    rw (to_z-of_z {w = w64} (sfits_of {w = w64} c.implied_lower.type-inv))
     (lower-yes a.activity a.lower a.upper a.a c.implied_lower.result r.holds g t (e ∙ ap (λ (z : ℤ). implied_lower (a.activity -ℤ z) (nat_abs a.a)) d))
 
 pub returns-else-slack-a-2 : goal.returns-else-slack-a-2

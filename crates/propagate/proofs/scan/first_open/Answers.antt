@@ -3,6 +3,7 @@ use Prim.Native.Nat.{◌≤◌, ◌-◌}
 use mathlib.Core.Path.{◌≡◌}
 use borrow.Author.Rules.{rules, sfits_of}
 use mir.Facts.{to_z-of_z}
+use mir.Syntax.{w64}
 use Rattle.model_walk.specs.Move.{first_open}
 use Rattle.layout.specs.Rows.{number_in, box_of}
 use Rattle.propagate.proofs.Scans.{open_from, open-start, open-hit, open-miss, open-end}
@@ -16,7 +17,7 @@ unfolding number_in
 returns-then-lower-i c =
     let l = c in
     open-hit _ _ _ _ _ l.loop-i.invariant.1 c.loop-i-test.true
-    (rw (to_z-of_z (sfits_of c.t9-1.given), to_z-of_z (sfits_of c.t13-1.given)) at c.if-lower-i.true)
+    (rw (to_z-of_z {w = w64} (sfits_of c.t9-1.given), to_z-of_z {w = w64} (sfits_of c.t13-1.given)) at c.if-lower-i.true)
 
 pub loop-i-preserved : goal.loop-i-preserved
 unfolding number_in
@@ -24,7 +25,7 @@ loop-i-preserved c =
     let l = c in (
       search rules,
       open-miss _ _ _ _ _ l.loop-i.invariant.1 c.loop-i-test.true
-          (rw (to_z-of_z (sfits_of c.t9-1.given), to_z-of_z (sfits_of c.t13-1.given)) at c.if-lower-i.false),
+          (rw (to_z-of_z {w = w64} (sfits_of c.t9-1.given), to_z-of_z {w = w64} (sfits_of c.t13-1.given)) at c.if-lower-i.false),
     )
 
 pub returns : goal.returns
