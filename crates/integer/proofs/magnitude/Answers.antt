@@ -5,7 +5,6 @@ use mathlib.Core.Path.{◌≡◌, ap}
 use lib.IntN.{ℤ, pos, neg_ℤ, nat_abs, ◌+ℤ◌, ◌-ℤ◌, +ℤ_idl}
 use lib.Signed.{◌<ℤ◌, ◌≤ℤ◌, nat_abs-le}
 use mir.Facts.{to_z-of_z}
-use mir.Syntax.{w64}
 use Rattle.integer.specs.Size.{size, abs_neg}
 use Rattle.integer.specs.Expression.{rep, var, le, of_lt}
 use Rattle.integer.specs.Tests.{le_z-true, le_z-false, cast-up}
@@ -56,7 +55,7 @@ overflow_add-result-else-z-ge0 c =
     let z = s.args.z in
     let next = next_fits z f (negative c) 1 (omega arith) in
     let negation = negation-fits z f (negative c) in
-    simp to_z-of_z {w = w64} (record { fits = omega (arith, negated z (negative c), nat_abs-le z f.sfits) })
+    simp to_z-of_z (record { fits = omega (arith, negated z (negative c), nat_abs-le z f.sfits) })
 
 pub returns-then-z-ge0 : goal.returns-then-z-ge0
 returns-then-z-ge0 c = ap nat_abs (to_z-of_z c.ranges.z)
