@@ -15,6 +15,7 @@ use Rattle.propagate.proofs.Tracking.{shiftable, told-set, raised-closes}
 use Rattle.backtrack.specs.Jumps.{next_in}
 use Rattle.backtrack.proofs.Moving.{flipped_above, flipped-rise}
 use borrow.Author.Rules.{rules}
+use Rattle.backtrack.proofs.backjump.Tie as tie
 use Rattle.backtrack.proofs.backjump.Goals as goal
 
 pub take_back-from-requires : goal.take_back-from-requires
@@ -28,7 +29,7 @@ measure-requires c =
     rw c.kept_count-kept.ensures (c.requires.0.fits, (omega (arith, t.0), t.1))
 
 -- by how much the lower bound rises, as it is read
-rise : (c : goal.After-flip-rise) →
+rise : (c : tie.After-flip) →
     let s = c in
     to_z w64 (of_z w64 c.flip-rise.result) ≡ next_in s.args.thresholds.now s.args.lower.now s.args.i -ℤ number_in s.args.lower.now s.args.i
 rise c =

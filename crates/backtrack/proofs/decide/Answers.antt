@@ -70,14 +70,12 @@ returns c =
     let x = rw k at c.copy_to.ensures in
     let y = rw k at c.copy_to-2.ensures in
     let set = rw (value s) at c.lower_upper.ensures.0 in
-    let t = rw (value s, k) at c.lower_upper.ensures.1 in (
-      record {
+    let t = rw (value s, k) at c.lower_upper.ensures.1 in record { decided = record {
         bound = set.bound;
         why = set.why;
         told = rw set.bound (told-set _ _ _ _ _ _ _ _ _ _ _ _ _ _ p.tracked (decided-fits _ _ _ _ _ a.above.now _ p.fits p.variable p.uppers) p.lowers (length-set a.upper.now _ _ ∙ p.uppers)
             (lowered-closes _ _ _ _ a.i _ p.variable (omega (arith, p.fits.few, p.uppers)) (decided-below _ _ _ _ _ a.above.now _ p.fits p.variable)) t);
-      },
-      record {
+      }; level_saved = record {
         room =
             record {
               olds_long = x.size ∙ p.room.olds_long;
@@ -88,5 +86,4 @@ returns c =
         saved = λ levels here l u h v.
             rw (k, c.dropped.ensures)
             (saved-decided _ _ _ _ levels here _ _ _ _ _ _ _ _ _ p.inputs h (omega (arith, p.room.gones_long, p.deep)) (omega (arith, p.room.counts_long, p.deep)) (rw (l, u) p.tracked) x y v);
-      },
-    )
+      } }

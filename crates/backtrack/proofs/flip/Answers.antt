@@ -11,13 +11,14 @@ use Rattle.integer.specs.Tests.{back}
 use Rattle.layout.specs.Rows.{number_in}
 use Rattle.backtrack.specs.Jumps.{next_in}
 use borrow.Author.Rules.{rules}
+use Rattle.backtrack.proofs.flip.Tie as tie
 use Rattle.backtrack.proofs.flip.Goals as goal
 
 -- the lower bound, and the value after it, as they are read
 value : (s : goal.Start) → to_z w64 (of_z w64 (number_in s.args.lower.now s.args.i)) ≡ number_in s.args.lower.now s.args.i
 value s = back (lit< tt) s.requires.1.0
 
-next : (c : goal.After-next_value-v) → let s = c in to_z w64 (of_z w64 c.next_value-v.result) ≡ next_in s.args.thresholds.now s.args.lower.now s.args.i
+next : (c : tie.After-next_value) → let s = c in to_z w64 (of_z w64 c.next_value-v.result) ≡ next_in s.args.thresholds.now s.args.lower.now s.args.i
 unfolding number_in
 next c =
     let s = c in

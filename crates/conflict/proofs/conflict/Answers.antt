@@ -12,19 +12,20 @@ use Rattle.integer.specs.Tests.{same, fits_lit}
 use Rattle.state.specs.View.{kept_cuts, divisor_for}
 use Rattle.conflict.proofs.Learning.{cut-row, cut_fits, deepest-false}
 use Rattle.conflict.proofs.Dismissing.{may-dismiss, dismissed, undivided}
+use Rattle.conflict.proofs.conflict.Tie as tie
 use Rattle.conflict.proofs.conflict.Goals as goal
 
 -- ---- the places
-abbrev start : goal.After-keep_bounds → goal.Start
+abbrev start : goal.After-keep_bounds → tie.Start
 start k = k.before.before.before.before
 
-abbrev kept : goal.After-divisor_of-q → goal.After-keep_bounds
+abbrev kept : tie.After-divisor_of → goal.After-keep_bounds
 kept d = d.before.before
 
-abbrev learned : goal.After-backjump_level-found → goal.After-learn-l
+abbrev learned : tie.After-backjump_level → tie.After-learn
 learned b = b.before.before.before.before.before.before.before.before
 
-abbrev plainly : goal.After-learn-l → goal.Else-q-ne0
+abbrev plainly : tie.After-learn → tie.Else1
 plainly l = l.before.before.before.before
 
 -- ---- what the calls ask, and what they give
@@ -38,18 +39,18 @@ number_of-falsified-requires c =
     (omega (arith, l.position, l.inputs), l.cuts)
 
 -- the divisor as it comes back from its bits, and whether it is 0
-divisor-back : (c : goal.After-divisor_of-q) → to_z w64 (of_z w64 c.divisor_of-q.result) ≡ c.divisor_of-q.result
-divisor-back c = to_z-of_z {w = w64} (sfits_of c.divisor_of-q.type-inv)
+divisor-back : (c : tie.After-divisor_of) → to_z w64 (of_z w64 c.divisor_of-q.result) ≡ c.divisor_of-q.result
+divisor-back c = to_z-of_z {w = w64} (sfits_of c.divisor_of-q.type_inv)
 
-divided : (c : goal.Then-q-ne0) → c.divisor_of-q.result ≡ pos 0 → ⊥
+divided : (c : tie.Then1) → c.divisor_of-q.result ≡ pos 0 → ⊥
 divided c z = c.if-q-ne0.true (ap (of_z w64) z)
 
-plain : (c : goal.Else-q-ne0) →
+plain : (c : tie.Else1) →
     let a = (start (kept c.before)).args in
     divisor_for a.m a.divisors.now a.j ≡ pos 0
 plain c =
     let d = c.divisor_of-q in
-    sym d.ensures ∙ same (sfits_of d.type-inv) (fits_lit (pos 0) tt) c.if-q-ne0.false
+    sym d.ensures ∙ same (sfits_of d.type_inv) (fits_lit (pos 0) tt) c.if-q-ne0.false
 
 pub dismiss-back-requires : goal.dismiss-back-requires
 dismiss-back-requires c =
@@ -71,7 +72,7 @@ backjump_level-found-requires c =
     let e = plainly l in
     let k = kept e.before in
     let p = (start k).pre in
-    (lit≤ tt, (cut-row p.learnable.variables (l.learn-l.ensures.0 0), (p.deep, ((p.levels _ _ k.keep-bounds.ensures).0, rw undivided (deepest-false p (plain e) k.keep-bounds.ensures (l.learn-l.ensures.0 0))))))
+    (lit≤ tt, (cut-row p.learnable.variables (l.learn-l.ensures.by_index 0), (p.deep, ((p.levels _ _ k.keep-bounds.ensures).0, rw undivided (deepest-false p (plain e) k.keep-bounds.ensures (l.learn-l.ensures.by_index 0))))))
 
 pub emit-requires : goal.emit-requires
 emit-requires c =

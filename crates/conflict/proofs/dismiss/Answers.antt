@@ -11,10 +11,11 @@ use Rattle.model_problems.specs.Ranges.{max_variables}
 use Rattle.lists.proofs.Tab.{get_d-const}
 use Rattle.layout.specs.Rows.{row_length, divided_at, row_at}
 use Rattle.conflict.proofs.Dismissing.{zero-at, zeros-fit, divided-same, copy-fits}
+use Rattle.conflict.proofs.dismiss.Tie as tie
 use Rattle.conflict.proofs.dismiss.Goals as goal
 
 -- the row copied, with its divisor, is the line
-line_same : (c : goal.After-copy_row-line) →
+line_same : (c : tie.After-copy_row) →
     let a = c.args in
     divided_at a.n c.copy_row-line.result 0 (to_z w64 (of_z w64 a.q)) ≡ divided_at a.n a.lines.now (row_length * a.j) a.q
 line_same c =

@@ -7,16 +7,17 @@ use borrow.Author.Rules.{rules}
 use Rattle.state.proofs.Shape.{elements-kept}
 use Rattle.propagate.proofs.States.{sizes}
 use Rattle.exclusion.proofs.Striking.{flips, struck}
+use Rattle.exclusion.proofs.strike.Tie as tie
 use Rattle.exclusion.proofs.strike.Goals as goal
 
-one_more : (s : goal.Start) → s.args.s.depth ≡ suc (s.args.s.depth - 1)
+one_more : (s : tie.Start) → s.args.s.depth ≡ suc (s.args.s.depth - 1)
 one_more s = omega (arith, s.requires.1)
 
-shallow : (s : goal.Start) → s.args.s.depth < 33
+shallow : (s : tie.Start) → s.args.s.depth < 33
 shallow s = (sizes s.args.s s.requires.0).shallow
 
 -- the levels, as they are declared
-levels-long : (s : goal.Start) → length s.args.s.levels ≡ 33
+levels-long : (s : tie.Start) → length s.args.s.levels ≡ 33
 levels-long s = search (rules, elements-kept)
 
 pub offset_bounds-levels-depth : goal.offset_bounds-levels-depth

@@ -10,13 +10,13 @@ use Rattle.record.proofs.Emitting.{left_alone, part_length, part-written}
 use Rattle.record.proofs.emit.Goals as goal
 
 kept : (c : goal.Else-not-keep) → c.args.keep ≡ true
-kept c = not-false _ c.if-not-keep.false
+kept c = c.if-not-keep.false
 
 room : (c : goal.Else-not-keep) → block_length * (c.args.done + 1) ≤ length c.args.buffer.now
 room c = c.requires.0 (kept c)
 
 pub returns-then-not-keep : goal.returns-then-not-keep
-returns-then-not-keep c = left_alone _ _ (not-true _ c.if-not-keep.true)
+returns-then-not-keep c = left_alone _ _ c.if-not-keep.true
 
 pub overflow_mul-a : goal.overflow_mul-a
 overflow_mul-a c = omega (arith, room c)

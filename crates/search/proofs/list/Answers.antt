@@ -10,9 +10,10 @@ use Rattle.state.specs.View.{view}
 use Rattle.propagate.proofs.States.{sizes}
 use Rattle.answers.proofs.Proceeding.{after-sizes}
 use Rattle.shown.proofs.Showing.{valid-view, few-view, list-shown, list-refused}
+use Rattle.search.proofs.list.Tie as tie
 use Rattle.search.proofs.list.Goals as goal
 
-tested : (c : goal.Else-not-is_admitted) → admitted (view c.args.s) ≡ true
+tested : (c : tie.Else1) → admitted (view c.args.s) ≡ true
 tested c = said-yes c.is_admitted.ensures c.if-not-is_admitted.false
 
 pub returns-then-not-is_admitted : goal.returns-then-not-is_admitted

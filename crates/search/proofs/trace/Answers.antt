@@ -8,9 +8,10 @@ use Rattle.lists.proofs.Bools.{said-no, said-yes}
 use Rattle.state.specs.View.{view}
 use Rattle.answers.proofs.Proceeding.{after-sizes}
 use Rattle.shown.proofs.Showing.{valid-view, few-view, trace-shown, trace-refused}
+use Rattle.search.proofs.trace.Tie as tie
 use Rattle.search.proofs.trace.Goals as goal
 
-tested : (c : goal.Else-not-is_admitted) → admitted (view c.args.s) ≡ true
+tested : (c : tie.Else1) → admitted (view c.args.s) ≡ true
 tested c = said-yes c.is_admitted.ensures c.if-not-is_admitted.false
 
 pub returns-then-not-is_admitted : goal.returns-then-not-is_admitted

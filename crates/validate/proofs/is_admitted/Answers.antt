@@ -16,16 +16,17 @@ use mathlib.Core.Bool.{◌&&◌}
 use lib.ListN.{length}
 use mathlib.Core.Path.{◌≡◌, sym, ap, ◌∙◌}
 use native.Mathlib.Omega.{arith}
+use Rattle.validate.proofs.is_admitted.Tie as tie
 use Rattle.validate.proofs.is_admitted.Goals as goal
 
 -- ---- the places past the tests of sizes, constraints, divisors, thresholds and numbers, and what is known there
-abbrev sized-at : goal.Else-not-are_in_range → goal.Else-not-are_sizes_valid
+abbrev sized-at : tie.Else2 goal.the-invariant-loop-d goal.the-decreases-loop-d → goal.Else-not-are_sizes_valid
 sized-at c = c.before.before.before.before.before.before
 
-abbrev ranged-at : goal.Else-not-are_divisors_in_range → goal.Else-not-are_in_range
+abbrev ranged-at : tie.Else3 goal.the-invariant-loop-d goal.the-decreases-loop-d → tie.Else2 goal.the-invariant-loop-d goal.the-decreases-loop-d
 ranged-at c = c.before.before.before.before
 
-abbrev divided-at : goal.Else-not-are_thresholds → goal.Else-not-are_divisors_in_range
+abbrev divided-at : goal.Else-not-are_thresholds → tie.Else3 goal.the-invariant-loop-d goal.the-decreases-loop-d
 divided-at c = c.before.before.before.before.before
 
 abbrev spaced-at : goal.Else-not-are_numbers_valid → goal.Else-not-are_thresholds
@@ -40,11 +41,11 @@ state c = c.args.s
 sizes : (c : goal.Else-not-are_sizes_valid) → Sized (state c)
 sizes c = sizes-passed (state c) _ c.are_sizes_valid.ensures c.if-not-are_sizes_valid.false
 
-divisors-told : (c : goal.After-are_divisors_in_range) → c.are_divisors_in_range.result ≡ all_of divisor_in_range (inputs_of (state (sized-at c.before.before.before)))
+divisors-told : (c : tie.After-are_divisors_in_range goal.the-invariant-loop-d goal.the-decreases-loop-d) → c.are_divisors_in_range.result ≡ all_of divisor_in_range (inputs_of (state (sized-at c.before.before.before)))
 unfolding inputs_of
 divisors-told c = let s = state (sized-at c.before.before.before) in c.are_divisors_in_range.ensures s.n s.rows
 
-rows_told : (c : goal.After-are_numbers_valid) → let s = state (sized-at (ranged-at (divided-at c.before.before.before.before.before))) in
+rows_told : (c : tie.After-are_numbers_valid goal.the-invariant-loop-d goal.the-decreases-loop-d) → let s = state (sized-at (ranged-at (divided-at c.before.before.before.before.before))) in
     valid (view s) ≡ (c.are_numbers_valid.result && level_tests s)
 unfolding numbers_to
 rows_told c =
@@ -56,7 +57,7 @@ rows_told c =
     _ (divisors-told e₃.before) e₃.if3.left _ e₄.are_thresholds.ensures e₄.if-not-are_thresholds.false _ c.dropped.ensures _ c.are_numbers_valid.ensures
 
 rows-passed : (c : goal.Else-not-are_numbers_valid) → let s = state (sized-at (ranged-at (divided-at (spaced-at c)))) in valid (view s) ≡ level_tests s
-rows-passed c = rw (not-false c.are_numbers_valid.result c.if-not-are_numbers_valid.false) at (rows_told c.before)
+rows-passed c = rw c.if-not-are_numbers_valid.false at (rows_told c.before)
 
 pub returns-then-not-are_sizes_valid : goal.returns-then-not-are_sizes_valid
 returns-then-not-are_sizes_valid c = refuse _ (search (rules, refuse-sizes))
@@ -117,7 +118,7 @@ are_numbers_valid-requires c =
     omega arith
 
 pub returns-then-not-are_numbers_valid : goal.returns-then-not-are_numbers_valid
-returns-then-not-are_numbers_valid c = refuse _ (sym (rw (not-true c.are_numbers_valid.result c.if-not-are_numbers_valid.true) at (rows_told c.before)))
+returns-then-not-are_numbers_valid c = refuse _ (sym (rw c.if-not-are_numbers_valid.true at (rows_told c.before)))
 
 pub overflow_add-last : goal.overflow_add-last
 overflow_add-last c = let z = sizes (sized-at (ranged-at (divided-at (spaced-at c)))) in search rules
@@ -166,9 +167,9 @@ is_status_valid-marked-requires c =
     let room : length (state (sized-at e₂)).rows ≡ 4224 = search rules in
     let w = e₆.whole-outermost.ensures in
     let outermost = level-fits _ _ _ _ _ w.0 w.1 z.variables _ e₆.is_level_valid.ensures e₆.if-not-is_level_valid.false in
-    ((z.variables, omega arith), (said-yes e₂.before.are-in-range.ensures e₂.if2.left, ((outermost, at.fits), (z.constraints, said-yes (divisors-told e₃.before) e₃.if3.left))))
+    record { n_le_max_variables = (z.variables, omega arith); count_value = said-yes e₂.before.are-in-range.ensures e₂.if2.left; box_fits = (outermost, at.fits); m_le_max_constraints = (z.constraints, said-yes (divisors-told e₃.before) e₃.if3.left) }
 
-marked : (c : goal.After-is_status_valid-marked) → c.is_status_valid-marked.result ≡ valid (view (state (sized-at (ranged-at (divided-at (spaced-at (numbered-at c.before.before.before.before.before.before.before)))))))
+marked : (c : tie.After-is_status_valid goal.the-invariant-loop-d goal.the-decreases-loop-d) → c.is_status_valid-marked.result ≡ valid (view (state (sized-at (ranged-at (divided-at (spaced-at (numbered-at c.before.before.before.before.before.before.before)))))))
 marked c =
     let end = c in
     let l = end in

@@ -13,10 +13,7 @@ pub is_falsified-requires : goal.is_falsified-requires
 is_falsified-requires c =
     let e = c in
     let q = e.requires in
-    let b = q.0 in (
-      row_fits _ _ 0 b.variables (search rules) (said-yes e.is_in_range.ensures e.if-not-is_in_range.false),
-      box-fits _ _ _ (true_of _ b.box-range) (omega (arith, b.variables, b.lower-size)) (omega (arith, b.variables, b.upper-size)),
-    )
+    let b = q.0 in record { row_fits = row_fits _ _ 0 b.variables (search rules) (said-yes e.is_in_range.ensures e.if-not-is_in_range.false); box_fits = box-fits _ _ _ (true_of _ b.box-range) (omega (arith, b.variables, b.lower-size)) (omega (arith, b.variables, b.upper-size)) }
 
 pub returns : goal.returns
 returns c =

@@ -13,10 +13,11 @@ use Rattle.layout.proofs.Elements.{cell-read}
 use Rattle.state.specs.View.{reason_of, reasons_in}
 use Rattle.state.specs.Position.{absent}
 use Rattle.analyze.proofs.Resolvents.{resolving, resolve-none, resolve-some}
+use Rattle.analyze.proofs.analysis.resolve_at.Tie as tie
 use Rattle.analyze.proofs.analysis.resolve_at.Goals as goal
 
 -- ---- the reason is that of the bound which F uses
-module _ (c : goal.After-position_of-j) where
+module _ (c : tie.After-position_of) where
   abbrev at-start : goal.Start
   at-start = c.before.before.before.before.before
 
@@ -31,7 +32,7 @@ module _ (c : goal.After-position_of-j) where
       ap (λ (z : ℤ). used_reason z (record { lower = reason_of (get_or s.below.now s.i 0); upper = reason_of (get_or s.above.now s.i 0) }))
       (cell-read s.f.now 0 s.i (s.i + 1) (omega arith) c.used_reason-arg-1.given ∙ sym (coefficient-at s.n s.f.now 0 s.i at-start.pre.0))
 
-position-below : (c : goal.Else-j-eq-ABSENT) → c.position_of-j.result < absent
+position-below : (c : tie.Else1) → c.position_of-j.result < absent
 position-below c = omega (arith, c.position_of-j.ensures.most, c.if-j-eq-ABSENT.false)
 
 pub returns-then-j-eq-ABSENT : goal.returns-then-j-eq-ABSENT

@@ -13,10 +13,11 @@ use Rattle.layout.proofs.Elements.{cell-read}
 use Rattle.linear.proofs.Ranges.{row_fits, box-fits}
 use Rattle.analyze.specs.Analyzed.{ResolvedAs}
 use Rattle.analyze.proofs.Resolvents.{with-alike, with-combined, with-large, with-holding, with-taken}
+use Rattle.analyze.proofs.analysis.resolve_with.Tie as tie
 use Rattle.analyze.proofs.analysis.resolve_with.Goals as goal
 
 -- ---- the signs of F's and J's coefficients
-module _ (c : goal.After-is_opposite) where
+module _ (c : tie.After-is_opposite) where
   abbrev at-start : goal.Start
   at-start = c.before.before.before
 
@@ -41,7 +42,7 @@ module _ (c : goal.After-is_opposite) where
 
 -- ---- once it is combined
 module _ (c : goal.After-combine_at) where
-  abbrev signed : goal.After-is_opposite
+  abbrev signed : tie.After-is_opposite
   signed = c.before.before.before.before.before.before
 
   opposite-signs : opposite (coefficient_at (F signed) (at-start signed).args.i) (coefficient_at (J signed) (at-start signed).args.i) ≡ true
@@ -96,10 +97,7 @@ pub is_falsified-requires : goal.is_falsified-requires
 is_falsified-requires c =
     let e = c in
     let r = e in
-    let b = (at-start (signed r.before.before.before.before.before)).pre.1.0.box in (
-      row_fits _ _ 0 b.variables (omega (arith, r.round_into_range.ensures.size, b.variables)) (said-yes e.is_in_range.ensures e.if-not-is_in_range.false),
-      box-fits _ _ _ (true_of _ b.box-range) (omega (arith, b.variables, b.lower-size)) (omega (arith, b.variables, b.upper-size)),
-    )
+    let b = (at-start (signed r.before.before.before.before.before)).pre.1.0.box in record { row_fits = row_fits _ _ 0 b.variables (omega (arith, r.round_into_range.ensures.size, b.variables)) (said-yes e.is_in_range.ensures e.if-not-is_in_range.false); box_fits = box-fits _ _ _ (true_of _ b.box-range) (omega (arith, b.variables, b.lower-size)) (omega (arith, b.variables, b.upper-size)) }
 
 pub returns-then-not-is_falsified : goal.returns-then-not-is_falsified
 unfolding row_at

@@ -19,13 +19,14 @@ use Rattle.bits.proofs.divided.first_indivisible.Lts as lts
 use Rattle.linear.proofs.divisibility.is_falsified.Reads as is-falsified-reads
 use Rattle.bits.proofs.masks.first.Reads as first_reads
 use Rattle.bits.proofs.masks.rest.Reads as rest-reads
+use Rattle.bits.proofs.divided.first_indivisible.Tie as tie
 use Rattle.bits.proofs.divided.first_indivisible.Goals as goal
 
 pub loop-left-init : goal.loop-left-init
 loop-left-init c = (c.requires.inside, λ j z. inl z)
 
 -- the constraint found is one of the inputs
-inside : (c : goal.After-first-j) → c.first-j.result < c.args.m
+inside : (c : tie.After-first goal.the-invariant-loop-left goal.the-decreases-loop-left) → c.first-j.result < c.args.m
 inside c = c.first-j.ensures.inside _ c.loop-left.invariant.0
 
 pub returns-then-limit-j : goal.returns-then-limit-j
@@ -46,12 +47,9 @@ pub is_falsified-requires : goal.is_falsified-requires
 is_falsified-requires c =
     let f = c in
     let s = f in
-    let j = f.first-j.result in (
-      rw (number_read s.args.divisors.now j c.is_falsified-arg-in-loop-left-1.given) (s.requires.fits j (inside f)),
-      (row_fits _ _ _ s.requires.few (omega (arith, s.requires.lines_long, s.requires.few, s.requires.most, inside f)) (unfold row_at in s.requires.range j (inside f)), s.requires.box),
-    )
+    let j = f.first-j.result in record { divisor_fits = rw (number_read s.args.divisors.now j c.is_falsified-arg-in-loop-left-1.given) (s.requires.fits j (inside f)); row_fits = row_fits _ _ _ s.requires.few (omega (arith, s.requires.lines_long, s.requires.few, s.requires.most, inside f)) (unfold row_at in s.requires.range j (inside f)); box_fits = s.requires.box }
 
-tested : (c : goal.After-is_falsified) →
+tested : (c : tie.After-is_falsified goal.the-invariant-loop-left goal.the-decreases-loop-left) →
     let f = c in
     let a = f.args in
     c.is_falsified.result ≡ falsified (input_at a.n a.lines.now a.divisors.now f.first-j.result) (box_of a.n a.lower.now a.upper.now)

@@ -12,4 +12,4 @@ pub returns-then-q-eq0 : goal.returns-then-q-eq0
 returns-then-q-eq0 c = λ e. inl (same c.ranges.q (fits_lit (pos 0) tt) c.if-q-eq0.true)
 
 pub returns : goal.returns
-returns c = λ e. inr (same c.ranges.a (fits_lit (pos 0) tt) (eqb-true _ _ (not-false _ e)))
+returns c = λ e. inr (same c.ranges.a (fits_lit (pos 0) tt) (eqb-true _ _ e))

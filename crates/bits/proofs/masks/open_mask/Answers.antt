@@ -8,13 +8,14 @@ use Rattle.integer.specs.Tests.{le_z-true}
 use Rattle.layout.specs.Rows.{number_in}
 use Rattle.bits.proofs.Bits.{Covers, covers-none, covers-small, covers-all, covers_out, covers-in}
 use borrow.Author.Rules.{rules, sfits_of}
+use Rattle.bits.proofs.masks.open_mask.Tie as tie
 use Rattle.bits.proofs.masks.open_mask.Goals as goal
 
 pub loop-i-init : goal.loop-i-init
 loop-i-init c = (search rules, covers-none _ _)
 
 -- the mask has room for one variable more
-small : (c : goal.At-loop-i) → c.loop-i.mask < 2 ^ 32
+small : (c : tie.At-loop goal.the-invariant-loop-i goal.the-decreases-loop-i) → c.loop-i.mask < 2 ^ 32
 small c = covers-small _ _ _ _ c.loop-i.invariant.1 32 (omega (arith, c.requires))
 
 pub overflow_mul-mask : goal.overflow_mul-mask

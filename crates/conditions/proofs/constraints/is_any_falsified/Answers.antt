@@ -16,7 +16,7 @@ pub loop-j-init : goal.loop-j-init
 loop-j-init c = search (rules, clear_none)
 
 pub is_falsified-requires : goal.is_falsified-requires
-is_falsified-requires c = search (rules, row-passed, divisor-passed)
+is_falsified-requires c = search record { divisor_fits = rules; row_fits = row-passed; box_fits = divisor-passed }
 
 pub returns-then-is_falsified : goal.returns-then-is_falsified
 returns-then-is_falsified c = search (rules, falsified-found)
@@ -25,7 +25,7 @@ pub loop-j-preserved : goal.loop-j-preserved
 loop-j-preserved c =
     let q = c.divisor_of-q in
     let l = c in
-    (search rules, clear-more _ _ _ _ _ l.loop-j.j _ (to_z-of_z {w = w64} (sfits_of q.type-inv) ∙ q.ensures) _ c.is_falsified.ensures l.loop-j.invariant.1 c.if-is_falsified.false)
+    (search rules, clear-more _ _ _ _ _ l.loop-j.j _ (to_z-of_z {w = w64} (sfits_of q.type_inv) ∙ q.ensures) _ c.is_falsified.ensures l.loop-j.invariant.1 c.if-is_falsified.false)
 
 pub returns : goal.returns
 returns c = search (rules, clear-end)

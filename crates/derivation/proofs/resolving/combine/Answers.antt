@@ -28,10 +28,10 @@ bounds-rows-start c = omega arith
 pub mix-requires : goal.mix-requires
 mix-requires c =
     let s = c in
-    let k = s.requires.0 in
+    let k = s.requires.combinable in
     let f = constant-read s.args.n s.args.f.now s.args.at k.first_range c.mix-arg-1.given in
     let j = constant-read s.args.n s.args.rows.now s.args.start k.second_range c.mix-arg-2-1.given in
-    (s.requires.1.0, (f, (s.requires.1.1.0, j)))
+    (s.requires.s_le_max_coefficient.0, (f, (s.requires.s_le_max_coefficient.1.0, j)))
 
 pub loop-i-init : goal.loop-i-init
 loop-i-init c =
@@ -40,8 +40,8 @@ loop-i-init c =
     let f = number_read a.f.now a.at c.mix-arg-1.given in
     let j = number_read a.rows.now a.start c.mix-arg-2-1.given in (
       omega arith,
-      fill-constant a.r.now _ s.requires.1.1.1
-          (to_z-of_z {w = w64} (sfits_of c.mix.type-inv) ∙ c.mix.ensures ∙ ap₂ (λ (x y : ℤ). pos a.s *ℤ x +ℤ pos a.t *ℤ y) f j),
+      fill-constant a.r.now _ s.requires.s_le_max_coefficient.1.1
+          (to_z-of_z {w = w64} (sfits_of c.mix.type_inv) ∙ c.mix.ensures ∙ ap₂ (λ (x y : ℤ). pos a.s *ℤ x +ℤ pos a.t *ℤ y) f j),
     )
 
 pub overflow_add-at : goal.overflow_add-at
@@ -72,10 +72,10 @@ pub mix-requires-in-loop-i : goal.mix-requires-in-loop-i
 mix-requires-in-loop-i c =
     let l = c in
     let s = l in
-    let k = s.requires.0 in
+    let k = s.requires.combinable in
     let f = coefficient-read s.args.n s.args.f.now s.args.at k.first_range l.loop-i.i (omega arith) c.mix-arg-in-loop-i-1.given in
     let j = coefficient-read s.args.n s.args.rows.now s.args.start k.second_range l.loop-i.i (omega arith) c.mix-arg-in-loop-i-2-1.given in
-    (s.requires.1.0, (f, (s.requires.1.1.0, j)))
+    (s.requires.s_le_max_coefficient.0, (f, (s.requires.s_le_max_coefficient.1.0, j)))
 
 pub overflow_add-i : goal.overflow_add-i
 overflow_add-i c = omega arith
@@ -101,7 +101,7 @@ loop-i-preserved c =
     let j = cell-read a.rows.now a.start i (a.start + 1 + i) refl c.mix-arg-in-loop-i-2-1.given in (
       omega arith,
       fill-coefficient _ (omega arith) l.loop-i.invariant.1
-          (to_z-of_z {w = w64} (sfits_of c.mix-in-loop-i.type-inv) ∙ c.mix-in-loop-i.ensures ∙ ap₂ (λ (x y : ℤ). pos a.s *ℤ x +ℤ pos a.t *ℤ y) f j),
+          (to_z-of_z {w = w64} (sfits_of c.mix-in-loop-i.type_inv) ∙ c.mix-in-loop-i.ensures ∙ ap₂ (λ (x y : ℤ). pos a.s *ℤ x +ℤ pos a.t *ℤ y) f j),
     )
 
 pub returns : goal.returns

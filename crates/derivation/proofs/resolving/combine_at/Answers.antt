@@ -87,7 +87,7 @@ pub nonzero_div-a : goal.nonzero_div-a
 nonzero_div-a c = divisor-positive c
 
 pub combine-requires : goal.combine-requires
-combine-requires c = let g = c in ((at-start g).requires.0.combinable, (b-in-range g, (a-in-range g, (at-start g).requires.1)))
+combine-requires c = let g = c in record { combinable = (at-start g).requires.0.combinable; s_le_max_coefficient = (b-in-range g, (a-in-range g, (at-start g).requires.1)) }
 
 pub returns : goal.returns
 returns c =

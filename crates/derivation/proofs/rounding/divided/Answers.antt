@@ -16,10 +16,10 @@ use Rattle.derivation.proofs.rounding.divided.Goals as goal
 pub loop-i-init : goal.loop-i-init
 loop-i-init c =
     let a = c.args in
-    let read = number_read a.t1 0 c.ceil_div-arg-1.given in (
+    let read = number_read a.c 0 c.ceil_div-arg-1.given in (
       omega arith,
-      fill-constant a.t1 _ (search rules)
-          (to_z-of_z {w = w64} (sfits_of c.ceil_div.type-inv) ∙ c.ceil_div.ensures.0 ∙ ap (λ (z : ℤ). ceil_div z a.h) read),
+      fill-constant a.c _ (search rules)
+          (to_z-of_z {w = w64} (sfits_of c.ceil_div.type_inv) ∙ c.ceil_div.ensures.0 ∙ ap (λ (z : ℤ). ceil_div z a.h) read),
     )
 
 pub exact_div-requires : goal.exact_div-requires
@@ -30,10 +30,10 @@ loop-i-preserved c =
     let l = c in
     let a = l.args in
     let i = l.loop-i.i in
-    let read = cell-read a.t1 0 i (i + 1) (omega arith) c.exact_div-arg-1.given in (
+    let read = cell-read a.c 0 i (i + 1) (omega arith) c.exact_div-arg-1.given in (
       omega arith,
       fill-coefficient _ (omega arith) l.loop-i.invariant.1
-          (to_z-of_z {w = w64} (sfits_of c.exact_div.type-inv) ∙ c.exact_div.ensures.0 ∙ ap (exact_div a.h) read),
+          (to_z-of_z {w = w64} (sfits_of c.exact_div.type_inv) ∙ c.exact_div.ensures.0 ∙ ap (exact_div a.h) read),
     )
 
 pub returns : goal.returns

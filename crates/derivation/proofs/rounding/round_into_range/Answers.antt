@@ -8,6 +8,7 @@ use Rattle.layout.specs.Rows.{constraint_at}
 use Rattle.layout.proofs.Rows.{row_plain}
 use Rattle.derivation.proofs.Sizes.{divisor-sized}
 use Rattle.derivation.proofs.RoundingLaws.{left-none, left_one, above-is, rounded-by}
+use Rattle.derivation.proofs.rounding.round_into_range.Tie as tie
 use Rattle.derivation.proofs.rounding.round_into_range.Goals as goal
 
 pub returns-then-h-eq0 : goal.returns-then-h-eq0
@@ -17,7 +18,7 @@ pub returns-then-h-eq1 : goal.returns-then-h-eq1
 returns-then-h-eq1 c = record { size = search rules; same = left_one _ _ _ (row_plain _ _ _) c.excess-least.ensures c.divisor-h.ensures c.if-h-eq1.true }
 
 -- ---- past the two tests it is the divisor
-divisor-is : (c : goal.Else-h-eq1) → let s = c in c.divisor-h.result ≡ common_divisor (constraint_at s.args.n s.args.c.now 0).coefficients
+divisor-is : (c : tie.Else2) → let s = c in c.divisor-h.result ≡ common_divisor (constraint_at s.args.n s.args.c.now 0).coefficients
 divisor-is c = above-is _ _ _ (row_plain _ _ _) c.excess-least.ensures c.divisor-h.ensures c.if-h-eq1.false
 
 pub divided-requires : goal.divided-requires

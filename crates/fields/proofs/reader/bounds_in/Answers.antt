@@ -15,7 +15,7 @@ pub loop-i-preserved : goal.loop-i-preserved
 loop-i-preserved c = (
   search rules,
   filled_more _ _ _ _ _
-      (sfits_of c.i32_at.type-inv)
+      (sfits_of c.i32_at.type_inv)
       (omega arith)
       c.loop-i.invariant.1
       (bound-is _ _ _ _ _ c.bounds_offset.ensures.0 c.i32_at.ensures.0),

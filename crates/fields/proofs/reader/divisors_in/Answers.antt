@@ -14,7 +14,7 @@ pub loop-j-preserved : goal.loop-j-preserved
 loop-j-preserved c = (
   search rules,
   filled_more _ _ _ _ _
-      (sfits_of c.i32_at.type-inv)
+      (sfits_of c.i32_at.type_inv)
       (omega (arith, c.requires.0.few-constraints))
       c.loop-j.invariant.1
       (divisor-is _ _ _ c.i32_at.ensures.0),

@@ -14,7 +14,7 @@ loop-c-init c = search (rules, filled_none)
 pub loop-c-preserved : goal.loop-c-preserved
 loop-c-preserved c = (
   search rules,
-  filled_more _ _ _ _ _ (sfits_of c.cell_in.type-inv) (omega (arith, c.requires.0.few-constraints)) c.loop-c.invariant.1 c.cell_in.ensures,
+  filled_more _ _ _ _ _ (sfits_of c.cell_in.type_inv) (omega (arith, c.requires.0.few-constraints)) c.loop-c.invariant.1 c.cell_in.ensures,
 )
 
 pub returns : goal.returns

@@ -21,7 +21,7 @@ pub write_constraint-requires : goal.write_constraint-requires
 write_constraint-requires c =
     let l = c.loop-j-test.true in
     let h = c.requires in
-    ((search rules, search rules, row-passes _ _ l h.coefficient-range, search rules), divisor-passes _ _ l (sfits_of c.q-1.given) h.divisor_range)
+    record { n_le_max_variables = (search rules, search rules, row-passes _ _ l h.coefficient-range, search rules); q_value = divisor-passes _ _ l (sfits_of c.q-1.given) h.divisor_range }
 
 pub loop-j-preserved : goal.loop-j-preserved
 loop-j-preserved c =

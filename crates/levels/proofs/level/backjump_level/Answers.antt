@@ -25,6 +25,7 @@ use Rattle.linear.specs.Ranges.{DivisorFits}
 use Rattle.levels.specs.Mirror.{box_in}
 use Rattle.levels.specs.Level.{LevelsNested, LeastFalsifying}
 use Rattle.levels.proofs.Nesting.{level-fits, clear-outward}
+use Rattle.levels.proofs.level.backjump_level.Tie as tie
 use Rattle.levels.proofs.level.backjump_level.Invariants.{Passed, tested, whole_part}
 use Rattle.levels.proofs.level.backjump_level.Goals as goal
 
@@ -62,19 +63,13 @@ pub is_falsified-requires : goal.is_falsified-requires
 is_falsified-requires c =
     let l = c in
     let p = l.requires in
-    let at = max_variables * (l.loop-level.level - 1) in (
-      subst DivisorFits (sym (to_z-of_z l.ranges.q)) p.0,
-      (
-        p.1.0,
-        rw (whole_part l.args.lowers.now at, whole_part l.args.uppers.now at) (level-fits p.1.1.1.0 p.1.0.few p.1.1.0 (l.loop-level.level - 1) (omega (arith, l.loop-level.invariant.count))),
-      ),
-    )
+    let at = max_variables * (l.loop-level.level - 1) in record { divisor_fits = subst DivisorFits (sym (to_z-of_z l.ranges.q)) p.0; row_fits = p.1.0; box_fits = rw (whole_part l.args.lowers.now at, whole_part l.args.uppers.now at) (level-fits p.1.1.1.0 p.1.0.few p.1.1.0 (l.loop-level.level - 1) (omega (arith, l.loop-level.invariant.count))) }
 
 pub returns-then-not-is_falsified : goal.returns-then-not-is_falsified
 returns-then-not-is_falsified c =
     let l = c in
     let p = l.requires in
-    rw (← to_z-of_z l.ranges.q) (found l.loop-level.invariant p.1.1.1.0 (rw (to_z-of_z l.ranges.q) p.1.1.1.1) (omega (arith, c.loop-level-test.true)) (sym (tested c.before) ∙ not-true _ c.if-not-is_falsified.true))
+    rw (← to_z-of_z l.ranges.q) (found l.loop-level.invariant p.1.1.1.0 (rw (to_z-of_z l.ranges.q) p.1.1.1.1) (omega (arith, c.loop-level-test.true)) (sym (tested c.before) ∙ c.if-not-is_falsified.true))
 
 pub loop-level-preserved : goal.loop-level-preserved
 loop-level-preserved c =
@@ -83,7 +78,7 @@ loop-level-preserved c =
       count = omega (arith, l.loop-level.invariant.count);
       falsifies = λ t a b.
           ⊎_elim
-          (λ (q : l.loop-level.level - 1 ≡ t). rw (← q) (sym (tested c.before) ∙ not-false _ c.if-not-is_falsified.false))
+          (λ (q : l.loop-level.level - 1 ≡ t). rw (← q) (sym (tested c.before) ∙ c.if-not-is_falsified.false))
           (λ (q : l.loop-level.level - 1 < t). l.loop-level.invariant.falsifies t (omega arith) b)
           (eq-or-lt_of_le a);
     }

@@ -33,7 +33,7 @@ pub record Passed (k : Constraint) (n depth : ℕ) (lowers uppers : List ℤ) (l
   pub falsifies : (t : ℕ) → level ≤ t → t ≤ depth → falsified k (box_in n lowers uppers t) ≡ true
 
 abbrev pub invariant-loop-level : goal.invariant-loop-level
-invariant-loop-level l = Passed (divided_at l.n l.cut 0 (to_z w64 l.q)) l.n l.depth l.lowers l.uppers l.level l.tested
+invariant-loop-level l = Passed (divided_at l.n l.cut 0 l.q) l.n l.depth l.lowers l.uppers l.level l.tested
 
 abbrev pub decreases-loop-level : goal.decreases-loop-level
 decreases-loop-level l = l.level
@@ -43,7 +43,7 @@ pub whole_part : (xs : List ℤ) (k : ℕ) → take (length xs - k) (drop k xs) 
 whole_part xs k = take_all (length xs - k) (drop k xs) (omega (arith, length-drop k xs))
 
 -- what the test of the level told
-pub tested : (c : goal.After-is_falsified) →
+pub tested : (c : tie.After-is_falsified goal.the-invariant-loop-level goal.the-decreases-loop-level) →
     let l = c in
     let a = l.args in
     c.is_falsified.result ≡ falsified (divided_at a.n a.cut.now 0 (back a.q)) (box_in a.n a.lowers.now a.uppers.now (l.loop-level.level - 1))

@@ -18,5 +18,5 @@ pub returns : goal.returns
 returns c =
     let s = c in
     let e : c.magnitude.result ≡ nat_abs s.args.a = c.magnitude.ensures ∙ ap nat_abs (to_z-of_z s.ranges.a) in
-    rw (to_z-of_z {w = w64} (sfits_of c.ceil_div.type-inv))
+    rw (to_z-of_z {w = w64} (sfits_of c.ceil_div.type_inv))
     (lower-is s.args.p _ s.args.a c.ceil_div.result c.magnitude.result (to_z-of_z s.ranges.p) e c.ceil_div.ensures).0

@@ -30,5 +30,5 @@ pub returns : goal.returns
 returns c =
     let s = c in
     let e : c.magnitude.result ≡ nat_abs s.args.a = c.magnitude.ensures ∙ ap nat_abs (to_z-of_z s.ranges.a) in
-    rw (to_z-of_z {w = w64} (sfits_of c.floor_div.type-inv))
+    rw (to_z-of_z {w = w64} (sfits_of c.floor_div.type_inv))
     (upper_is s.args.p _ s.args.a c.floor_div.result c.magnitude.result (negation-is s) e c.floor_div.ensures).0

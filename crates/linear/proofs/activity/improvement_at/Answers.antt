@@ -57,11 +57,11 @@ pub term-requires : goal.term-requires
 term-requires c = record { coefficient = within! (search exps depth 10) tt; up = within! (search exps depth 10) tt; down = within! (search exps depth 10) tt }
 
 pub overflow_sub-activity : goal.overflow_sub-activity
-overflow_sub-activity c = let t = sized c.requires c.term.ensures.1 in fits! (search exps depth 10) tt
+overflow_sub-activity c = let t = sized c.requires c.term.ensures.by_index in fits! (search exps depth 10) tt
 
 pub implied_upper-requires : goal.implied_upper-requires
 implied_upper-requires c =
-    let t = sized c.requires c.term.ensures.1 in
+    let t = sized c.requires c.term.ensures.by_index in
     (record { rest = within! (search exps depth 10) tt; coefficient = within! (search exps depth 10) tt }, lt_z-true c.if-a-gt0.true)
 
 pub returns-then-slack-a : goal.returns-then-slack-a
@@ -70,13 +70,13 @@ returns-then-slack-a c =
     let a = s.args in
     let r = s.requires in
     let x = c.term in
-    let z = sized r x.ensures.1 in
+    let z = sized r x.ensures.by_index in
     let g : pos 0 <ℤ a.a = lt_z-true (simp (to_z-of_z, s.ranges.a) at c.if-a-gt0.true) in
     let t : (pos 0 -ℤ a.activity) <ℤ (a.a *ℤ (a.upper -ℤ a.lower)) = lt_z-true (simp (to_z-of_z, s.ranges.a, s.ranges.lower, s.ranges.upper, s.ranges.activity, slack r, width r, product r) at c.if-slack-a.true) in
-    let d : x.result ≡ term a.a (record { lower = a.lower; upper = a.upper }) = simp (to_z-of_z, s.ranges.a, s.ranges.lower, s.ranges.upper) at x.ensures.0 in
+    let d : x.result ≡ term a.a (record { lower = a.lower; upper = a.upper }) = simp (to_z-of_z, s.ranges.a, s.ranges.lower, s.ranges.upper) at x.ensures.value in
     let e : c.implied_upper.result ≡ implied_upper (a.activity -ℤ x.result) (nat_abs a.a) =
     simp (to_z-of_z, s.ranges.a, s.ranges.activity, fits (lit< tt) z, rest r z) at c.implied_upper.ensures in
-    rw (to_z-of_z {w = w64} (sfits_of {w = w64} c.implied_upper.type-inv))
+    rw (to_z-of_z {w = w64} (sfits_of {w = w64} c.implied_upper.type_inv))
     (upper-yes a.activity a.lower a.upper a.a c.implied_upper.result r.holds g t (e ∙ ap (λ (z : ℤ). implied_upper (a.activity -ℤ z) (nat_abs a.a)) d))
 
 pub returns-then-a-gt0 : goal.returns-then-a-gt0
@@ -98,11 +98,11 @@ pub term-requires-then-slack-a-2 : goal.term-requires-then-slack-a-2
 term-requires-then-slack-a-2 c = record { coefficient = within! (search exps depth 10) tt; up = within! (search exps depth 10) tt; down = within! (search exps depth 10) tt }
 
 pub overflow_sub-activity-then-slack-a-2 : goal.overflow_sub-activity-then-slack-a-2
-overflow_sub-activity-then-slack-a-2 c = let t = sized c.requires c.term-then-slack-a-2.ensures.1 in fits! (search exps depth 10) tt
+overflow_sub-activity-then-slack-a-2 c = let t = sized c.requires c.term-then-slack-a-2.ensures.by_index in fits! (search exps depth 10) tt
 
 pub implied_lower-requires : goal.implied_lower-requires
 implied_lower-requires c =
-    let t = sized c.requires c.term-then-slack-a-2.ensures.1 in
+    let t = sized c.requires c.term-then-slack-a-2.ensures.by_index in
     (record { rest = within! (search exps depth 10) tt; coefficient = within! (search exps depth 10) tt }, lt_z-true c.if-a-lt0.true)
 
 pub returns-then-slack-a-2 : goal.returns-then-slack-a-2
@@ -111,13 +111,13 @@ returns-then-slack-a-2 c =
     let a = s.args in
     let r = s.requires in
     let x = c.term-then-slack-a-2 in
-    let z = sized r x.ensures.1 in
+    let z = sized r x.ensures.by_index in
     let g : a.a <ℤ pos 0 = lt_z-true (simp (to_z-of_z, s.ranges.a) at c.if-a-lt0.true) in
     let t : (pos 0 -ℤ a.activity) <ℤ ((pos 0 -ℤ a.a) *ℤ (a.upper -ℤ a.lower)) = lt_z-true (simp (to_z-of_z, s.ranges.a, s.ranges.lower, s.ranges.upper, s.ranges.activity, slack r, width r, size r, size-product r) at c.if-slack-a-2.true) in
-    let d : x.result ≡ term a.a (record { lower = a.lower; upper = a.upper }) = simp (to_z-of_z, s.ranges.a, s.ranges.lower, s.ranges.upper) at x.ensures.0 in
+    let d : x.result ≡ term a.a (record { lower = a.lower; upper = a.upper }) = simp (to_z-of_z, s.ranges.a, s.ranges.lower, s.ranges.upper) at x.ensures.value in
     let e : c.implied_lower.result ≡ implied_lower (a.activity -ℤ x.result) (nat_abs a.a) =
     simp (to_z-of_z, s.ranges.a, s.ranges.activity, fits (lit< tt) z, rest r z) at c.implied_lower.ensures in
-    rw (to_z-of_z {w = w64} (sfits_of {w = w64} c.implied_lower.type-inv))
+    rw (to_z-of_z {w = w64} (sfits_of {w = w64} c.implied_lower.type_inv))
     (lower-yes a.activity a.lower a.upper a.a c.implied_lower.result r.holds g t (e ∙ ap (λ (z : ℤ). implied_lower (a.activity -ℤ z) (nat_abs a.a)) d))
 
 pub returns-else-slack-a-2 : goal.returns-else-slack-a-2

@@ -12,4 +12,4 @@ use Rattle.linear.proofs.activity.is_falsified.Goals as goal
 
 pub returns : goal.returns
 unfolding falsified falsified_by modulus constraint_at
-returns c = rw (to_z-of_z (fits (lit< tt) c.min_activity.ensures.1)) (ap (lt_z (pos 0)) c.min_activity.ensures.0)
+returns c = rw (to_z-of_z (fits (lit< tt) c.min_activity.ensures.within)) (ap (lt_z (pos 0)) c.min_activity.ensures.value)

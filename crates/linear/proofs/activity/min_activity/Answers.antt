@@ -25,8 +25,8 @@ unfolding number_in
 loop-i-init c =
     let s = c in
     let a = s.args in
-    rw (constant-back s.requires.0)
-    (search rules, rest-start a.n a.rows.now a.start a.lower.now a.upper.now, weaken (omega arith) s.requires.0.constant)
+    rw (constant-back s.requires.row_fits)
+    (search rules, rest-start a.n a.rows.now a.start a.lower.now a.upper.now, weaken (omega arith) s.requires.row_fits.constant)
 
 pub term-sum-requires : goal.term-sum-requires
 unfolding cell number_in
@@ -35,7 +35,7 @@ term-sum-requires c =
     let p = l.requires in
     let i = l.loop-i.i in
     let h : i < l.args.n = c.loop-i-test.true in
-    rw (coefficient-back p.0 i h, lower-back p.1 i h, upper-back p.1 i h) (change-fits (term_fits p.0 p.1 i h))
+    rw (coefficient-back p.row_fits i h, lower-back p.box_fits i h, upper-back p.box_fits i h) (change-fits (term_fits p.row_fits p.box_fits i h))
 
 -- variable i's term
 sized : (c : lts.After-term (term-reads.Asked, term-reads.Learnt) reads.Pre reads.Post invariant-loop-i decreases-loop-i) → Within widest_term c.term.result
@@ -69,18 +69,15 @@ loop-i-preserved c =
     let i = l.loop-i.i in
     let h : i < a.n = c.loop-i-test.true in
     let e : c.term-sum.result ≡ term (cell a.rows.now a.start i) (bounds_at a.lower.now a.upper.now i) =
-    rw (coefficient-back p.0 i h, lower-back p.1 i h, upper-back p.1 i h) at c.term-sum.ensures.0 in
+    rw (coefficient-back p.row_fits i h, lower-back p.box_fits i h, upper-back p.box_fits i h) at c.term-sum.ensures.value in
     rw (to_z-of_z (fits (lit< tt) (sized c)), to_z-of_z (fitting c)) (
       omega arith,
-      ap (λ (z : ℤ). (to_z w64 l.loop-i.sum +ℤ z) +ℤ rest a.n a.rows.now a.start a.lower.now a.upper.now (i + 1)) e
-          ∙ sym (rest-step a.n a.rows.now a.start a.lower.now a.upper.now (to_z w64 l.loop-i.sum) i h) ∙ l.loop-i.invariant.1,
+      ap (λ (z : ℤ). (l.loop-i.sum +ℤ z) +ℤ rest a.n a.rows.now a.start a.lower.now a.upper.now (i + 1)) e
+          ∙ sym (rest-step a.n a.rows.now a.start a.lower.now a.upper.now l.loop-i.sum i h) ∙ l.loop-i.invariant.1,
       added c,
     )
 
 pub returns : goal.returns
 returns c =
     let l = c in
-    let a = l.args in (
-      sym (rest_end a.n a.rows.now a.start a.lower.now a.upper.now (to_z w64 l.loop-i.sum) l.loop-i.i c.loop-i-test.false) ∙ l.loop-i.invariant.1,
-      weaken (omega (arith, l.loop-i.invariant.0, l.requires.0.few)) l.loop-i.invariant.2,
-    )
+    let a = l.args in record { value = sym (rest_end a.n a.rows.now a.start a.lower.now a.upper.now l.loop-i.sum l.loop-i.i c.loop-i-test.false) ∙ l.loop-i.invariant.1; within = weaken (omega (arith, l.loop-i.invariant.0, l.requires.row_fits.few)) l.loop-i.invariant.2 }

@@ -22,7 +22,7 @@ use Rattle.linear.proofs.activity.min_activity.Given as goal
 
 abbrev pub invariant-loop-i : goal.invariant-loop-i
 invariant-loop-i l =
-    (l.i ≤ l.n) × (to_z w64 l.sum +ℤ rest l.n l.rows l.start l.lower l.upper l.i ≡ activity (constraint_at l.n l.rows l.start) (box_of l.n l.lower l.upper)) × Within (max_coefficient + l.i * widest_term) (to_z w64 l.sum)
+    (l.i ≤ l.n) × (l.sum +ℤ rest l.n l.rows l.start l.lower l.upper l.i ≡ activity (constraint_at l.n l.rows l.start) (box_of l.n l.lower l.upper)) × Within (max_coefficient + l.i * widest_term) l.sum
 
 abbrev pub decreases-loop-i : goal.decreases-loop-i
 decreases-loop-i l = l.n - l.i

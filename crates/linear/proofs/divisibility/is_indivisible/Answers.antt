@@ -24,12 +24,12 @@ use Rattle.linear.proofs.divisibility.is_indivisible.Goals as goal
 pub loop-i-init : goal.loop-i-init
 loop-i-init c =
     let a = c.args in
-    (omega arith, (open_none a.n a.rows.now a.start a.lower.now a.upper.now a.q, (fixed-none a.n a.rows.now a.start a.lower.now a.upper.now, (record { within = omega arith }, c.requires.0.0))))
+    (omega arith, (open_none a.n a.rows.now a.start a.lower.now a.upper.now a.q, (fixed-none a.n a.rows.now a.start a.lower.now a.upper.now, (record { within = omega arith }, c.requires.q_nonzero.0))))
 
 pub returns-then-g-eq1 : goal.returns-then-g-eq1
 returns-then-g-eq1 c =
     let l = c in
-    indivisible-one _ _ _ _ _ _ l.loop-i.i l.loop-i.g l.requires.0.0 l.loop-i.invariant.0 l.loop-i.invariant.1.0 c.if-g-eq1.true
+    indivisible-one _ _ _ _ _ _ l.loop-i.i l.loop-i.g l.requires.q_nonzero.0 l.loop-i.invariant.0 l.loop-i.invariant.1.0 c.if-g-eq1.true
 
 pub loop-i-preserved-then-low-upper : goal.loop-i-preserved-then-low-upper
 unfolding cell number_in
@@ -40,8 +40,8 @@ loop-i-preserved-then-low-upper c =
     let i = l.loop-i.i in
     let p : 0 < i = t.loop-i-test.true in
     let h : i - 1 < s.args.n = omega (arith, l.loop-i.invariant.0) in
-    let o = rw (lower-back s.requires.1.1 (i - 1) h, upper-back s.requires.1.1 (i - 1) h) at t.if-low-upper.true in
-    let e = rw (coefficient-back s.requires.1.0 (i - 1) h) at c.magnitude.ensures in
+    let o = rw (lower-back s.requires.box_fits (i - 1) h, upper-back s.requires.box_fits (i - 1) h) at t.if-low-upper.true in
+    let e = rw (coefficient-back s.requires.row_fits (i - 1) h) at c.magnitude.ensures in
     let a = s.args in
     let g : c.gcd-g.result ≡ open_from a.n a.rows.now a.start a.lower.now a.upper.now a.q (i - 1) =
     c.gcd-g.ensures ∙ rw (e, l.loop-i.invariant.1.0) (open_more a.n a.rows.now a.start a.lower.now a.upper.now i p l.loop-i.invariant.0 o a.q) in
@@ -61,7 +61,7 @@ term-within c =
 sum-within : (c : lts.Else2 (magnitude-reads.Asked, magnitude-reads.Learnt, gcd-reads.Asked, gcd-reads.Learnt) reads.Pre reads.Post invariant-loop-i decreases-loop-i) →
     let l = c.before.before.before.before.before.before in
     let a = l.before.args in
-    Within ((a.n - (l.loop.i - 1)) * widest_term) (cell a.rows.now a.start (l.loop.i - 1) *ℤ number_in a.lower.now (l.loop.i - 1) +ℤ to_z w64 l.loop.sum)
+    Within ((a.n - (l.loop.i - 1)) * widest_term) (cell a.rows.now a.start (l.loop.i - 1) *ℤ number_in a.lower.now (l.loop.i - 1) +ℤ l.loop.sum)
 sum-within c =
     let l = c.before.before.before.before.before.before in
     weaken (omega (arith, l.loop.invariant.0, c.before.before.before.before.before.loop-test.true)) (add-within (term-within c) l.loop.invariant.1.1.1.0)
@@ -95,26 +95,26 @@ loop-i-preserved c =
     let p : 0 < i = c.loop-i-test.true in
     let v = l.loop-i.invariant in
     let h = reads-back c in
-    let o = rw (lower-back s.requires.1.1 (i - 1) h, upper-back s.requires.1.1 (i - 1) h) at c.if-low-upper.false in
-    rw (coefficient-back s.requires.1.0 (i - 1) h, lower-back s.requires.1.1 (i - 1) h, to_z-of_z (fits (lit< tt) (term-within c)), to_z-of_z (fits (omega (arith, s.requires.1.0.few)) (sum-within c)))
+    let o = rw (lower-back s.requires.box_fits (i - 1) h, upper-back s.requires.box_fits (i - 1) h) at c.if-low-upper.false in
+    rw (coefficient-back s.requires.row_fits (i - 1) h, lower-back s.requires.box_fits (i - 1) h, to_z-of_z (fits (lit< tt) (term-within c)), to_z-of_z (fits (omega (arith, s.requires.row_fits.few)) (sum-within c)))
     (omega (arith, v.0), (v.1.0 ∙ open-same _ _ _ _ _ i p v.0 o _, (rw v.1.1.0 (fixed_more _ _ _ _ _ i p v.0 o), (sum-within c, v.1.1.1.1))))
 
 -- the rest's value
 value-within : (c : lts.After-magnitude-arg (magnitude-reads.Asked, magnitude-reads.Learnt, gcd-reads.Asked, gcd-reads.Learnt) reads.Pre reads.Post invariant-loop-i decreases-loop-i) →
     let l = c.before.before in
-    Within widest_activity (number_in l.before.args.rows.now l.before.args.start +ℤ to_z w64 l.loop.sum)
+    Within widest_activity (number_in l.before.args.rows.now l.before.args.start +ℤ l.loop.sum)
 value-within c =
     let l = c.before.before in
     weaken (omega (arith, l.before.requires.1.0.few)) (add-within l.before.requires.1.0.constant l.loop.invariant.1.1.1.0)
 
 pub overflow_add-rows : goal.overflow_add-rows
 unfolding number_in
-overflow_add-rows c = rw (constant-back c.requires.1.0) (fits (lit< tt) (value-within c))
+overflow_add-rows c = rw (constant-back c.requires.row_fits) (fits (lit< tt) (value-within c))
 
 pub returns : goal.returns
 unfolding number_in
 returns c =
     let l = c in
     let v = l.loop-i.invariant in
-    let m = rw (constant-back l.requires.1.0, to_z-of_z (fits (lit< tt) (value-within c.before))) at c.magnitude-2.ensures in
-    rw m (indivisible-end _ _ _ _ _ _ l.loop-i.i l.loop-i.g (to_z w64 l.loop-i.sum) l.requires.0.0 (omega (arith, c.loop-i-test.false)) v.1.0 v.1.1.0)
+    let m = rw (constant-back l.requires.row_fits, to_z-of_z (fits (lit< tt) (value-within c.before))) at c.magnitude-2.ensures in
+    rw m (indivisible-end _ _ _ _ _ _ l.loop-i.i l.loop-i.g l.loop-i.sum l.requires.q_nonzero.0 (omega (arith, c.loop-i-test.false)) v.1.0 v.1.1.0)

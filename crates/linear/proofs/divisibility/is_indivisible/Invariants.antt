@@ -23,7 +23,7 @@ use Rattle.linear.proofs.divisibility.is_indivisible.Given as goal
 
 abbrev pub invariant-loop-i : goal.invariant-loop-i
 invariant-loop-i l =
-    (l.i ≤ l.n) × ((l.g ≡ open_from l.n l.rows l.start l.lower l.upper l.q l.i) × ((to_z w64 l.sum ≡ fixed_from l.n l.rows l.start l.lower l.upper l.i) × (Within ((l.n - l.i) * widest_term) (to_z w64 l.sum) × (0 < l.g))))
+    (l.i ≤ l.n) × ((l.g ≡ open_from l.n l.rows l.start l.lower l.upper l.q l.i) × ((l.sum ≡ fixed_from l.n l.rows l.start l.lower l.upper l.i) × (Within ((l.n - l.i) * widest_term) l.sum × (0 < l.g))))
 
 abbrev pub decreases-loop-i : goal.decreases-loop-i
 decreases-loop-i l = l.i

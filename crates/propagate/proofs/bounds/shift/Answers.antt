@@ -51,12 +51,12 @@ changed : (c : goal.After-term-t) →
 unfolding cell number_in
 changed c =
     let l = c in
-    rw (back (lit< tt) (l.requires.coefficients l.loop-j.j c.loop-j-test.true)) at c.term-t.ensures.0
+    rw (back (lit< tt) (l.requires.coefficients l.loop-j.j c.loop-j-test.true)) at c.term-t.ensures.value
 
 change-size : (c : goal.After-term-t) → Within widest_span c.term-t.result
 change-size c =
     let p = c.requires in
-    c.term-t.ensures.1 widest_change (rw (back (lit< tt) p.up) p.up) (rw (back (lit< tt) p.down) p.down)
+    c.term-t.ensures.by_index widest_change (rw (back (lit< tt) p.up) p.up) (rw (back (lit< tt) p.down) p.down)
 
 -- the sum that is stored
 stored : (c : goal.After-v-1) →

@@ -27,7 +27,7 @@ use Rattle.propagate.proofs.bounds.shift.Given as goal
 abbrev pub invariant-loop-j : goal.invariant-loop-j
 invariant-loop-j l =
     (l.j ≤ l.kept) × (length l.activities ≡ max_rows) ×
-    ((k : ℕ) → k < l.j → (number_in l.activities k ≡ number_in l.initial.activities k +ℤ term (cell l.rows (row_length * k) l.i) (record { lower = to_z w64 l.rise; upper = to_z w64 l.fall })) × (number_in l.activities k ≤ℤ pos 0)) ×
+    ((k : ℕ) → k < l.j → (number_in l.activities k ≡ number_in l.initial.activities k +ℤ term (cell l.rows (row_length * k) l.i) (record { lower = l.rise; upper = l.fall })) × (number_in l.activities k ≤ℤ pos 0)) ×
     ((k : ℕ) → l.j ≤ k → number_in l.activities k ≡ number_in l.initial.activities k)
 
 abbrev pub decreases-loop-j : goal.decreases-loop-j

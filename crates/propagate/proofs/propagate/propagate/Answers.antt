@@ -35,27 +35,28 @@ use Rattle.bits.proofs.divided.first_indivisible.Reads as first-indivisible-read
 use Rattle.bits.proofs.masks.open_mask.Reads as open-mask-reads
 use Rattle.propagate.proofs.propagate.decide_or_finish.Reads as decide-or-finish-reads
 use Rattle.propagate.proofs.scan.first_improvement.Reads as first-improvement-reads
+use Rattle.propagate.proofs.propagate.propagate.Tie as tie
 use Rattle.propagate.proofs.propagate.propagate.Invariants.{falsified, start}
 use Rattle.propagate.proofs.propagate.propagate.Goals as goal
 
-here : (c : goal.In-loop-falsified) →
+here : (c : tie.In-loop goal.the-invariant-loop-falsified goal.the-decreases-loop-falsified) →
     let a = (start c.before).args in
     c.loop-falsified.falsified ≡ a.m + kept_cuts a.made
 here c = c.loop-falsified-test.true ∙ c.kept_count-kept.ensures
 
 pub kept_count-kept-requires : goal.kept_count-kept-requires
-kept_count-kept-requires c = c.requires.0.0.inputs
+kept_count-kept-requires c = c.requires.ready.0.inputs
 
 pub open_mask-open-requires : goal.open_mask-open-requires
-open_mask-open-requires c = c.requires.0.0.few
+open_mask-open-requires c = c.requires.ready.0.few
 
 pub loop-falsified-init : goal.loop-falsified-init
 loop-falsified-init c =
     let p = c.requires in
-    record { ready = p.0.0; gap_free = p.0.1; same = λ d. refl; told = p.1.0.0; opens = c.open_mask-open.ensures; few = p.1.1.1 }
+    record { ready = p.ready.0; gap_free = p.ready.1; same = λ d. refl; told = p.warned.0; opens = c.open_mask-open.ensures; few = p.upper_bound }
 
 -- nothing is falsified in the loop
-clear : (c : goal.In-loop-falsified) →
+clear : (c : tie.In-loop goal.the-invariant-loop-falsified goal.the-decreases-loop-falsified) →
     let a = (start c.before).args in
     let v = c.loop-falsified in
     Warned (kept_over a.n a.m a.made a.rows.now a.lines.now a.divisors.now) a.n a.rows.now v.lower v.upper v.activities v.reaches (a.m + kept_cuts a.made) (a.m + kept_cuts a.made)
@@ -68,26 +69,26 @@ first_improvement-better-requires c =
     let v = l.loop-falsified.invariant in
     let w = clear c.before.before.before.before in
     let t = w.tracked refl in
-    rw l.kept_count-kept.ensures ((scan-fits _ _ _ _ _ v.ready, (t, λ j h. rw (t.at j h).same (row_low _ _ _ _ _ _ _ _ _ _ s.pre.1.1.0.0 w j h))), ((s.pre.1.0.1, v.opens), (v.ready.inputs, unfold kept_cuts in omega arith)))
+    rw l.kept_count-kept.ensures record { scan_fits = (scan-fits _ _ _ _ _ v.ready, (t, λ j h. rw (t.at j h).same (row_low _ _ _ _ _ _ _ _ _ _ s.pre.1.1.0.0 w j h))); masked = (s.pre.1.0.1, v.opens); m_le_max_constraints = (v.ready.inputs, unfold kept_cuts in omega arith) }
 
 -- what the scan found, and that the constraints are tracked after it
-found : (c : goal.After-first_improvement-better) →
+found : (c : tie.After-first_improvement goal.the-invariant-loop-falsified goal.the-decreases-loop-falsified) →
     let l = c in
     let a = (start l).args in
     found_of c.first_improvement-better.result ≡ first_improvement 0 (kept_over a.n a.m a.made a.rows.now a.lines.now a.divisors.now) (box_of a.n l.loop-falsified.lower l.loop-falsified.upper)
 found c =
     let l = c in
     let p = (start l).requires.1.1.0.0 in
-    (rw l.kept_count-kept.ensures at c.first_improvement-better.ensures.0) ∙ sym (improvement-over _ _ _ _ _ p _ _)
+    (rw l.kept_count-kept.ensures at c.first_improvement-better.ensures.result_value) ∙ sym (improvement-over _ _ _ _ _ p _ _)
 
-tracked : (c : goal.After-first_improvement-better) →
+tracked : (c : tie.After-first_improvement goal.the-invariant-loop-falsified goal.the-decreases-loop-falsified) →
     let l = c in
     let a = (start l).args in
     Tracked a.n a.rows.now l.loop-falsified.lower l.loop-falsified.upper l.loop-falsified.activities c.first_improvement-better.new.1.1.1.1.1.1.1.1.1.1.0 (a.m + kept_cuts a.made)
-tracked c = rw c.kept_count-kept.ensures at c.first_improvement-better.ensures.1
+tracked c = rw c.kept_count-kept.ensures at c.first_improvement-better.ensures.tracked
 
 -- no constraint is falsified, so what the scan found is the next move
-chosen : (c : goal.After-first_improvement-better) (move : Move) → some move ≡ found_of c.first_improvement-better.result →
+chosen : (c : tie.After-first_improvement goal.the-invariant-loop-falsified goal.the-decreases-loop-falsified) (move : Move) → some move ≡ found_of c.first_improvement-better.result →
     let l = c in
     let a = (start l).args in
     move ≡ next_move (kept_over a.n a.m a.made a.rows.now a.lines.now a.divisors.now) (box_of a.n l.loop-falsified.lower l.loop-falsified.upper)
@@ -125,7 +126,7 @@ pub bounds-thresholds-i : goal.bounds-thresholds-i
 bounds-thresholds-i c = omega (arith, (raise-level c.before 0).variable, (raise-level c.before 0).ready.few)
 
 -- where the bound jumps
-raised-to : (c : goal.After-lift-raised) →
+raised-to : (c : tie.After-lift goal.the-invariant-loop-falsified goal.the-decreases-loop-falsified) →
     let t = c in
     let l = t in
     let g = t.better-1.given.0 in
@@ -226,7 +227,7 @@ pub bounds-thresholds-i-in-Upper : goal.bounds-thresholds-i-in-Upper
 bounds-thresholds-i-in-Upper c = omega (arith, (lower-level c.before 0).variable, (lower-level c.before 0).ready.few)
 
 -- where the bound jumps
-lowered-to : (c : goal.After-sink-lowered) →
+lowered-to : (c : tie.After-sink goal.the-invariant-loop-falsified goal.the-decreases-loop-falsified) →
     let t = c in
     let l = t in
     let g = t.better-in-Upper-1.given.0 in
@@ -305,10 +306,7 @@ returns-in-Nothing c =
     let f = c in
     let l = f in
     let v = l.loop-falsified.invariant in
-    let last = next-open _ _ _ _ (warned-first _ _ _ _ _ _ _ _ _ (length_over _ _ _ _ _ _) (clear f.before.before.before.before.before)) (omega arith) (sym (ap found_of c.in-Nothing.is) ∙ found f) in (
-      λ d. stop-answer _ _ _ _ _ _ (length_over _ _ _ _ _ _) (held l.loop-falsified.lower l.loop-falsified.upper l.loop-falsified.below l.loop-falsified.above d) (ready_at d v.ready) v.gap_free _ _ (c.decide_or_finish-found.ensures ∙ last) ∙ sym (v.same d),
-      ((v.ready, v.gap_free), (tracked-some _ _ _ _ _ _ _ 0 (omega arith) (tracked f), λ i e. tracked f)),
-    )
+    let last = next-open _ _ _ _ (warned-first _ _ _ _ _ _ _ _ _ (length_over _ _ _ _ _ _) (clear f.before.before.before.before.before)) (omega arith) (sym (ap found_of c.in-Nothing.is) ∙ found f) in record { by_index = λ d. stop-answer _ _ _ _ _ _ (length_over _ _ _ _ _ _) (held l.loop-falsified.lower l.loop-falsified.upper l.loop-falsified.below l.loop-falsified.above d) (ready_at d v.ready) v.gap_free _ _ (c.decide_or_finish-found.ensures ∙ last) ∙ sym (v.same d); ready_2 = (v.ready, v.gap_free); tracked = (tracked-some _ _ _ _ _ _ _ 0 (omega arith) (tracked f), λ i e. tracked f) }
 
 no-decision : (j i : ℕ) → Conflict j ≡ Decide i → ⊥
 no-decision j i e = let z : ◌≡◌ {A = ℕ} 0 1 = cc in omega arith
@@ -317,7 +315,4 @@ pub returns : goal.returns
 unfolding answer stop_of
 returns c =
     let l = c in
-    let v = l.loop-falsified.invariant in (
-      λ d. stop-answer _ _ _ _ _ _ (length_over _ _ _ _ _ _) (held l.loop-falsified.lower l.loop-falsified.upper l.loop-falsified.below l.loop-falsified.above d) (ready_at d v.ready) v.gap_free _ _ (next-conflict _ _ _ _ (warned-first _ _ _ _ _ _ _ _ _ (length_over _ _ _ _ _ _) v.told) (falsified c)) ∙ sym (v.same d),
-      ((v.ready, v.gap_free), (v.told.lengths, λ i e. absurd (no-decision _ i e))),
-    )
+    let v = l.loop-falsified.invariant in record { by_index = λ d. stop-answer _ _ _ _ _ _ (length_over _ _ _ _ _ _) (held l.loop-falsified.lower l.loop-falsified.upper l.loop-falsified.below l.loop-falsified.above d) (ready_at d v.ready) v.gap_free _ _ (next-conflict _ _ _ _ (warned-first _ _ _ _ _ _ _ _ _ (length_over _ _ _ _ _ _) v.told) (falsified c)) ∙ sym (v.same d); ready_2 = (v.ready, v.gap_free); tracked = (v.told.lengths, λ i e. absurd (no-decision _ i e)) }

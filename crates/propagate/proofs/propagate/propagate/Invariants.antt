@@ -46,7 +46,7 @@ decreases-loop-falsified l =
     slack (box_of l.n l.lower l.upper)
 
 -- where the function started, and that no constraint is falsified in the loop
-abbrev pub start : goal.At-loop-falsified → goal.Start
+abbrev pub start : tie.At-loop goal.the-invariant-loop-falsified goal.the-decreases-loop-falsified → goal.Start
 start l = l.before.before.before.before.before
 
 -- the loop is left where a constraint is falsified

@@ -27,11 +27,12 @@ use Rattle.propagate.proofs.Scans.{improved_from, improved_at, improved-start, i
 use Rattle.propagate.proofs.Tracking.{scan-term, tracked-reach, span-quiet, known-none}
 use Rattle.propagate.proofs.Passed.{Passed, passed_start, passed-more, passed-hit, passed-reach, passed-quiet}
 use borrow.Author.Rules.{rules}
+use Rattle.propagate.proofs.scan.first_improvement.Tie as tie
 use Rattle.propagate.proofs.scan.first_improvement.Invariants.{hit, inside, numbers, tested, tracked, turn}
 use Rattle.propagate.proofs.scan.first_improvement.Goals as goal
 
 pub scan-init : goal.scan-init
-scan-init c = (search rules, refl, improved-start _ _ _ _ _, c.requires.0.1.0)
+scan-init c = (search rules, refl, improved-start _ _ _ _ _, c.requires.scan_fits.1.0)
 
 pub overflow_sub-slack : goal.overflow_sub-slack
 unfolding number_in
@@ -60,7 +61,7 @@ scan-preserved-then-reaches-j c =
 pub mask_of-requires : goal.mask_of-requires
 mask_of-requires c =
     let i = c in
-    let p = i.requires.1.1 in
+    let p = i.requires.m_le_max_constraints in
     (p.0, omega (arith, p.1, i.scan-test.true))
 
 pub loop-left-init : goal.loop-left-init
@@ -69,7 +70,7 @@ loop-left-init c =
     let s = i in
     let p = s.requires in
     let mask = c.mask_of in
-    (s.scan.invariant.1, passed_start _ _ _ _ _ _ mask.result _ _ (mask.ensures _ _ _ p.1.0.0 i.scan-test.true) p.1.0.1 (tracked i).same (p.0.1.1 s.scan.j i.scan-test.true) c.both-left.ensures.0 c.both-left.ensures.1)
+    (s.scan.invariant.1, passed_start _ _ _ _ _ _ mask.result _ _ (mask.ensures _ _ _ p.masked.0 i.scan-test.true) p.masked.1 (tracked i).same (p.scan_fits.1.1 s.scan.j i.scan-test.true) c.both-left.ensures.0 c.both-left.ensures.1)
 
 place : (c : goal.After-first-i) → ((turn c.before.before).before.scan.j < max_rows) × (c.first-i.result < max_variables)
 place c =
@@ -111,7 +112,7 @@ further-far-requires c =
     rw (back (lit< tt) v.coefficient, back (lit< tt) v.low, back (lit< tt) v.high) (v, c.loop-left.invariant.1.size)
 
 -- the variable's span is no more than the constraint reaches now
-spanned : (c : goal.After-further-far) →
+spanned : (c : tie.After-further goal.the-invariant-loop-left goal.the-decreases-loop-left goal.the-invariant-scan goal.the-decreases-scan) →
     let first = c in
     let s = (turn first.before.before).before in
     let a = s.before.args in
@@ -122,7 +123,7 @@ spanned c =
     rw (back (lit< tt) v.coefficient, back (lit< tt) v.low, back (lit< tt) v.high) at c.further-far.ensures.here
 
 -- the variable is passed where none of its bounds is improved
-passed : (c : goal.After-further-far) →
+passed : (c : tie.After-further goal.the-invariant-loop-left goal.the-decreases-loop-left goal.the-invariant-scan goal.the-decreases-scan) →
     let rest = c in
     let first = rest in
     let s = (turn first.before.before).before in
@@ -180,7 +181,7 @@ pub returns-after-scan : goal.returns-after-scan
 unfolding found_of
 returns-after-scan c =
     let s = c.scan in
-    (ap found_of s.invariant.1 ∙ sym (improved-done _ _ _ _ _ _ _ s.invariant.2 c.scan-test.false), s.invariant.3)
+    record { result_value = ap found_of s.invariant.1 ∙ sym (improved-done _ _ _ _ _ _ _ s.invariant.2 c.scan-test.false); tracked = s.invariant.3 }
 
 pub returns-in-Lower : goal.returns-in-Lower
 unfolding found_of improvement.move_of

@@ -31,7 +31,7 @@ use Rattle.propagate.proofs.scan.first_improvement.Given as goal
 
 abbrev pub invariant-loop-left : goal.invariant-loop-left
 invariant-loop-left l =
-    (l.hit ≡ move.Nothing) × Passed l.n l.rows l.lower l.upper l.j (to_z w64 l.far) l.left
+    (l.hit ≡ move.Nothing) × Passed l.n l.rows l.lower l.upper l.j l.far l.left
 
 abbrev pub decreases-loop-left : goal.decreases-loop-left
 decreases-loop-left l = l.left
@@ -52,7 +52,7 @@ pub tracked : (c : goal.In-scan) →
 tracked c = c.scan.invariant.3.at c.scan.j c.scan-test.true
 
 -- the turn of the scan that the inner loop belongs to
-abbrev pub turn : goal.At-loop-left → goal.In-scan
+abbrev pub turn : tie.At-loop goal.the-invariant-loop-left goal.the-decreases-loop-left goal.the-invariant-scan goal.the-decreases-scan → goal.In-scan
 turn l = l.before.before.before.before.before.before
 
 -- the first variable that is left, and what its numbers ask
@@ -68,7 +68,7 @@ numbers c =
     scan-term t.before.before.pre.0.0 t.before.scan.j c.first-i.result t.before.scan.inv.3.long t.scan-test.taken (inside c)
 
 -- what was found at variable i of constraint j is the model's
-pub tested : (c : goal.After-improvement_at-found) →
+pub tested : (c : tie.After-improvement_at goal.the-invariant-loop-left goal.the-decreases-loop-left goal.the-invariant-scan goal.the-decreases-scan) →
     let first = c in
     let s = (turn first.before.before).before in
     let a = s.before.args in
@@ -79,10 +79,10 @@ tested c =
     let t = turn first.before.before in
     let at = tracked t in
     let v = numbers first in
-    rw (back (lit< tt) v.coefficient, back (lit< tt) v.low, back (lit< tt) v.high, back (lit< tt) at.size, at.same) at (c.improvement_at-found.ensures.0 t.before.scan.j first.first-i.result)
+    rw (back (lit< tt) v.coefficient, back (lit< tt) v.low, back (lit< tt) v.high, back (lit< tt) at.size, at.same) at (c.improvement_at-found.ensures.by_index t.before.scan.j first.first-i.result)
 
 -- an improvement at the first variable that is left is the whole scan's answer, and what is tracked stays
-pub hit : (c : goal.After-improvement_at-found) (m : Move) →
+pub hit : (c : tie.After-improvement_at goal.the-invariant-loop-left goal.the-decreases-loop-left goal.the-invariant-scan goal.the-decreases-scan) (m : Move) →
     let first = c in
     let s = (turn first.before.before).before in
     let a = s.before.args in

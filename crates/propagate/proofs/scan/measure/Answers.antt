@@ -37,16 +37,16 @@ least : (c : goal.After-min_activity) →
     let a = l.args in
     c.min_activity.result ≡ activity (row_at a.n a.rows.now l.loop-j.j) (box_of a.n a.lower.now a.upper.now)
 unfolding row_at
-least c = c.min_activity.ensures.0
+least c = c.min_activity.ensures.value
 
 pub loop-j-preserved : goal.loop-j-preserved
 loop-j-preserved c =
     let l = c in
     let h = c.loop-j-test.true in
     let r = ready c.before in
-    rw (back (lit< tt) c.min_activity.ensures.1) (
+    rw (back (lit< tt) c.min_activity.ensures.within) (
       omega (arith, h),
-      tracked-more _ _ _ _ _ _ l.loop-j.j _ _ (omega (arith, h, l.requires.0.count)) l.loop-j.invariant.1 (least c) c.min_activity.ensures.1 (unknown-reach _ _ _ _ _ r.0 r.1),
+      tracked-more _ _ _ _ _ _ l.loop-j.j _ _ (omega (arith, h, l.requires.0.count)) l.loop-j.invariant.1 (least c) c.min_activity.ensures.within (unknown-reach _ _ _ _ _ r.0 r.1),
     )
 
 pub returns : goal.returns

@@ -5,9 +5,10 @@ use borrow.Author.Rules.{rules}
 use lib.IntN.{pos}
 use Rattle.propagate.proofs.Warning.{testable}
 use Rattle.turns.proofs.Due.{flipped-box, due-few, flipped-warned}
+use Rattle.turns.proofs.back.go_back.Tie as tie
 use Rattle.turns.proofs.back.go_back.Goals as goal
 
-abbrev begun : goal.After-backjump-first → goal.Start
+abbrev begun : goal.After-backjump-first → tie.Start
 begun b = b.before.before.before.before.before
 
 pub backjump-first-requires : goal.backjump-first-requires

@@ -1,0 +1,8 @@
+use Rattle.std.proofs.Common.{◌-◌, rules}
+use Rattle.play.proofs.state_words.is_same.Given as goal
+
+abbrev pub invariant-loop-i : goal.invariant-loop-i
+invariant-loop-i l = Unit {0}
+
+abbrev pub decreases-loop-i : goal.decreases-loop-i
+decreases-loop-i l = 8649 - l.i
