@@ -47,11 +47,11 @@ module _ (f : List ℕ) (k : ℕ) where
     check-test = sym (rw (part-is f k) at e)
 
     pub checks-more : all (tab (check_matches f) 0 k) ≡ true → r ≡ true → all (tab (check_matches f) 0 (k + 1)) ≡ true
-    checks-more a h = all_more (check_matches f) k a (check-test ∙ not-false r h)
+    checks-more a h = all_more (check_matches f) k a (check-test ∙ h)
 
     pub check-fails : k < length f / block_length → r ≡ false → false ≡ checks_match f
     unfolding checks_match
-    check-fails l h = sym (all-fails (check_matches f) (length f / block_length) k l (check-test ∙ not-true r h))
+    check-fails l h = sym (all-fails (check_matches f) (length f / block_length) k l (check-test ∙ h))
 
   pub checks-end : length f / block_length ≤ k → k ≤ length f / block_length → all (tab (check_matches f) 0 k) ≡ true → true ≡ checks_match f
   unfolding checks_match
@@ -81,11 +81,11 @@ module _ (f : List ℕ) (n m b : ℕ) (en : n ≡ variables_in f) (em : m ≡ co
 
   pub sizes-fail : r ≡ false → false ≡ sizes_match f
   unfolding sizes_match
-  sizes-fail h = rw (sizes-test, not-true r h)
+  sizes-fail h = rw (sizes-test, h)
 
   pub count-test : r ≡ true → eqb (length f) (block_length * (m + 1)) ≡ sizes_match f
   unfolding sizes_match block_count_matches
-  count-test h = rw (sizes-test, not-false r h, ← em, add-one m)
+  count-test h = rw (sizes-test, h, ← em, add-one m)
 
 -- ---- 7
 -- a constraint's block, before its divisor and after it
@@ -96,21 +96,21 @@ module _ (b : List ℕ) (n a : ℕ) (ea : a ≡ 4 * (n + 1)) (r : Bool) (e : r �
 
   pub stray-before : r ≡ false → false ≡ block_padded n b
   unfolding block_padded
-  stray-before h = rw (before-test, not-true r h)
+  stray-before h = rw (before-test, h)
 
   pub stray-after : (t : Bool) → r ≡ true → t ≡ zero_from (divisor_offset + 4) b → t ≡ block_padded n b
   unfolding block_padded
-  stray-after t h z = rw (before-test, not-false r h) z
+  stray-after t h z = rw (before-test, h) z
 
 -- the head's, before its thresholds and after them
 module _ (b : List ℕ) (n a d : ℕ) (ea : a ≡ bounds_offset n) (ed : d ≡ threshold_offset 0) (r : Bool) (e : r ≡ zero_between a d b) where
   pub head-before : r ≡ false → false ≡ head_padded n b
   unfolding head_padded
-  head-before h = rw (← ea, ← ed, ← e, not-true r h)
+  head-before h = rw (← ea, ← ed, ← e, h)
 
   pub head-after : (t : Bool) (x : ℕ) → x ≡ threshold_offset n → r ≡ true → t ≡ zero_from x b → t ≡ head_padded n b
   unfolding head_padded
-  head-after t x ex h z = rw (← ea, ← ed, ← ex, ← e, not-false r h) z
+  head-after t x ex h z = rw (← ea, ← ed, ← ex, ← e, h) z
 
 module _ (f : List ℕ) (n : ℕ) (en : n ≡ variables_in f) where
   module _ (r : Bool) (e : r ≡ head_padded n (take block_length f)) where
@@ -120,11 +120,11 @@ module _ (f : List ℕ) (n : ℕ) (en : n ≡ variables_in f) where
 
     pub head-nonzero : r ≡ false → false ≡ padding_zero f
     unfolding padding_zero
-    head-nonzero h = rw (head-test, not-true r h)
+    head-nonzero h = rw (head-test, h)
 
     pub padding-end : (m j : ℕ) → m ≡ constraints_in f → r ≡ true → m ≤ j → j ≤ m → all (tab (constraint_padded f) 0 j) ≡ true → true ≡ padding_zero f
     unfolding padding_zero
-    padding-end m j em h l k z = rw (head-test, not-false r h, ← em) (sym (all_end (constraint_padded f) m j l k z))
+    padding-end m j em h l k z = rw (head-test, h, ← em) (sym (all_end (constraint_padded f) m j l k z))
 
   module _ (j : ℕ) (r : Bool) (e : r ≡ block_padded n (part f (j + 1))) where
     padded-test : constraint_padded f j ≡ r
@@ -132,9 +132,9 @@ module _ (f : List ℕ) (n : ℕ) (en : n ≡ variables_in f) where
     padded-test = rw (← en, ← add-one j, ← part-is f (j + 1)) (sym e)
 
     pub padding-more : all (tab (constraint_padded f) 0 j) ≡ true → r ≡ true → all (tab (constraint_padded f) 0 (j + 1)) ≡ true
-    padding-more z h = all_more (constraint_padded f) j z (padded-test ∙ not-false r h)
+    padding-more z h = all_more (constraint_padded f) j z (padded-test ∙ h)
 
     pub padding-nonzero : (m : ℕ) → m ≡ constraints_in f → j < m → r ≡ false → false ≡ padding_zero f
     unfolding padding_zero
     padding-nonzero m em l h =
-        rw (← em, all-fails (constraint_padded f) m j l (padded-test ∙ not-true r h)) (sym (and-false (head_padded (variables_in f) (block f 0))))
+        rw (← em, all-fails (constraint_padded f) m j l (padded-test ∙ h)) (sym (and-false (head_padded (variables_in f) (block f 0))))

@@ -47,8 +47,8 @@ module _ (lower upper bottom top : List ℤ) where
     pub inside-more : box_inside (box_of i lower upper) (box_of i bottom top) ≡ true → r ≡ true →
         box_inside (box_of (i + 1) lower upper) (box_of (i + 1) bottom top) ≡ true
     unfolding box_inside box_of
-    inside-more a h = pairs-more inside (bounds_at lower upper) (bounds_at bottom top) i a (here ∙ not-false r h)
+    inside-more a h = pairs-more inside (bounds_at lower upper) (bounds_at bottom top) i a (here ∙ h)
 
     pub inside-fails : (n : ℕ) → i < n → r ≡ false → false ≡ box_inside (box_of n lower upper) (box_of n bottom top)
     unfolding box_inside box_of
-    inside-fails n l h = pairs-fails inside (bounds_at lower upper) (bounds_at bottom top) n i l (here ∙ not-true r h)
+    inside-fails n l h = pairs-fails inside (bounds_at lower upper) (bounds_at bottom top) n i l (here ∙ h)

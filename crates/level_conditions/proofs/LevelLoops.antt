@@ -27,17 +27,17 @@ use Rattle.level_conditions.specs.Nested.{level_passes, nested_in}
 module _ (n last : ℕ) (thresholds : List ℤ) (l : Level) (r : Bool) (t : r ≡ all_of bounds_in_range (box_of n l.lower l.upper)) where
   pub level-box : r ≡ false → false ≡ level_passes last (thresholds_of n thresholds) (level_of n l)
   unfolding level_passes level_valid level_of
-  level-box h = rw (← t, not-true r h)
+  level-box h = rw (← t, h)
 
   module _ (h : r ≡ true) (q : Bool) (u : q ≡ all_of (reasons_valid last) (tab (reasons_in l.below l.above) 0 n)) where
     pub level-reasons : q ≡ false → false ≡ level_passes last (thresholds_of n thresholds) (level_of n l)
     unfolding level_passes level_valid level_of
-    level-reasons k = rw (← t, not-false r h, ← u, not-true q k)
+    level-reasons k = rw (← t, h, ← u, k)
 
     pub level-gaps : q ≡ true → (p : Bool) → p ≡ all_pairs outside_gap (thresholds_of n thresholds) (box_of n l.lower l.upper) →
         p ≡ level_passes last (thresholds_of n thresholds) (level_of n l)
     unfolding level_passes level_valid level_allowed level_of
-    level-gaps k p v = rw (← t, not-false r h, ← u, not-false q k) v
+    level-gaps k p v = rw (← t, h, ← u, k) v
 
 -- the bounds of a level that passed
 pub level-fits : (n last : ℕ) (ts : List ℤ) (l o : Level) → l ≡ o → Whole o → n ≤ max_variables → (r : Bool) → r ≡ level_passes last ts (level_of n l) → r ≡ true →
@@ -73,21 +73,21 @@ module _ (n last : ℕ) (ts : List ℤ) (levels : List Level) where
 
     pub levels-more : levels_to n last ts levels d ≡ true → r ≡ true → levels_to n last ts levels (d + 1) ≡ true
     unfolding levels_to levels_from all_of
-    levels-more a h = rw (add-one d) (and_both (here ∙ not-false r h) a)
+    levels-more a h = rw (add-one d) (and_both (here ∙ h) a)
 
     pub levels-fail : (depth : ℕ) → d ≤ depth → r ≡ false → false ≡ levels_to n last ts levels (depth + 1)
-    levels-fail depth h k = sym (fails-at d (depth + 1) (omega arith) (here ∙ not-true r k))
+    levels-fail depth h k = sym (fails-at d (depth + 1) (omega arith) (here ∙ k))
 
 -- ---- one level in the one above it: its box, then its decision
 module _ (n : ℕ) (l o : Level) (r : Bool) (t : r ≡ box_inside (box_of n l.lower l.upper) (box_of n o.lower o.upper)) where
   pub nested-box : r ≡ false → false ≡ nested_in n (level_of n l) (level_of n o)
   unfolding nested_in level_of
-  nested-box h = rw (← t, not-true r h)
+  nested-box h = rw (← t, h)
 
   pub nested-decision : r ≡ true → (q : Bool) →
       q ≡ decision_valid n l.decided (box_of n l.lower l.upper) (box_of n o.lower o.upper) → q ≡ nested_in n (level_of n l) (level_of n o)
   unfolding nested_in level_of
-  nested-decision h q u = rw (← t, not-false r h) u
+  nested-decision h q u = rw (← t, h) u
 
 -- ---- every level in the one above it
 unfoldable pub nested_to : ℕ → List Level → ℕ → Bool
@@ -116,7 +116,7 @@ module _ (n : ℕ) (levels : List Level) where
     inner = rw (← add-one d, ← v, ← w) (sym t)
 
     pub nested-more : nested_to n levels d ≡ true → r ≡ true → nested_to n levels (d + 1) ≡ true
-    nested-more a h = rw (add-one d) (one_more d ∙ and_both (inner ∙ not-false r h) a)
+    nested-more a h = rw (add-one d) (one_more d ∙ and_both (inner ∙ h) a)
 
     pub nested-fail : (depth : ℕ) → d < depth → r ≡ false → false ≡ nested_to n levels depth
-    nested-fail depth h k = sym (unnested-at d depth h (inner ∙ not-true r k))
+    nested-fail depth h k = sym (unnested-at d depth h (inner ∙ k))

@@ -50,13 +50,13 @@ module _ (last : ℕ) (below above : List ℕ) where
   module _ (i : ℕ) (r : Bool) (t : r ≡ reason_valid last (reason_of (get_or below i 0))) where
     pub below_fails : (n : ℕ) → i < n → r ≡ false → false ≡ reasons_to last below above n
     unfolding reasons_to reasons_valid reasons_in
-    below_fails n l h = every-fails (reasons_valid last) (reasons_in below above) n i l (rw (← t, not-true r h))
+    below_fails n l h = every-fails (reasons_valid last) (reasons_in below above) n i l (rw (← t, h))
 
     module _ (k : r ≡ true) (q : Bool) (u : q ≡ reason_valid last (reason_of (get_or above i 0))) where
       pub above-fails : (n : ℕ) → i < n → q ≡ false → false ≡ reasons_to last below above n
       unfolding reasons_to reasons_valid reasons_in
-      above-fails n l h = every-fails (reasons_valid last) (reasons_in below above) n i l (rw (← t, ← u, not-false r k, not-true q h))
+      above-fails n l h = every-fails (reasons_valid last) (reasons_in below above) n i l (rw (← t, ← u, k, h))
 
       pub reasons-more : reasons_to last below above i ≡ true → q ≡ true → reasons_to last below above (i + 1) ≡ true
       unfolding reasons_to reasons_valid reasons_in
-      reasons-more a h = every_more (reasons_valid last) (reasons_in below above) i a (rw (← t, ← u, not-false r k, not-false q h))
+      reasons-more a h = every_more (reasons_valid last) (reasons_in below above) i a (rw (← t, ← u, k, h))

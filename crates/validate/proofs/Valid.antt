@@ -63,7 +63,7 @@ tests-view s =
 module _ (s : Search) (r₁ : Bool) (t₁ : r₁ ≡ sizes_valid s.n s.m s.budget s.conflicts s.made s.depth) where
   pub refuse-sizes : r₁ ≡ false → false ≡ valid (view s)
   unfolding tests sizes_of
-  refuse-sizes h = rw (tests-view s, ← t₁, not-true r₁ h)
+  refuse-sizes h = rw (tests-view s, ← t₁, h)
 
   module _ (h₁ : r₁ ≡ true) where
     pub sizes-passed : Sized s
@@ -72,22 +72,22 @@ module _ (s : Search) (r₁ : Bool) (t₁ : r₁ ≡ sizes_valid s.n s.m s.budge
     module _ (k : ℕ) (e : k ≡ kept_cuts s.made) (r₂ : Bool) (t₂ : r₂ ≡ all_of in_range (tab (row_at s.n s.rows) 0 (s.m + k))) where
       pub refuse-constraints : r₂ ≡ false → false ≡ valid (view s)
       unfolding tests sizes_of
-      refuse-constraints h = rw (tests-view s, ← t₁, not-false r₁ h₁, ← e, ← t₂, not-true r₂ h)
+      refuse-constraints h = rw (tests-view s, ← t₁, h₁, ← e, ← t₂, h)
 
       module _ (h₂ : r₂ ≡ true) (r₃ : Bool) (t₃ : r₃ ≡ all_of divisor_in_range (inputs_of s)) where
         pub refuse-divisors : r₃ ≡ false → false ≡ valid (view s)
         unfolding tests sizes_of
-        refuse-divisors h = rw (tests-view s, ← t₁, not-false r₁ h₁, ← e, ← t₂, not-false r₂ h₂, ← t₃, not-true r₃ h)
+        refuse-divisors h = rw (tests-view s, ← t₁, h₁, ← e, ← t₂, h₂, ← t₃, h)
 
         module _ (h₃ : r₃ ≡ true) (r₄ : Bool) (t₄ : r₄ ≡ all_of is_threshold (thresholds_of s.n s.thresholds)) where
           pub refuse-thresholds : r₄ ≡ false → false ≡ valid (view s)
           unfolding tests sizes_of
-          refuse-thresholds h = rw (tests-view s, ← t₁, not-false r₁ h₁, ← e, ← t₂, not-false r₂ h₂, ← t₃, not-false r₃ h₃, ← t₄, not-true r₄ h)
+          refuse-thresholds h = rw (tests-view s, ← t₁, h₁, ← e, ← t₂, h₂, ← t₃, h₃, ← t₄, h)
 
           module _ (h₄ : r₄ ≡ true) (d : ℕ) (f : d ≡ s.made - max_cuts) (r₅ : Bool) (t₅ : r₅ ≡ numbers_to s.numbers (s.m + d + 1) k) where
             pub rows_left : valid (view s) ≡ (r₅ && level_tests s)
             unfolding tests sizes_of
-            rows_left = rw (tests-view s, ← t₁, not-false r₁ h₁, ← e, ← t₂, not-false r₂ h₂, ← t₃, not-false r₃ h₃, ← t₄, not-false r₄ h₄, ← f, ← t₅)
+            rows_left = rw (tests-view s, ← t₁, h₁, ← e, ← t₂, h₂, ← t₃, h₃, ← t₄, h₄, ← f, ← t₅)
 
 -- ---- the levels down to d have passed, and what came before them
 pub record Reached (s : Search) (deepest : Level) (d : ℕ) : Type 0 where
