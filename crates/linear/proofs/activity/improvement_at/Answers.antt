@@ -77,7 +77,7 @@ returns-then-slack-a c =
     let e : c.implied_upper.result ≡ implied_upper (a.activity -ℤ x.result) (nat_abs a.a) =
     simp (to_z-of_z, s.ranges.a, s.ranges.activity, fits (lit< tt) z, rest r z) at c.implied_upper.ensures in
     rw (to_z-of_z {w = w64} (sfits_of {w = w64} c.implied_upper.type_inv))
-    (upper-yes a.activity a.lower a.upper a.a c.implied_upper.result r.holds g t (e ∙ ap (λ (z : ℤ). implied_upper (a.activity -ℤ z) (nat_abs a.a)) d))
+    (let m = upper-yes a.activity a.lower a.upper a.a c.implied_upper.result r.holds g t (e ∙ ap (λ (z : ℤ). implied_upper (a.activity -ℤ z) (nat_abs a.a)) d) in record { by_index = m.0; improves = m.1 })
 
 pub returns-then-a-gt0 : goal.returns-then-a-gt0
 returns-then-a-gt0 c =
@@ -86,7 +86,7 @@ returns-then-a-gt0 c =
     let r = s.requires in
     let g : pos 0 <ℤ a.a = lt_z-true (simp (to_z-of_z, s.ranges.a) at c.if-a-gt0.true) in
     let t : (a.a *ℤ (a.upper -ℤ a.lower)) ≤ℤ (pos 0 -ℤ a.activity) = lt_z-false (simp (to_z-of_z, s.ranges.a, s.ranges.lower, s.ranges.upper, s.ranges.activity, slack r, width r, product r) at c.if-slack-a.false) in
-    upper-no a.activity a.lower a.upper a.a g t
+    let m = upper-no a.activity a.lower a.upper a.a g t in record { by_index = m.0; improves = m.1 }
 
 pub overflow_sub-a : goal.overflow_sub-a
 overflow_sub-a c = fits! (search exps depth 10) tt
@@ -118,7 +118,7 @@ returns-then-slack-a-2 c =
     let e : c.implied_lower.result ≡ implied_lower (a.activity -ℤ x.result) (nat_abs a.a) =
     simp (to_z-of_z, s.ranges.a, s.ranges.activity, fits (lit< tt) z, rest r z) at c.implied_lower.ensures in
     rw (to_z-of_z {w = w64} (sfits_of {w = w64} c.implied_lower.type_inv))
-    (lower-yes a.activity a.lower a.upper a.a c.implied_lower.result r.holds g t (e ∙ ap (λ (z : ℤ). implied_lower (a.activity -ℤ z) (nat_abs a.a)) d))
+    (let m = lower-yes a.activity a.lower a.upper a.a c.implied_lower.result r.holds g t (e ∙ ap (λ (z : ℤ). implied_lower (a.activity -ℤ z) (nat_abs a.a)) d) in record { by_index = m.0; improves = m.1 })
 
 pub returns-else-slack-a-2 : goal.returns-else-slack-a-2
 returns-else-slack-a-2 c =
@@ -127,7 +127,7 @@ returns-else-slack-a-2 c =
     let r = s.requires in
     let g : a.a <ℤ pos 0 = lt_z-true (simp (to_z-of_z, s.ranges.a) at c.if-a-lt0.true) in
     let t : ((pos 0 -ℤ a.a) *ℤ (a.upper -ℤ a.lower)) ≤ℤ (pos 0 -ℤ a.activity) = lt_z-false (simp (to_z-of_z, s.ranges.a, s.ranges.lower, s.ranges.upper, s.ranges.activity, slack r, width r, size r, size-product r) at c.if-slack-a-2.false) in
-    lower-no a.activity a.lower a.upper a.a g t
+    let m = lower-no a.activity a.lower a.upper a.a g t in record { by_index = m.0; improves = m.1 }
 
 pub returns-else-a-lt0 : goal.returns-else-a-lt0
 returns-else-a-lt0 c =
@@ -135,4 +135,4 @@ returns-else-a-lt0 c =
     let a = s.args in
     let g : a.a ≤ℤ pos 0 = lt_z-false (simp (to_z-of_z, s.ranges.a) at c.if-a-gt0.false) in
     let t : pos 0 ≤ℤ a.a = lt_z-false (simp (to_z-of_z, s.ranges.a) at c.if-a-lt0.false) in
-    none_at_zero a.activity a.lower a.upper a.a g t
+    let m = none_at_zero a.activity a.lower a.upper a.a g t in record { by_index = m.0; improves = m.1 }

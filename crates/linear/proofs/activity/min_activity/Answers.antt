@@ -1,23 +1,21 @@
 -- `linear::activity::min_activity` meets its contract: the sum, and what the variables left add, is the activity. Assumes nothing.
-use Prim.Native.Nat.{◌+◌, ◌≤◌, ◌<◌, ◌-◌, ◌*◌}
+use Prim.Native.Nat.{ℕ, ◌+◌, ◌≤◌, ◌<◌, ◌-◌, ◌*◌}
 use native.Mathlib.Omega.{arith}
+use mathlib.Core.List.{List}
 use mathlib.Core.Path.{◌≡◌, ap, sym, ◌∙◌}
 use borrow.Author.Rules.{rules}
 use lib.Dec.{lit<}
 use lib.IntN.{ℤ, ◌+ℤ◌}
 use mir.Syntax.{w64}
-use mir.Val.{SFits, to_z}
+use mir.Val.{SFits, to_z, of_z}
 use mir.Facts.{to_z-of_z}
-use Rattle.model_problems.specs.Ranges.{max_coefficient}
+use Rattle.model_problems.specs.Ranges.{max_coefficient, max_variables}
 use Rattle.model_problems.specs.Constraint.{term, activity}
 use Rattle.integer.specs.Size.{Within, weaken, fits, add-within}
 use Rattle.layout.specs.Rows.{number_in, cell, constraint_at, bounds_at, box_of}
-use Rattle.linear.specs.Ranges.{widest_bound, widest_term}
+use Rattle.linear.specs.Ranges.{BoxFits, widest_bound, widest_term}
 use Rattle.linear.proofs.Ranges.{term_fits, change-fits, constant-back, coefficient-back, lower-back, upper-back}
 use Rattle.linear.proofs.Terms.{rest, rest-start, rest-step, rest_end}
-use Rattle.linear.proofs.activity.min_activity.Reads as reads
-use Rattle.linear.proofs.activity.min_activity.Lts as lts
-use Rattle.linear.proofs.activity.term.Reads as term-reads
 use Rattle.linear.proofs.activity.min_activity.Goals as goal
 
 pub loop-i-init : goal.loop-i-init
@@ -38,26 +36,23 @@ term-sum-requires c =
     rw (coefficient-back p.row_fits i h, lower-back p.box_fits i h, upper-back p.box_fits i h) (change-fits (term_fits p.row_fits p.box_fits i h))
 
 -- variable i's term
-sized : (c : lts.After-term (term-reads.Asked, term-reads.Learnt) reads.Pre reads.Post invariant-loop-i decreases-loop-i) → Within widest_term c.term.result
-unfolding number_in
-sized c =
-    let l = c.before.before.before.before.before in
-    let b = l.before.before.requires.1 in
-    let i = l.loop.i in
-    let h : i < l.before.before.args.n = c.before.before.before.before.loop-test.true in
-    c.term.ensures.1 widest_bound (rw (lower-back b i h) (b.low i h)) (rw (upper-back b i h) (b.high i h))
+sized : {n : ℕ} (i : ℕ) {lower upper : List ℤ} {x : ℤ} → BoxFits n lower upper → i < n →
+    ((w : ℕ) → Within w (to_z w64 (of_z w64 (number_in lower i))) → Within w (to_z w64 (of_z w64 (number_in upper i))) → Within (max_coefficient * w) x) →
+    Within widest_term x
+sized i b h s = s widest_bound (rw (lower-back b i h) (b.low i h)) (rw (upper-back b i h) (b.high i h))
 
 -- the sum after variable i
-added : (c : lts.After-term (term-reads.Asked, term-reads.Learnt) reads.Pre reads.Post invariant-loop-i decreases-loop-i) →
-    Within (max_coefficient + (c.before.before.before.before.before.loop.i + 1) * widest_term) (to_z w64 c.before.before.before.before.before.loop.sum +ℤ c.term.result)
-added c = weaken (omega arith) (add-within c.before.before.before.before.before.loop.invariant.2 (sized c))
+added : (i : ℕ) {sum x : ℤ} → Within (max_coefficient + i * widest_term) sum → Within widest_term x → Within (max_coefficient + (i + 1) * widest_term) (sum +ℤ x)
+added i s t = weaken (omega arith) (add-within s t)
 
-fitting : (c : lts.After-term (term-reads.Asked, term-reads.Learnt) reads.Pre reads.Post invariant-loop-i decreases-loop-i) →
-    SFits w64 (to_z w64 c.before.before.before.before.before.loop.sum +ℤ c.term.result)
-fitting c = fits (omega (arith, c.before.before.before.before.loop-test.true, c.before.before.before.before.before.before.before.requires.0.few)) (added c)
+fitting : {n : ℕ} (i : ℕ) {sum x : ℤ} → n ≤ max_variables → i < n → Within (max_coefficient + i * widest_term) sum → Within widest_term x → SFits w64 (sum +ℤ x)
+fitting i few h s t = fits (omega arith) (added i s t)
 
 pub overflow_add-sum : goal.overflow_add-sum
-overflow_add-sum c = rw (to_z-of_z (fits (lit< tt) (sized c))) (fitting c)
+unfolding number_in
+overflow_add-sum c =
+    let t = sized _ c.requires.box_fits c.loop-i-test.true c.term-sum.ensures.by_index in
+    rw (to_z-of_z (fits (lit< tt) t)) (fitting _ c.requires.row_fits.few c.loop-i-test.true c.loop-i.invariant.2 t)
 
 pub loop-i-preserved : goal.loop-i-preserved
 unfolding cell number_in bounds_at
@@ -70,14 +65,15 @@ loop-i-preserved c =
     let h : i < a.n = c.loop-i-test.true in
     let e : c.term-sum.result ≡ term (cell a.rows.now a.start i) (bounds_at a.lower.now a.upper.now i) =
     rw (coefficient-back p.row_fits i h, lower-back p.box_fits i h, upper-back p.box_fits i h) at c.term-sum.ensures.value in
-    rw (to_z-of_z (fits (lit< tt) (sized c)), to_z-of_z (fitting c)) (
+    let t = sized _ c.requires.box_fits h c.term-sum.ensures.by_index in
+    rw (to_z-of_z (fits (lit< tt) t), to_z-of_z (fitting _ c.requires.row_fits.few h c.loop-i.invariant.2 t)) (
       omega arith,
-      ap (λ (z : ℤ). (l.loop-i.sum +ℤ z) +ℤ rest a.n a.rows.now a.start a.lower.now a.upper.now (i + 1)) e
-          ∙ sym (rest-step a.n a.rows.now a.start a.lower.now a.upper.now l.loop-i.sum i h) ∙ l.loop-i.invariant.1,
-      added c,
+      ap (λ (z : ℤ). ((to_z w64 l.loop-i.sum-bits) +ℤ z) +ℤ rest a.n a.rows.now a.start a.lower.now a.upper.now (i + 1)) e
+          ∙ sym (rest-step a.n a.rows.now a.start a.lower.now a.upper.now (to_z w64 l.loop-i.sum-bits) i h) ∙ l.loop-i.invariant.1,
+      added _ c.loop-i.invariant.2 t,
     )
 
 pub returns : goal.returns
 returns c =
     let l = c in
-    let a = l.args in record { value = sym (rest_end a.n a.rows.now a.start a.lower.now a.upper.now l.loop-i.sum l.loop-i.i c.loop-i-test.false) ∙ l.loop-i.invariant.1; within = weaken (omega (arith, l.loop-i.invariant.0, l.requires.row_fits.few)) l.loop-i.invariant.2 }
+    let a = l.args in record { value = sym (rest_end a.n a.rows.now a.start a.lower.now a.upper.now (to_z w64 l.loop-i.sum-bits) l.loop-i.i c.loop-i-test.false) ∙ l.loop-i.invariant.1; within = weaken (omega (arith, l.loop-i.invariant.0, l.requires.row_fits.few)) l.loop-i.invariant.2 }

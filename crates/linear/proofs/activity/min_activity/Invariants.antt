@@ -15,9 +15,6 @@ use Rattle.layout.specs.Rows.{number_in, cell, constraint_at, bounds_at, box_of}
 use Rattle.linear.specs.Ranges.{widest_bound, widest_term}
 use Rattle.linear.proofs.Ranges.{term_fits, change-fits, constant-back, coefficient-back, lower-back, upper-back}
 use Rattle.linear.proofs.Terms.{rest, rest-start, rest-step, rest_end}
-use Rattle.linear.proofs.activity.min_activity.Reads as reads
-use Rattle.linear.proofs.activity.min_activity.Lts as lts
-use Rattle.linear.proofs.activity.term.Reads as term-reads
 use Rattle.linear.proofs.activity.min_activity.Given as goal
 
 abbrev pub invariant-loop-i : goal.invariant-loop-i

@@ -20,7 +20,11 @@ pub is_indivisible-requires : goal.is_indivisible-requires
 is_indivisible-requires c =
     let s = c in
     let e = rw (to_z-of_z s.ranges.q) at c.magnitude.ensures in
-    ((rw e (abs-pos s.args.q (λ z. c.if-q-eq0.false (ap (of_z w64) z))), rw e s.requires.divisor_fits), s.requires.1)
+    record {
+      q_nonzero = (rw e (abs-pos s.args.q (λ z. c.if-q-eq0.false (ap (of_z w64) z))), rw e s.requires.divisor_fits);
+      row_fits = s.requires.row_fits;
+      box_fits = s.requires.box_fits;
+    }
 
 pub returns : goal.returns
 returns c =

@@ -15,10 +15,6 @@ use Rattle.linear.proofs.Ranges.{constant-back, coefficient-back, lower-back, up
 use Rattle.integer.specs.Size.{Within, weaken, fits, add-within, mul-within}
 use Rattle.linear.specs.Ranges.{widest_term, widest_activity}
 use Rattle.linear.proofs.Dividing.{open_from, fixed_from, open_none, fixed-none, open_more, fixed_same, open-same, fixed_more, indivisible-one, indivisible-end}
-use Rattle.linear.proofs.divisibility.is_indivisible.Reads as reads
-use Rattle.linear.proofs.divisibility.is_indivisible.Lts as lts
-use Rattle.integer.proofs.gcd.Reads as gcd-reads
-use Rattle.integer.proofs.magnitude.Reads as magnitude-reads
 use Rattle.linear.proofs.divisibility.is_indivisible.Given as goal
 
 abbrev pub invariant-loop-i : goal.invariant-loop-i
