@@ -15,7 +15,6 @@ use Rattle.propagate.proofs.Tracking.{shiftable, told-set, raised-closes}
 use Rattle.backtrack.specs.Jumps.{next_in}
 use Rattle.backtrack.proofs.Moving.{flipped_above, flipped-rise}
 use borrow.Author.Rules.{rules}
-use Rattle.backtrack.proofs.backjump.Tie as tie
 use Rattle.backtrack.proofs.backjump.Goals as goal
 
 pub take_back-from-requires : goal.take_back-from-requires
@@ -29,13 +28,6 @@ measure-requires c =
     rw c.kept_count-kept.ensures (c.requires.0.fits, (omega (arith, t.0), t.1))
 
 -- by how much the lower bound rises, as it is read
-rise : (c : tie.After-flip) →
-    let s = c in
-    to_z w64 (of_z w64 c.flip-rise.result) ≡ next_in s.args.thresholds.now s.args.lower.now s.args.i -ℤ number_in s.args.lower.now s.args.i
-rise c =
-    let f : SFits w64 c.flip-rise.result = search rules in
-    to_z-of_z f ∙ c.flip-rise.ensures.0
-
 pub flip-rise-requires : goal.flip-rise-requires
 flip-rise-requires c =
     let s = c in
@@ -47,7 +39,8 @@ shift-requires c =
     let s = c in
     let p = s.requires.0 in
     let k = c.kept_count-kept.ensures in
-    rw (rise c.before, k)
+    rw ((let it : let s = c in to_z w64 (of_z w64 c.flip-rise.result) ≡ next_in s.args.thresholds.now s.args.lower.now s.args.i -ℤ number_in s.args.lower.now s.args.i = let f : SFits w64 c.flip-rise.result = search rules in
+    to_z-of_z f ∙ c.flip-rise.ensures.0 in it), k)
     (shiftable _ _ _ _ _ _ _ _ _ _ p.fits (rw k at c.measure.ensures) p.variable (flipped-rise _ _ _ _ _ _ _ p.fits p.next p.variable p.lowers) (record { within = omega arith }))
 
 pub returns : goal.returns
@@ -57,7 +50,8 @@ returns c =
     let p = s.requires.0 in
     let k = c.kept_count-kept.ensures in
     let set = c.flip-rise.ensures.1 in
-    let t = rw (rise c.before.before, k) at c.shift.ensures in
+    let t = rw ((let it : let s = c in to_z w64 (of_z w64 c.flip-rise.result) ≡ next_in s.args.thresholds.now s.args.lower.now s.args.i -ℤ number_in s.args.lower.now s.args.i = let f : SFits w64 c.flip-rise.result = search rules in
+    to_z-of_z f ∙ c.flip-rise.ensures.0 in it), k) at c.shift.ensures in
     record {
       bound = set.bound;
       why = set.why;

@@ -21,9 +21,6 @@ use borrow.Author.Rules.{rules}
 use Rattle.backtrack.proofs.decide.Goals as goal
 
 -- the lower bound as it is read
-value : (s : goal.Start) → to_z w64 (of_z w64 (number_in s.args.lower.now s.args.i)) ≡ number_in s.args.lower.now s.args.i
-value s = back (lit< tt) (lower-within _ s.args.lower.now s.args.upper.now (true_of _ s.requires.fits.bounds) s.args.i s.requires.variable)
-
 pub copy_to-requires : goal.copy_to-requires
 unfolding kept_cuts
 copy_to-requires c =
@@ -54,7 +51,7 @@ unfolding number_in kept_cuts
 lower_upper-requires c =
     let s = c in
     let p = s.requires in
-    rw (value s) (
+    rw ((let it : to_z w64 (of_z w64 (number_in c.args.lower.now c.args.i)) ≡ number_in c.args.lower.now c.args.i = back (lit< tt) (lower-within _ c.args.lower.now c.args.upper.now (true_of _ c.requires.fits.bounds) c.args.i c.requires.variable) in it)) (
       decided-settable _ _ _ _ _ _ _ p.fits p.variable p.uppers,
       fewer (omega (arith, c.kept_count-count.ensures))
           (shiftable _ _ _ _ _ _ _ _ _ _ p.fits p.tracked p.variable (record { within = omega arith }) (decided-settable _ _ _ _ _ s.args.above.now _ p.fits p.variable p.uppers).change),
@@ -69,8 +66,8 @@ returns c =
     let k = c.kept_count-count.ensures in
     let x = rw k at c.copy_to.ensures in
     let y = rw k at c.copy_to-2.ensures in
-    let set = rw (value s) at c.lower_upper.ensures.0 in
-    let t = rw (value s, k) at c.lower_upper.ensures.1 in record { decided = record {
+    let set = rw ((let it : to_z w64 (of_z w64 (number_in c.args.lower.now c.args.i)) ≡ number_in c.args.lower.now c.args.i = back (lit< tt) (lower-within _ c.args.lower.now c.args.upper.now (true_of _ c.requires.fits.bounds) c.args.i c.requires.variable) in it)) at c.lower_upper.ensures.0 in
+    let t = rw ((let it : to_z w64 (of_z w64 (number_in c.args.lower.now c.args.i)) ≡ number_in c.args.lower.now c.args.i = back (lit< tt) (lower-within _ c.args.lower.now c.args.upper.now (true_of _ c.requires.fits.bounds) c.args.i c.requires.variable) in it), k) at c.lower_upper.ensures.1 in record { decided = record {
         bound = set.bound;
         why = set.why;
         told = rw set.bound (told-set _ _ _ _ _ _ _ _ _ _ _ _ _ _ p.tracked (decided-fits _ _ _ _ _ a.above.now _ p.fits p.variable p.uppers) p.lowers (length-set a.upper.now _ _ ∙ p.uppers)

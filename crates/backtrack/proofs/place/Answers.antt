@@ -2,8 +2,6 @@
 use mathlib.Core.Path.{sym}
 use Rattle.state.proofs.Moved.{place-less, place-more}
 use borrow.Author.Rules.{rules}
-use Rattle.backtrack.proofs.place.Reads as reads
-use Rattle.backtrack.proofs.place.Lts as lts
 use Rattle.backtrack.proofs.place.Goals as goal
 
 pub returns-then-j-m : goal.returns-then-j-m

@@ -12,9 +12,6 @@ use Rattle.propagate.specs.Tracked.{Known, Tracked}
 use Rattle.propagate.proofs.Tracking.{tracked-more, tracked-some}
 use Rattle.state.specs.Moved.{place_of}
 use borrow.Author.Rules.{rules}
-use Rattle.backtrack.proofs.take_back.Reads as reads
-use Rattle.backtrack.proofs.take_back.Lts as lts
-use Rattle.backtrack.proofs.place.Reads as place-reads
 use Rattle.backtrack.proofs.take_back.Goals as goal
 
 pub kept_count-kept-requires : goal.kept_count-kept-requires
@@ -73,27 +70,19 @@ pub bounds-reaches-j : goal.bounds-reaches-j
 bounds-reaches-j c = unfold kept_cuts in omega (arith, c.loop-j-test.true, c.kept_count-kept.ensures, c.requires.1.0)
 
 -- what was saved of constraint j
-known : (c : goal.After-r-1) →
-    let l = c in
-    let a = l.args in
-    let p = 128 * a.t + c.place-p.result in
-    Known a.n a.rows.now a.lower.now a.upper.now l.loop-j.j (get_or a.olds.now p (pos 0)) (get_or a.limits.now p (pos 0))
+pub loop-j-preserved : goal.loop-j-preserved
 unfolding number_in
-known c =
-    let placed = c in
+loop-j-preserved c =
+    let l = c in
+    let s = l in
+    let h = c.loop-j-test.true in
+    let k = (let it : let l = c in let a = l.args in let p = 128 * a.t + c.place-p.result in Known a.n a.rows.now a.lower.now a.upper.now l.loop-j.j (get_or a.olds.now p (pos 0)) (get_or a.limits.now p (pos 0)) = let placed = c in
     let l = c in
     let s = l in
     let a = s.args in
     let h = c.loop-j-test.true in
     let e : placed.place-p.result ≡ place_of a.m (dropped_cuts a.made - a.earlier) l.loop-j.j = rw l.dropped.ensures at placed.place-p.ensures in
-    rw e (s.requires.0.at l.loop-j.j (omega (arith, h, l.kept_count-kept.ensures)) (omega (arith, e, c.if-count-p.false)))
-
-pub loop-j-preserved : goal.loop-j-preserved
-loop-j-preserved c =
-    let l = c in
-    let s = l in
-    let h = c.loop-j-test.true in
-    let k = known c in
+    rw e (s.requires.0.at l.loop-j.j (omega (arith, h, l.kept_count-kept.ensures)) (omega (arith, e, c.if-count-p.false))) in it) in
     let q : l.loop-j.j < s.args.m + kept_cuts s.args.made = omega (arith, h, l.kept_count-kept.ensures) in
     rw (back (lit< tt) k.size, back (lit< tt) k.reach.size) (
       omega (arith, q),

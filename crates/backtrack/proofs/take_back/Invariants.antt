@@ -12,9 +12,6 @@ use Rattle.propagate.specs.Tracked.{Known, Tracked}
 use Rattle.propagate.proofs.Tracking.{tracked-more, tracked-some}
 use Rattle.state.specs.Moved.{place_of}
 use borrow.Author.Rules.{rules}
-use Rattle.backtrack.proofs.take_back.Reads as reads
-use Rattle.backtrack.proofs.take_back.Lts as lts
-use Rattle.backtrack.proofs.place.Reads as place-reads
 use Rattle.backtrack.proofs.take_back.Given as goal
 
 abbrev pub invariant-loop-j : goal.invariant-loop-j

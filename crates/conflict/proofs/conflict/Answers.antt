@@ -12,7 +12,6 @@ use Rattle.integer.specs.Tests.{same, fits_lit}
 use Rattle.state.specs.View.{kept_cuts, divisor_for}
 use Rattle.conflict.proofs.Learning.{cut-row, cut_fits, deepest-false}
 use Rattle.conflict.proofs.Dismissing.{may-dismiss, dismissed, undivided}
-use Rattle.conflict.proofs.conflict.Tie as tie
 use Rattle.conflict.proofs.conflict.Goals as goal
 
 -- ---- the places
@@ -39,32 +38,22 @@ number_of-falsified-requires c =
     (omega (arith, l.position, l.inputs), l.cuts)
 
 -- the divisor as it comes back from its bits, and whether it is 0
-divisor-back : (c : tie.After-divisor_of) → to_z w64 (of_z w64 c.divisor_of-q.result) ≡ c.divisor_of-q.result
-divisor-back c = to_z-of_z {w = w64} (sfits_of c.divisor_of-q.type_inv)
-
 divided : (c : tie.Then1) → c.divisor_of-q.result ≡ pos 0 → ⊥
 divided c z = c.if-q-ne0.true (ap (of_z w64) z)
-
-plain : (c : tie.Else1) →
-    let a = (start (kept c.before)).args in
-    divisor_for a.m a.divisors.now a.j ≡ pos 0
-plain c =
-    let d = c.divisor_of-q in
-    sym d.ensures ∙ same (sfits_of d.type_inv) (fits_lit (pos 0) tt) c.if-q-ne0.false
 
 pub dismiss-back-requires : goal.dismiss-back-requires
 dismiss-back-requires c =
     let t = c in
     let d = t in
     let k = kept d in
-    rw (divisor-back d) (may-dismiss (start k).pre d.divisor_of-q.result d.divisor_of-q.ensures (divided t) k.keep-bounds.ensures)
+    rw ((let it : to_z w64 (of_z w64 c.divisor_of-q.result) ≡ c.divisor_of-q.result = to_z-of_z {w = w64} (sfits_of c.divisor_of-q.type_inv) in it)) (may-dismiss (start k).pre d.divisor_of-q.result d.divisor_of-q.ensures (divided t) k.keep-bounds.ensures)
 
 pub returns-then-q-ne0 : goal.returns-then-q-ne0
 returns-then-q-ne0 c =
     let t = c in
     let d = t in
     let k = kept d in
-    dismissed (start k).pre d.divisor_of-q.result d.divisor_of-q.ensures (divided t) _ k.keep-bounds.ensures d.number_of_lem.ensures (rw (divisor-back d) at c.dismiss-back.ensures)
+    dismissed (start k).pre d.divisor_of-q.result d.divisor_of-q.ensures (divided t) _ k.keep-bounds.ensures d.number_of_lem.ensures (rw ((let it : to_z w64 (of_z w64 c.divisor_of-q.result) ≡ c.divisor_of-q.result = to_z-of_z {w = w64} (sfits_of c.divisor_of-q.type_inv) in it)) at c.dismiss-back.ensures)
 
 pub backjump_level-found-requires : goal.backjump_level-found-requires
 backjump_level-found-requires c =
@@ -72,7 +61,8 @@ backjump_level-found-requires c =
     let e = plainly l in
     let k = kept e.before in
     let p = (start k).pre in
-    (lit≤ tt, (cut-row p.learnable.variables (l.learn-l.ensures.by_index 0), (p.deep, ((p.levels _ _ k.keep-bounds.ensures).0, rw undivided (deepest-false p (plain e) k.keep-bounds.ensures (l.learn-l.ensures.by_index 0))))))
+    (lit≤ tt, (cut-row p.learnable.variables (l.learn-l.ensures.by_index 0), (p.deep, ((p.levels _ _ k.keep-bounds.ensures).0, rw undivided (deepest-false p ((let it : let a = (start (kept c.before)).args in divisor_for a.m a.divisors.now a.j ≡ pos 0 = let d = c.divisor_of-q in
+    sym d.ensures ∙ same (sfits_of d.type_inv) (fits_lit (pos 0) tt) c.if-q-ne0.false in it)) k.keep-bounds.ensures (l.learn-l.ensures.by_index 0))))))
 
 pub emit-requires : goal.emit-requires
 emit-requires c =
@@ -94,7 +84,8 @@ returns c =
       boxes = f.before.keep-bounds.ensures;
       concluded = inl
           (record {
-            plain = plain e;
+            plain = (let it : let a = (start (kept c.before)).args in divisor_for a.m a.divisors.now a.j ≡ pos 0 = let d = c.divisor_of-q in
+    sym d.ensures ∙ same (sfits_of d.type_inv) (fits_lit (pos 0) tt) c.if-q-ne0.false in it);
             learned = l.learn.ensures.0;
             jump = rw undivided at b.backjump_level-found.ensures.0;
           });

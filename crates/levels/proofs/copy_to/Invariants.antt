@@ -7,8 +7,6 @@ use Rattle.layout.proofs.Elements.{number_read}
 use Rattle.levels.proofs.Copying.{copied_none, copied_more}
 use Rattle.levels.specs.Copied.{Copied}
 use borrow.Author.Rules.{rules}
-use Rattle.levels.proofs.copy_to.Reads as reads
-use Rattle.levels.proofs.copy_to.Lts as lts
 use Rattle.levels.proofs.copy_to.Given as goal
 
 abbrev pub invariant-loop-j : goal.invariant-loop-j

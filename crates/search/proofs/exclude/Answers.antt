@@ -8,23 +8,19 @@ use Rattle.lists.proofs.Bools.{said-no, said-yes}
 use Rattle.state.specs.View.{view}
 use Rattle.shown.proofs.Showing.{valid-view}
 use Rattle.shown.proofs.Excluding.{exclude-refused, exclude-unsolved, exclude-ended, exclude-struck}
-use Rattle.search.proofs.exclude.Tie as tie
 use Rattle.search.proofs.exclude.Goals as goal
-
-tested : (c : tie.Else1) → admitted (view c.args.s) ≡ true
-tested c = said-yes c.is_admitted.ensures c.if-not-is_admitted.false
 
 pub returns-then-not-is_admitted : goal.returns-then-not-is_admitted
 returns-then-not-is_admitted c = exclude-refused _ (said-no c.is_admitted.ensures c.if-not-is_admitted.true)
 
 pub strike-state-requires : goal.strike-state-requires
-strike-state-requires c = (valid-view _ (tested c.before.before.before.before), omega arith)
+strike-state-requires c = (valid-view _ ((let it : admitted (view c.args.s) ≡ true = said-yes c.is_admitted.ensures c.if-not-is_admitted.false in it)), omega arith)
 
 pub returns-then-s-gt0 : goal.returns-then-s-gt0
-returns-then-s-gt0 c = exclude-struck _ _ (tested c.before.before.before.before.before) (search rules) (omega arith) c.strike-state.ensures
+returns-then-s-gt0 c = exclude-struck _ _ ((let it : admitted (view c.args.s) ≡ true = said-yes c.is_admitted.ensures c.if-not-is_admitted.false in it)) (search rules) (omega arith) c.strike-state.ensures
 
 pub returns-else-s-gt0 : goal.returns-else-s-gt0
-returns-else-s-gt0 c = exclude-ended _ (tested c.before.before.before.before) (search rules) (omega arith)
+returns-else-s-gt0 c = exclude-ended _ ((let it : admitted (view c.args.s) ≡ true = said-yes c.is_admitted.ensures c.if-not-is_admitted.false in it)) (search rules) (omega arith)
 
 pub returns-in_default : goal.returns-in_default
-returns-in_default c = exclude-unsolved _ (tested c.before) c.in_default.keys2
+returns-in_default c = exclude-unsolved _ ((let it : admitted (view c.args.s) ≡ true = said-yes c.is_admitted.ensures c.if-not-is_admitted.false in it)) c.in_default.keys2

@@ -8,25 +8,21 @@ use Rattle.lists.proofs.Bools.{said-no, said-yes}
 use Rattle.state.specs.View.{view}
 use Rattle.answers.proofs.Proceeding.{after-sizes}
 use Rattle.shown.proofs.Showing.{valid-view, few-view, trace-shown, trace-refused}
-use Rattle.search.proofs.trace.Tie as tie
 use Rattle.search.proofs.trace.Goals as goal
-
-tested : (c : tie.Else1) → admitted (view c.args.s) ≡ true
-tested c = said-yes c.is_admitted.ensures c.if-not-is_admitted.false
 
 pub returns-then-not-is_admitted : goal.returns-then-not-is_admitted
 returns-then-not-is_admitted c = rw c.refused.ensures (trace-refused _ _ (said-no c.is_admitted.ensures c.if-not-is_admitted.true))
 
 pub proceed-a-requires : goal.proceed-a-requires
 proceed-a-requires c =
-    record { valid = valid-view _ (tested c.before.before); few = few-view _ (tested c.before.before); kept = λ k. omega arith; apart = λ k. refl; roomy = omega arith }
+    record { valid = valid-view _ ((let it : admitted (view c.args.s) ≡ true = said-yes c.is_admitted.ensures c.if-not-is_admitted.false in it)); few = few-view _ ((let it : admitted (view c.args.s) ≡ true = said-yes c.is_admitted.ensures c.if-not-is_admitted.false in it)); kept = λ k. omega arith; apart = λ k. refl; roomy = omega arith }
 
 pub answer-requires : goal.answer-requires
 answer-requires c =
-    let z = after-sizes (valid-view _ (tested c.before.before.before.before.before.before)) c.proceed-a.ensures in
+    let z = after-sizes (valid-view _ ((let it : admitted (view c.args.s) ≡ true = said-yes c.is_admitted.ensures c.if-not-is_admitted.false in it))) c.proceed-a.ensures in
     (z.few, z.shallow)
 
 pub returns : goal.returns
 returns c =
     rw c.answer.ensures
-    (trace-shown _ _ _ _ _ _ (tested c.before.before.before.before.before.before.before) c.proceed-a.ensures)
+    (trace-shown _ _ _ _ _ _ ((let it : admitted (view c.args.s) ≡ true = said-yes c.is_admitted.ensures c.if-not-is_admitted.false in it)) c.proceed-a.ensures)

@@ -10,23 +10,17 @@ use Rattle.layout.specs.Rows.{row_length, number_in, cell}
 use Rattle.bits.specs.Divided.{Unmentioned}
 use Rattle.bits.proofs.Bits.{Covers, covers-none, covers-small, covers-all, covers_out, covers-in}
 use borrow.Author.Rules.{rules, sfits_of}
-use Rattle.bits.proofs.divided.column_mask.Reads as reads
-use Rattle.bits.proofs.divided.column_mask.Lts as lts
-use Rattle.bits.proofs.divided.is_mentioned.Reads as is-mentioned-reads
 use Rattle.bits.proofs.divided.column_mask.Goals as goal
 
 pub loop-j-init : goal.loop-j-init
 loop-j-init c = (search rules, covers-none _ _)
 
 -- the mask has room for one input more
-small : (c : goal.In-loop-j) → c.loop-j.mask < 2 ^ 63
-small c = covers-small _ _ _ _ c.loop-j.invariant.1 63 (omega (arith, c.loop-j-test.true, c.requires.0))
-
 pub overflow_mul-mask : goal.overflow_mul-mask
-overflow_mul-mask c = omega (arith, small c.before.before.before.before)
+overflow_mul-mask c = omega (arith, (let it : c.loop-j.mask < 2 ^ 63 = covers-small _ _ _ _ c.loop-j.invariant.1 63 (omega (arith, c.loop-j-test.true, c.requires.0)) in it))
 
 pub overflow_add-mask : goal.overflow_add-mask
-overflow_add-mask c = omega (arith, small c.before.before.before.before)
+overflow_add-mask c = omega (arith, (let it : c.loop-j.mask < 2 ^ 63 = covers-small _ _ _ _ c.loop-j.invariant.1 63 (omega (arith, c.loop-j-test.true, c.requires.0)) in it))
 
 pub loop-j-preserved-then-is_mentioned : goal.loop-j-preserved-then-is_mentioned
 loop-j-preserved-then-is_mentioned c =
@@ -34,7 +28,7 @@ loop-j-preserved-then-is_mentioned c =
     (search rules, covers-in _ _ _ _ l.loop-j.invariant.1 c.loop-j-test.true l.loop-j.invariant.0)
 
 pub overflow_mul-mask-else-is_mentioned : goal.overflow_mul-mask-else-is_mentioned
-overflow_mul-mask-else-is_mentioned c = omega (arith, small c.before.before.before.before)
+overflow_mul-mask-else-is_mentioned c = omega (arith, (let it : c.loop-j.mask < 2 ^ 63 = covers-small _ _ _ _ c.loop-j.invariant.1 63 (omega (arith, c.loop-j-test.true, c.requires.0)) in it))
 
 pub loop-j-preserved : goal.loop-j-preserved
 loop-j-preserved c =

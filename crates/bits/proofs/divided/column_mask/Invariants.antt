@@ -10,9 +10,6 @@ use Rattle.layout.specs.Rows.{row_length, number_in, cell}
 use Rattle.bits.specs.Divided.{Unmentioned}
 use Rattle.bits.proofs.Bits.{Covers, covers-none, covers-small, covers-all, covers_out, covers-in}
 use borrow.Author.Rules.{rules, sfits_of}
-use Rattle.bits.proofs.divided.column_mask.Reads as reads
-use Rattle.bits.proofs.divided.column_mask.Lts as lts
-use Rattle.bits.proofs.divided.is_mentioned.Reads as is-mentioned-reads
 use Rattle.bits.proofs.divided.column_mask.Given as goal
 
 abbrev pub invariant-loop-j : goal.invariant-loop-j

@@ -12,9 +12,6 @@ use borrow.Author.Rules.{rules}
 use lib.ListN.{get_or, set, length, length-set}
 use Rattle.model_problems.specs.Ranges.{max_variables}
 use Rattle.bits.specs.Divided.{Due, Unmentioned}
-use Rattle.bits.proofs.divided.columns.Reads as reads
-use Rattle.bits.proofs.divided.columns.Lts as lts
-use Rattle.bits.proofs.divided.column_mask.Reads as column-mask-reads
 use Rattle.bits.proofs.divided.columns.Given as goal
 
 abbrev pub invariant-loop-i : goal.invariant-loop-i

@@ -14,11 +14,6 @@ use Rattle.model_problems.specs.Constraint.{falsified}
 use Rattle.layout.specs.Rows.{row_at, input_at, box_of}
 use Rattle.bits.specs.Masks.{bit}
 use Rattle.bits.specs.Divided.{FirstIndivisible}
-use Rattle.bits.proofs.divided.first_indivisible.Reads as reads
-use Rattle.bits.proofs.divided.first_indivisible.Lts as lts
-use Rattle.linear.proofs.divisibility.is_falsified.Reads as is-falsified-reads
-use Rattle.bits.proofs.masks.first.Reads as first_reads
-use Rattle.bits.proofs.masks.rest.Reads as rest-reads
 use Rattle.bits.proofs.divided.first_indivisible.Given as goal
 
 abbrev pub invariant-loop-left : goal.invariant-loop-left

@@ -13,11 +13,8 @@ pub loop-i-init : goal.loop-i-init
 loop-i-init c = (search rules, covers-none _ _)
 
 -- the mask has room for one place more
-small : (c : goal.In-loop-i) → c.loop-i.mask < 2 ^ 63
-small c = covers-small _ _ _ _ c.loop-i.invariant.1 63 (omega (arith, c.loop-i-test.true, c.requires.0))
-
 pub overflow_mul-mask : goal.overflow_mul-mask
-overflow_mul-mask c = omega (arith, small c.before.before)
+overflow_mul-mask c = omega (arith, (let it : c.loop-i.mask < 2 ^ 63 = covers-small _ _ _ _ c.loop-i.invariant.1 63 (omega (arith, c.loop-i-test.true, c.requires.0)) in it))
 
 pub loop-i-preserved-then-numbers-start-eq0 : goal.loop-i-preserved-then-numbers-start-eq0
 loop-i-preserved-then-numbers-start-eq0 c =
@@ -25,10 +22,10 @@ loop-i-preserved-then-numbers-start-eq0 c =
     (search rules, covers_out _ _ _ _ l.loop-i.invariant.1 (unfold number_in in same (sfits_of c.t10-1.given) (fits_lit (pos 0) tt) c.if-numbers-start-eq0.true) c.loop-i-test.true l.loop-i.invariant.0)
 
 pub overflow_mul-mask-else-numbers-start-eq0 : goal.overflow_mul-mask-else-numbers-start-eq0
-overflow_mul-mask-else-numbers-start-eq0 c = omega (arith, small c.before.before)
+overflow_mul-mask-else-numbers-start-eq0 c = omega (arith, (let it : c.loop-i.mask < 2 ^ 63 = covers-small _ _ _ _ c.loop-i.invariant.1 63 (omega (arith, c.loop-i-test.true, c.requires.0)) in it))
 
 pub overflow_add-mask : goal.overflow_add-mask
-overflow_add-mask c = omega (arith, small c.before.before)
+overflow_add-mask c = omega (arith, (let it : c.loop-i.mask < 2 ^ 63 = covers-small _ _ _ _ c.loop-i.invariant.1 63 (omega (arith, c.loop-i-test.true, c.requires.0)) in it))
 
 pub loop-i-preserved : goal.loop-i-preserved
 loop-i-preserved c = let l = c in (search rules, covers-in _ _ _ _ l.loop-i.invariant.1 c.loop-i-test.true l.loop-i.invariant.0)

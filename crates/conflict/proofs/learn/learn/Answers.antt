@@ -6,8 +6,6 @@ use Rattle.state.specs.View.{kept_cuts}
 use Rattle.state.specs.Change.{held}
 use Rattle.conflict.proofs.Learning.{learnable-at, learned-equal, learned-kept}
 use Rattle.conflict.proofs.Masking.{masked-kept}
-use Rattle.conflict.proofs.learn.learn.Reads as reads
-use Rattle.conflict.proofs.learn.learn.Lts as lts
 use Rattle.conflict.proofs.learn.learn.Goals as goal
 
 pub equal_row-p-requires : goal.equal_row-p-requires

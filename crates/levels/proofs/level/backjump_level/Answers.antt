@@ -25,8 +25,7 @@ use Rattle.linear.specs.Ranges.{DivisorFits}
 use Rattle.levels.specs.Mirror.{box_in}
 use Rattle.levels.specs.Level.{LevelsNested, LeastFalsifying}
 use Rattle.levels.proofs.Nesting.{level-fits, clear-outward}
-use Rattle.levels.proofs.level.backjump_level.Tie as tie
-use Rattle.levels.proofs.level.backjump_level.Invariants.{Passed, tested, whole_part}
+use Rattle.levels.proofs.level.backjump_level.Invariants.{Passed, whole_part}
 use Rattle.levels.proofs.level.backjump_level.Goals as goal
 
 -- where the search stops: at a level that does not falsify it, or past level 0
@@ -66,19 +65,25 @@ is_falsified-requires c =
     let at = max_variables * (l.loop-level.level - 1) in record { divisor_fits = subst DivisorFits (sym (to_z-of_z l.ranges.q)) p.0; row_fits = p.1.0; box_fits = rw (whole_part l.args.lowers.now at, whole_part l.args.uppers.now at) (level-fits p.1.1.1.0 p.1.0.few p.1.1.0 (l.loop-level.level - 1) (omega (arith, l.loop-level.invariant.count))) }
 
 pub returns-then-not-is_falsified : goal.returns-then-not-is_falsified
+unfolding box_in
 returns-then-not-is_falsified c =
     let l = c in
     let p = l.requires in
-    rw (← to_z-of_z l.ranges.q) (found l.loop-level.invariant p.1.1.1.0 (rw (to_z-of_z l.ranges.q) p.1.1.1.1) (omega (arith, c.loop-level-test.true)) (sym (tested c.before) ∙ c.if-not-is_falsified.true))
+    rw (← to_z-of_z l.ranges.q) (found l.loop-level.invariant p.1.1.1.0 (rw (to_z-of_z l.ranges.q) p.1.1.1.1) (omega (arith, c.loop-level-test.true)) (sym ((let it : let l = c in let a = l.args in c.is_falsified.result ≡ falsified (divided_at a.n a.cut.now 0 (back a.q)) (box_in a.n a.lowers.now a.uppers.now (l.loop-level.level - 1)) = let l = c in
+    let at = max_variables * (l.loop-level.level - 1) in
+    rw (whole_part l.args.lowers.now at, whole_part l.args.uppers.now at) at c.is_falsified.ensures in it)) ∙ c.if-not-is_falsified.true))
 
 pub loop-level-preserved : goal.loop-level-preserved
+unfolding box_in
 loop-level-preserved c =
     let l = c in
     record {
       count = omega (arith, l.loop-level.invariant.count);
       falsifies = λ t a b.
           ⊎_elim
-          (λ (q : l.loop-level.level - 1 ≡ t). rw (← q) (sym (tested c.before) ∙ c.if-not-is_falsified.false))
+          (λ (q : l.loop-level.level - 1 ≡ t). rw (← q) (sym ((let it : let l = c in let a = l.args in c.is_falsified.result ≡ falsified (divided_at a.n a.cut.now 0 (back a.q)) (box_in a.n a.lowers.now a.uppers.now (l.loop-level.level - 1)) = let l = c in
+    let at = max_variables * (l.loop-level.level - 1) in
+    rw (whole_part l.args.lowers.now at, whole_part l.args.uppers.now at) at c.is_falsified.ensures in it)) ∙ c.if-not-is_falsified.false))
           (λ (q : l.loop-level.level - 1 < t). l.loop-level.invariant.falsifies t (omega arith) b)
           (eq-or-lt_of_le a);
     }

@@ -43,12 +43,3 @@ pub whole_part : (xs : List ℤ) (k : ℕ) → take (length xs - k) (drop k xs) 
 whole_part xs k = take_all (length xs - k) (drop k xs) (omega (arith, length-drop k xs))
 
 -- what the test of the level told
-pub tested : (c : tie.After-is_falsified goal.the-invariant-loop-level goal.the-decreases-loop-level) →
-    let l = c in
-    let a = l.args in
-    c.is_falsified.result ≡ falsified (divided_at a.n a.cut.now 0 (back a.q)) (box_in a.n a.lowers.now a.uppers.now (l.loop-level.level - 1))
-unfolding box_in
-tested c =
-    let l = c in
-    let at = max_variables * (l.loop-level.level - 1) in
-    rw (whole_part l.args.lowers.now at, whole_part l.args.uppers.now at) at c.is_falsified.ensures

@@ -6,10 +6,6 @@ use borrow.Author.Rules.{rules}
 use Rattle.model_problems.specs.Ranges.{max_variables}
 use Rattle.levels.specs.Mirror.{Mirrored}
 use Rattle.levels.proofs.Mirroring.{mirrored-none, mirrored-more}
-use Rattle.levels.proofs.mirror.mirror.Reads as reads
-use Rattle.levels.proofs.mirror.mirror.Lts as lts
-use Rattle.levels.proofs.mirror.keep_bounds.Reads as keep-bounds-reads
-use Rattle.state.proofs.whole.Reads as whole-reads
 use Rattle.levels.proofs.mirror.mirror.Goals as goal
 
 pub loop-t-init : goal.loop-t-init

@@ -19,9 +19,6 @@ use Rattle.linear.specs.Reach.{widest_span}
 use Rattle.layout.specs.Rows.{row_length, number_in, cell, max_rows}
 use Rattle.propagate.proofs.Tracking.{number_same, number-other}
 use borrow.Author.Rules.{rules}
-use Rattle.propagate.proofs.bounds.shift.Reads as reads
-use Rattle.propagate.proofs.bounds.shift.Lts as lts
-use Rattle.linear.proofs.activity.term.Reads as term-reads
 use Rattle.propagate.proofs.bounds.shift.Given as goal
 
 abbrev pub invariant-loop-j : goal.invariant-loop-j

@@ -27,14 +27,6 @@ use Rattle.bits.specs.Divided.{Unmentioned}
 use Rattle.propagate.specs.Apart.{kept_over, Warned}
 use Rattle.propagate.specs.Tracked.{Tracked}
 use Rattle.state.specs.Change.{held, raised, lowered}
-use Rattle.propagate.proofs.propagate.propagate.Reads as reads
-use Rattle.propagate.proofs.propagate.propagate.Lts as lts
-use Rattle.propagate.proofs.bounds.lower_upper.Reads as lower-upper-reads
-use Rattle.propagate.proofs.bounds.raise_lower.Reads as raise-lower-reads
-use Rattle.bits.proofs.divided.first_indivisible.Reads as first-indivisible-reads
-use Rattle.bits.proofs.masks.open_mask.Reads as open-mask-reads
-use Rattle.propagate.proofs.propagate.decide_or_finish.Reads as decide-or-finish-reads
-use Rattle.propagate.proofs.scan.first_improvement.Reads as first-improvement-reads
 use Rattle.propagate.proofs.propagate.propagate.Given as goal
 
 abbrev pub invariant-loop-falsified : goal.invariant-loop-falsified
@@ -50,8 +42,3 @@ abbrev pub start : tie.At-loop goal.the-invariant-loop-falsified goal.the-decrea
 start l = l.before.before.before.before.before
 
 -- the loop is left where a constraint is falsified
-pub falsified : (c : goal.After-loop-falsified) →
-    let a = (start c.before).args in
-    c.loop-falsified.falsified < a.m + kept_cuts a.made
-falsified c =
-    ⊎_elim (λ e. absurd (c.loop-falsified-test.false (e ∙ sym c.kept_count-kept.ensures))) (λ h. h) (eq-or-lt_of_le c.loop-falsified.invariant.told.most)

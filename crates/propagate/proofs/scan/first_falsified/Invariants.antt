@@ -10,8 +10,6 @@ use lib.Signed.{◌≤ℤ◌}
 use Rattle.integer.specs.Tests.{back, lt_z-true, lt_z-false}
 use Rattle.layout.specs.Rows.{number_in}
 use borrow.Author.Rules.{rules}
-use Rattle.propagate.proofs.scan.first_falsified.Reads as reads
-use Rattle.propagate.proofs.scan.first_falsified.Lts as lts
 use Rattle.propagate.proofs.scan.first_falsified.Given as goal
 
 abbrev pub invariant-loop-j : goal.invariant-loop-j

@@ -27,8 +27,7 @@ use Rattle.propagate.proofs.Scans.{improved_from, improved_at, improved-start, i
 use Rattle.propagate.proofs.Tracking.{scan-term, tracked-reach, span-quiet, known-none}
 use Rattle.propagate.proofs.Passed.{Passed, passed_start, passed-more, passed-hit, passed-reach, passed-quiet}
 use borrow.Author.Rules.{rules}
-use Rattle.propagate.proofs.scan.first_improvement.Tie as tie
-use Rattle.propagate.proofs.scan.first_improvement.Invariants.{hit, inside, numbers, tested, tracked, turn}
+use Rattle.propagate.proofs.scan.first_improvement.Invariants.{hit, turn}
 use Rattle.propagate.proofs.scan.first_improvement.Goals as goal
 
 pub scan-init : goal.scan-init
@@ -37,25 +36,19 @@ scan-init c = (search rules, refl, improved-start _ _ _ _ _, c.requires.scan_fit
 pub overflow_sub-slack : goal.overflow_sub-slack
 unfolding number_in
 overflow_sub-slack c =
-    let w = (tracked c.before).size in
+    let w = ((let it : let s = c in let a = s.args in TrackedAt a.n a.rows.now a.lower.now a.upper.now a.activities.now s.scan.reaches s.scan.j = c.scan.invariant.3.at c.scan.j c.scan-test.true in it)).size in
     fits! (search exps depth 8) tt
 
 -- the slack, as the machine has it
-slack-back : (c : goal.In-scan) →
-    let a = number_in c.args.activities.now c.scan.j in
-    to_z w64 (of_z w64 (pos 0 -ℤ to_z w64 (of_z w64 a))) ≡ pos 0 -ℤ a
-slack-back c =
-    let w = (tracked c).size in
-    eq! (search exps depth 8) (search exps depth 8) tt (omega arith)
-
 pub scan-preserved-then-reaches-j : goal.scan-preserved-then-reaches-j
 unfolding number_in
 scan-preserved-then-reaches-j c =
     let i = c in
     let s = i in
-    let t = tracked i in
+    let t = (let it : let s = c in let a = s.args in TrackedAt a.n a.rows.now a.lower.now a.upper.now a.activities.now s.scan.reaches s.scan.j = c.scan.invariant.3.at c.scan.j c.scan-test.true in it) in
     let h = i.scan-test.true in
-    let quiet = le_z-true (rw (slack-back i, back (lit< tt) t.reach.size) at c.if-reaches-j.true) in
+    let quiet = le_z-true (rw ((let it : let a = number_in c.args.activities.now c.scan.j in to_z w64 (of_z w64 (pos 0 -ℤ to_z w64 (of_z w64 a))) ≡ pos 0 -ℤ a = let w = (tracked c).size in
+    eq! (search exps depth 8) (search exps depth 8) tt (omega arith) in it), back (lit< tt) t.reach.size) at c.if-reaches-j.true) in
     (omega (arith, h), s.scan.invariant.1, improved-skip _ _ _ _ _ _ _ s.scan.invariant.2 h (known-none _ _ _ _ _ _ _ t quiet), s.scan.invariant.3)
 
 pub mask_of-requires : goal.mask_of-requires
@@ -70,58 +63,61 @@ loop-left-init c =
     let s = i in
     let p = s.requires in
     let mask = c.mask_of in
-    (s.scan.invariant.1, passed_start _ _ _ _ _ _ mask.result _ _ (mask.ensures _ _ _ p.masked.0 i.scan-test.true) p.masked.1 (tracked i).same (p.scan_fits.1.1 s.scan.j i.scan-test.true) c.both-left.ensures.0 c.both-left.ensures.1)
-
-place : (c : goal.After-first-i) → ((turn c.before.before).before.scan.j < max_rows) × (c.first-i.result < max_variables)
-place c =
-    let t = turn c.before.before in
-    let f = t.before.before.pre.0.0 in
-    (omega (arith, t.scan-test.taken, f.count), omega (arith, inside c, f.few))
+    (s.scan.invariant.1, passed_start _ _ _ _ _ _ mask.result _ _ (mask.ensures _ _ _ p.masked.0 i.scan-test.true) p.masked.1 ((let it : let s = c in let a = s.args in TrackedAt a.n a.rows.now a.lower.now a.upper.now a.activities.now s.scan.reaches s.scan.j = c.scan.invariant.3.at c.scan.j c.scan-test.true in it)).same (p.scan_fits.1.1 s.scan.j i.scan-test.true) c.both-left.ensures.0 c.both-left.ensures.1)
 
 pub overflow_mul-a : goal.overflow_mul-a
-overflow_mul-a c = let h = place c.before in omega arith
+overflow_mul-a c = let h = (let it : ((turn c.before.before).before.scan.j < max_rows) × (c.first-i.result < max_variables) = let t = turn c.before.before in
+    let f = t.before.before.pre.0.0 in
+    (omega (arith, t.scan-test.taken, f.count), omega (arith, inside c, f.few)) in it) in omega arith
 
 pub overflow_add-a : goal.overflow_add-a
-overflow_add-a c = let h = place c.before in omega arith
+overflow_add-a c = let h = (let it : ((turn c.before.before).before.scan.j < max_rows) × (c.first-i.result < max_variables) = let t = turn c.before.before in
+    let f = t.before.before.pre.0.0 in
+    (omega (arith, t.scan-test.taken, f.count), omega (arith, inside c, f.few)) in it) in omega arith
 
 pub overflow_add-a-in-loop-left : goal.overflow_add-a-in-loop-left
-overflow_add-a-in-loop-left c = let h = place c.before in omega arith
+overflow_add-a-in-loop-left c = let h = (let it : ((turn c.before.before).before.scan.j < max_rows) × (c.first-i.result < max_variables) = let t = turn c.before.before in
+    let f = t.before.before.pre.0.0 in
+    (omega (arith, t.scan-test.taken, f.count), omega (arith, inside c, f.few)) in it) in omega arith
 
 pub offset_bounds-rows-j : goal.offset_bounds-rows-j
-offset_bounds-rows-j c = let h = place c.before in omega arith
+offset_bounds-rows-j c = let h = (let it : ((turn c.before.before).before.scan.j < max_rows) × (c.first-i.result < max_variables) = let t = turn c.before.before in
+    let f = t.before.before.pre.0.0 in
+    (omega (arith, t.scan-test.taken, f.count), omega (arith, inside c, f.few)) in it) in omega arith
 
 pub bounds-rows-j : goal.bounds-rows-j
-bounds-rows-j c = let h = place c.before in omega arith
+bounds-rows-j c = let h = (let it : ((turn c.before.before).before.scan.j < max_rows) × (c.first-i.result < max_variables) = let t = turn c.before.before in
+    let f = t.before.before.pre.0.0 in
+    (omega (arith, t.scan-test.taken, f.count), omega (arith, inside c, f.few)) in it) in omega arith
 
 pub offset_bounds-lower-i : goal.offset_bounds-lower-i
-offset_bounds-lower-i c = let h = place c.before.before in omega arith
+offset_bounds-lower-i c = let h = (let it : ((turn c.before.before).before.scan.j < max_rows) × (c.first-i.result < max_variables) = let t = turn c.before.before in
+    let f = t.before.before.pre.0.0 in
+    (omega (arith, t.scan-test.taken, f.count), omega (arith, inside c, f.few)) in it) in omega arith
 
 pub bounds-lower-i : goal.bounds-lower-i
-bounds-lower-i c = let h = place c.before.before in omega arith
+bounds-lower-i c = let h = (let it : ((turn c.before.before).before.scan.j < max_rows) × (c.first-i.result < max_variables) = let t = turn c.before.before in
+    let f = t.before.before.pre.0.0 in
+    (omega (arith, t.scan-test.taken, f.count), omega (arith, inside c, f.few)) in it) in omega arith
 
 pub offset_bounds-upper-i : goal.offset_bounds-upper-i
-offset_bounds-upper-i c = let h = place c.before.before.before in omega arith
+offset_bounds-upper-i c = let h = (let it : ((turn c.before.before).before.scan.j < max_rows) × (c.first-i.result < max_variables) = let t = turn c.before.before in
+    let f = t.before.before.pre.0.0 in
+    (omega (arith, t.scan-test.taken, f.count), omega (arith, inside c, f.few)) in it) in omega arith
 
 pub bounds-upper-i : goal.bounds-upper-i
-bounds-upper-i c = let h = place c.before.before.before in omega arith
+bounds-upper-i c = let h = (let it : ((turn c.before.before).before.scan.j < max_rows) × (c.first-i.result < max_variables) = let t = turn c.before.before in
+    let f = t.before.before.pre.0.0 in
+    (omega (arith, t.scan-test.taken, f.count), omega (arith, inside c, f.few)) in it) in omega arith
 
 pub further-far-requires : goal.further-far-requires
-unfolding number_in cell
+unfolding number_in cell bounds_at
 further-far-requires c =
-    let v = numbers c.before.before.before.before in
+    let v = (let it : let s = (turn c.before.before).before in let a = s.before.args in TermFits (cell a.rows.now (row_length * s.scan.j) c.first-i.result) (number_in a.lower.now c.first-i.result) (number_in a.upper.now c.first-i.result) = let t = turn c.before.before in
+    scan-term t.before.before.pre.0.0 t.before.scan.j c.first-i.result t.before.scan.inv.3.long t.scan-test.taken ((let it : c.first-i.result < (turn c.before.before).before.before.args.n = c.first-i.ensures.inside _ c.loop-left.invariant.1.few in it)) in it) in
     rw (back (lit< tt) v.coefficient, back (lit< tt) v.low, back (lit< tt) v.high) (v, c.loop-left.invariant.1.size)
 
 -- the variable's span is no more than the constraint reaches now
-spanned : (c : tie.After-further goal.the-invariant-loop-left goal.the-decreases-loop-left goal.the-invariant-scan goal.the-decreases-scan) →
-    let first = c in
-    let s = (turn first.before.before).before in
-    let a = s.before.args in
-    span_of (cell a.rows.now (row_length * s.scan.j) first.first-i.result) (bounds_at a.lower.now a.upper.now first.first-i.result) ≤ℤ c.further-far.result
-unfolding number_in cell bounds_at
-spanned c =
-    let v = numbers c.before.before.before.before.before in
-    rw (back (lit< tt) v.coefficient, back (lit< tt) v.low, back (lit< tt) v.high) at c.further-far.ensures.here
-
 -- the variable is passed where none of its bounds is improved
 passed : (c : tie.After-further goal.the-invariant-loop-left goal.the-decreases-loop-left goal.the-invariant-scan goal.the-decreases-scan) →
     let rest = c in
@@ -134,35 +130,44 @@ passed c q =
     let rest = c in
     let first = rest in
     let f = c.further-far.ensures in
-    rw (back (lit< tt) f.size) (passed-more _ _ _ _ _ _ _ first.loop-left.invariant.1 _ first.first-i.ensures _ _ rest.rest-left.ensures f.before (spanned c) f.size q)
+    rw (back (lit< tt) f.size) (passed-more _ _ _ _ _ _ _ first.loop-left.invariant.1 _ first.first-i.ensures _ _ rest.rest-left.ensures f.before ((let it : let first = c in let s = (turn first.before.before).before in let a = s.before.args in span_of (cell a.rows.now (row_length * s.scan.j) first.first-i.result) (bounds_at a.lower.now a.upper.now first.first-i.result) ≤ℤ c.further-far.result = let v = numbers c.before.before.before.before.before in
+    rw (back (lit< tt) v.coefficient, back (lit< tt) v.low, back (lit< tt) v.high) at c.further-far.ensures.here in it)) f.size q)
 
 pub improvement_at-found-requires : goal.improvement_at-found-requires
-unfolding number_in cell
+unfolding number_in cell bounds_at
 improvement_at-found-requires c =
     let first = c in
     let t = turn first.before.before in
-    let at = tracked t in
-    let v = numbers first in
+    let at = (let it : let s = c in let a = s.args in TrackedAt a.n a.rows.now a.lower.now a.upper.now a.activities.now s.scan.reaches s.scan.j = c.scan.invariant.3.at c.scan.j c.scan-test.true in it) in
+    let v = (let it : let s = (turn c.before.before).before in let a = s.before.args in TermFits (cell a.rows.now (row_length * s.scan.j) c.first-i.result) (number_in a.lower.now c.first-i.result) (number_in a.upper.now c.first-i.result) = let t = turn c.before.before in
+    scan-term t.before.before.pre.0.0 t.before.scan.j c.first-i.result t.before.scan.inv.3.long t.scan-test.taken ((let it : c.first-i.result < (turn c.before.before).before.before.args.n = c.first-i.ensures.inside _ c.loop-left.invariant.1.few in it)) in it) in
     rw (back (lit< tt) v.coefficient, back (lit< tt) v.low, back (lit< tt) v.high, back (lit< tt) at.size)
     (record { term = v; sum = at.size; holds = t.before.before.pre.0.1.1 t.before.scan.j t.scan-test.taken })
 
 pub loop-left-preserved-in-Nothing : goal.loop-left-preserved-in-Nothing
-unfolding improvement.move_of
+unfolding improvement.move_of number_in cell bounds_at improved_at
 loop-left-preserved-in-Nothing c =
     let m = c in
     let f = m in
     let first = f in
     let l = first in
-    (l.loop-left.invariant.0, passed f (sym (tested m) ∙ ap (improvement.move_of (turn l).before.scan.j first.first-i.result) c.in-Nothing.is))
+    (l.loop-left.invariant.0, passed f (sym ((let it : let first = c in let s = (turn first.before.before).before in let a = s.before.args in improvement.move_of s.scan.j first.first-i.result c.improvement_at-found.result ≡ improved_at a.n a.rows.now a.lower.now a.upper.now s.scan.j first.first-i.result = let first = c in
+    let t = turn first.before.before in
+    let at = (let it : let s = c in let a = s.args in TrackedAt a.n a.rows.now a.lower.now a.upper.now a.activities.now s.scan.reaches s.scan.j = c.scan.invariant.3.at c.scan.j c.scan-test.true in it) in
+    let v = (let it : let s = (turn c.before.before).before in let a = s.before.args in TermFits (cell a.rows.now (row_length * s.scan.j) c.first-i.result) (number_in a.lower.now c.first-i.result) (number_in a.upper.now c.first-i.result) = let t = turn c.before.before in
+    scan-term t.before.before.pre.0.0 t.before.scan.j c.first-i.result t.before.scan.inv.3.long t.scan-test.taken ((let it : c.first-i.result < (turn c.before.before).before.before.args.n = c.first-i.ensures.inside _ c.loop-left.invariant.1.few in it)) in it) in
+    rw (back (lit< tt) v.coefficient, back (lit< tt) v.low, back (lit< tt) v.high, back (lit< tt) at.size, at.same) at (c.improvement_at-found.ensures.by_index t.before.scan.j first.first-i.result) in it)) ∙ ap (improvement.move_of (turn l).before.scan.j first.first-i.result) c.in-Nothing.is))
 
 pub loop-left-preserved : goal.loop-left-preserved
-unfolding number_in
+unfolding number_in cell bounds_at
 loop-left-preserved c =
     let f = c in
     let l = f in
     let t = turn l in
-    let quiet = lt_z-false (rw (slack-back t, back (lit< tt) f.further-far.ensures.size) at c.if-slack-far.false) in
-    (l.loop-left.invariant.0, passed f (span-quiet _ _ _ _ _ _ _ (tracked t).same (≤_trans (spanned f) quiet)))
+    let quiet = lt_z-false (rw ((let it : let a = number_in c.args.activities.now c.scan.j in to_z w64 (of_z w64 (pos 0 -ℤ to_z w64 (of_z w64 a))) ≡ pos 0 -ℤ a = let w = (tracked c).size in
+    eq! (search exps depth 8) (search exps depth 8) tt (omega arith) in it), back (lit< tt) f.further-far.ensures.size) at c.if-slack-far.false) in
+    (l.loop-left.invariant.0, passed f (span-quiet _ _ _ _ _ _ _ ((let it : let s = c in let a = s.args in TrackedAt a.n a.rows.now a.lower.now a.upper.now a.activities.now s.scan.reaches s.scan.j = c.scan.invariant.3.at c.scan.j c.scan-test.true in it)).same (≤_trans ((let it : let first = c in let s = (turn first.before.before).before in let a = s.before.args in span_of (cell a.rows.now (row_length * s.scan.j) first.first-i.result) (bounds_at a.lower.now a.upper.now first.first-i.result) ≤ℤ c.further-far.result = let v = numbers c.before.before.before.before.before in
+    rw (back (lit< tt) v.coefficient, back (lit< tt) v.low, back (lit< tt) v.high) at c.further-far.ensures.here in it)) quiet)))
 
 pub scan-preserved : goal.scan-preserved
 scan-preserved c =

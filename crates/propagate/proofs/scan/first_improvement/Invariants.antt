@@ -45,42 +45,12 @@ abbrev pub decreases-scan : goal.decreases-scan
 decreases-scan l = l.kept - l.j
 
 -- what is tracked of constraint j
-pub tracked : (c : goal.In-scan) →
-    let s = c in
-    let a = s.args in
-    TrackedAt a.n a.rows.now a.lower.now a.upper.now a.activities.now s.scan.reaches s.scan.j
-tracked c = c.scan.invariant.3.at c.scan.j c.scan-test.true
-
 -- the turn of the scan that the inner loop belongs to
 abbrev pub turn : tie.At-loop goal.the-invariant-loop-left goal.the-decreases-loop-left goal.the-invariant-scan goal.the-decreases-scan → goal.In-scan
 turn l = l.before.before.before.before.before.before
 
 -- the first variable that is left, and what its numbers ask
-pub inside : (c : goal.After-first-i) → c.first-i.result < (turn c.before.before).before.before.args.n
-inside c = c.first-i.ensures.inside _ c.loop-left.invariant.1.few
-
-pub numbers : (c : goal.After-first-i) →
-    let s = (turn c.before.before).before in
-    let a = s.before.args in
-    TermFits (cell a.rows.now (row_length * s.scan.j) c.first-i.result) (number_in a.lower.now c.first-i.result) (number_in a.upper.now c.first-i.result)
-numbers c =
-    let t = turn c.before.before in
-    scan-term t.before.before.pre.0.0 t.before.scan.j c.first-i.result t.before.scan.inv.3.long t.scan-test.taken (inside c)
-
 -- what was found at variable i of constraint j is the model's
-pub tested : (c : tie.After-improvement_at goal.the-invariant-loop-left goal.the-decreases-loop-left goal.the-invariant-scan goal.the-decreases-scan) →
-    let first = c in
-    let s = (turn first.before.before).before in
-    let a = s.before.args in
-    improvement.move_of s.scan.j first.first-i.result c.improvement_at-found.result ≡ improved_at a.n a.rows.now a.lower.now a.upper.now s.scan.j first.first-i.result
-unfolding number_in cell bounds_at improved_at
-tested c =
-    let first = c in
-    let t = turn first.before.before in
-    let at = tracked t in
-    let v = numbers first in
-    rw (back (lit< tt) v.coefficient, back (lit< tt) v.low, back (lit< tt) v.high, back (lit< tt) at.size, at.same) at (c.improvement_at-found.ensures.by_index t.before.scan.j first.first-i.result)
-
 -- an improvement at the first variable that is left is the whole scan's answer, and what is tracked stays
 pub hit : (c : tie.After-improvement_at goal.the-invariant-loop-left goal.the-decreases-loop-left goal.the-invariant-scan goal.the-decreases-scan) (m : Move) →
     let first = c in

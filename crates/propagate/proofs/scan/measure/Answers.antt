@@ -10,43 +10,29 @@ use Rattle.layout.specs.Rows.{row_length, row_at, box_of}
 use Rattle.propagate.specs.Tracked.{Tracked}
 use Rattle.propagate.proofs.Tracking.{scan-row, scan-box, tracked-more, tracked-some, unknown-reach}
 use borrow.Author.Rules.{rules}
-use Rattle.propagate.proofs.scan.measure.Reads as reads
-use Rattle.propagate.proofs.scan.measure.Lts as lts
-use Rattle.linear.proofs.activity.min_activity.Reads as min-activity-reads
 use Rattle.propagate.proofs.scan.measure.Goals as goal
 
 pub loop-j-init : goal.loop-j-init
 loop-j-init c = (c.requires.1.0, c.requires.1.1)
 
 -- what `min_activity` asks
-ready : (c : goal.After-min_activity-arg-in-loop-j-2-1) →
-    let l = c in
-    let a = l.args in
-    RowFits a.n a.rows.now (row_length * l.loop-j.j) × BoxFits a.n a.lower.now a.upper.now
-ready c =
-    let l = c in
-    let f = l.requires.0 in
-    (scan-row f l.loop-j.j (search rules) c.loop-j-test.true, scan-box f (search rules) (search rules))
-
 pub min_activity-requires : goal.min_activity-requires
-min_activity-requires c = ready c
+min_activity-requires c = (let it : let l = c in let a = l.args in RowFits a.n a.rows.now (row_length * l.loop-j.j) × BoxFits a.n a.lower.now a.upper.now = let l = c in
+    let f = l.requires.0 in
+    (scan-row f l.loop-j.j (search rules) c.loop-j-test.true, scan-box f (search rules) (search rules)) in it)
 
--- the least value is the model's activity
-least : (c : goal.After-min_activity) →
-    let l = c in
-    let a = l.args in
-    c.min_activity.result ≡ activity (row_at a.n a.rows.now l.loop-j.j) (box_of a.n a.lower.now a.upper.now)
-unfolding row_at
-least c = c.min_activity.ensures.value
-
+-- the (let it : let l = c in let a = l.args in c.min_activity.result ≡ activity (row_at a.n a.rows.now l.loop-j.j) (box_of a.n a.lower.now a.upper.now) = c.min_activity.ensures.value in it) is the model's activity
 pub loop-j-preserved : goal.loop-j-preserved
+unfolding row_at
 loop-j-preserved c =
     let l = c in
     let h = c.loop-j-test.true in
-    let r = ready c.before in
+    let r = (let it : let l = c in let a = l.args in RowFits a.n a.rows.now (row_length * l.loop-j.j) × BoxFits a.n a.lower.now a.upper.now = let l = c in
+    let f = l.requires.0 in
+    (scan-row f l.loop-j.j (search rules) c.loop-j-test.true, scan-box f (search rules) (search rules)) in it) in
     rw (back (lit< tt) c.min_activity.ensures.within) (
       omega (arith, h),
-      tracked-more _ _ _ _ _ _ l.loop-j.j _ _ (omega (arith, h, l.requires.0.count)) l.loop-j.invariant.1 (least c) c.min_activity.ensures.within (unknown-reach _ _ _ _ _ r.0 r.1),
+      tracked-more _ _ _ _ _ _ l.loop-j.j _ _ (omega (arith, h, l.requires.0.count)) l.loop-j.invariant.1 ((let it : let l = c in let a = l.args in c.min_activity.result ≡ activity (row_at a.n a.rows.now l.loop-j.j) (box_of a.n a.lower.now a.upper.now) = c.min_activity.ensures.value in it)) c.min_activity.ensures.within (unknown-reach _ _ _ _ _ r.0 r.1),
     )
 
 pub returns : goal.returns

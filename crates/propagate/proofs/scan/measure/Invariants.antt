@@ -10,9 +10,6 @@ use Rattle.layout.specs.Rows.{row_length, row_at, box_of}
 use Rattle.propagate.specs.Tracked.{Tracked}
 use Rattle.propagate.proofs.Tracking.{scan-row, scan-box, tracked-more, tracked-some, unknown-reach}
 use borrow.Author.Rules.{rules}
-use Rattle.propagate.proofs.scan.measure.Reads as reads
-use Rattle.propagate.proofs.scan.measure.Lts as lts
-use Rattle.linear.proofs.activity.min_activity.Reads as min-activity-reads
 use Rattle.propagate.proofs.scan.measure.Given as goal
 
 abbrev pub invariant-loop-j : goal.invariant-loop-j

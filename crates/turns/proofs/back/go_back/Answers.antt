@@ -5,7 +5,6 @@ use borrow.Author.Rules.{rules}
 use lib.IntN.{pos}
 use Rattle.propagate.proofs.Warning.{testable}
 use Rattle.turns.proofs.Due.{flipped-box, due-few, flipped-warned}
-use Rattle.turns.proofs.back.go_back.Tie as tie
 use Rattle.turns.proofs.back.go_back.Goals as goal
 
 abbrev begun : goal.After-backjump-first → tie.Start

@@ -8,9 +8,6 @@ use borrow.Author.Rules.{rules}
 use lib.ListN.{length-set}
 use lib.Seq.{get_or-set_same, get_or-set_other}
 use Rattle.turns.specs.Tracking.{Marks}
-use Rattle.turns.proofs.track.mark.Reads as reads
-use Rattle.turns.proofs.track.mark.Lts as lts
-use Rattle.bits.proofs.masks.row_mask.Reads as row-mask-reads
 use Rattle.turns.proofs.track.mark.Goals as goal
 
 pub loop-p-init : goal.loop-p-init
