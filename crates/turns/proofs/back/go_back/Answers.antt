@@ -7,22 +7,20 @@ use Rattle.propagate.proofs.Warning.{testable}
 use Rattle.turns.proofs.Due.{flipped-box, due-few, flipped-warned}
 use Rattle.turns.proofs.back.go_back.Goals as goal
 
-abbrev begun : goal.After-backjump-first → tie.Start
-begun b = b.before.before.before.before.before
 
 pub backjump-first-requires : goal.backjump-first-requires
 backjump-first-requires c = (c.requires.flippable, c.requires.lengths)
 
 pub offset_bounds-mentions-i : goal.offset_bounds-mentions-i
-offset_bounds-mentions-i c = omega (arith, (begun c).requires.flippable.variable, (begun c).requires.few)
+offset_bounds-mentions-i c = omega (arith, c.requires.flippable.variable, c.requires.few)
 
 pub bounds-mentions-i : goal.bounds-mentions-i
-bounds-mentions-i c = omega (arith, (begun c).requires.flippable.variable, (begun c).requires.few)
+bounds-mentions-i c = omega (arith, c.requires.flippable.variable, c.requires.few)
 
 pub first_indivisible-requires : goal.first_indivisible-requires
 first_indivisible-requires c =
     let b = c in
-    let p = (begun b).requires in
+    let p = c.requires in
     let f = p.flippable in
     let u = c.due_at-due.ensures in
     testable _ _ _ _ _ _ _ _ p.apart p.few f.inputs (flipped-box f b.backjump-first.ensures.bound)
@@ -31,7 +29,7 @@ first_indivisible-requires c =
 pub returns : goal.returns
 returns c =
     let b = c in
-    let p = (begun b).requires in
+    let p = c.requires in
     let f = p.flippable in
     let w = b.backjump-first.ensures in
     let u = c.due_at-due.ensures in
