@@ -1,14 +1,13 @@
 -- `linear::resolving::combine` meets its contract: the constant and the first i coefficients are sums of two products. Assumes nothing.
-use Prim.Native.Nat.{◌≤◌, ◌-◌, ◌+◌}
+use Prim.Native.Nat.{◌+◌}
 use native.Mathlib.Omega.{arith}
 use mathlib.Core.Path.{◌≡◌, refl, ap₂, ◌∙◌}
-use borrow.Author.Rules.{rules, sfits_of}
+use borrow.Author.Rules.{sfits_of}
 use lib.IntN.{ℤ, pos, ◌+ℤ◌, ◌*ℤ◌}
 use mir.Facts.{to_z-of_z}
 use mir.Syntax.{w64}
-use Rattle.layout.specs.Rows.{number_in, cell}
 use Rattle.layout.proofs.Elements.{number_read, cell-read}
-use Rattle.layout.proofs.Filled.{Filled, fill-constant, fill-coefficient}
+use Rattle.layout.proofs.Filled.{fill-constant, fill-coefficient}
 use Rattle.derivation.proofs.Sizes.{constant-read, coefficient-read}
 use Rattle.derivation.proofs.ResolvingLaws.{combined-row}
 use Rattle.derivation.proofs.resolving.combine.Goals as goal

@@ -1,15 +1,19 @@
 -- `linear::resolving::combine_at` meets its contract. Assumes nothing.
-use Prim.Native.Nat.{ℕ, ◌<◌, ◌≤◌, ◌+◌, ◌/◌}
+use Prim.Native.Nat.{ℕ, ◌<◌, ◌≤◌, ◌+◌, ◌/◌, ◌^◌}
 use native.Mathlib.Omega.{arith}
 use mathlib.Core.Path.{◌≡◌, refl, sym, ap, ◌∙◌}
-use borrow.Author.Rules.{rules}
-use lib.IntN.{nat_abs}
+use mathlib.Core.List.{List}
+use lib.IntN.{ℤ, pos, nat_abs}
+use lib.ListN.{get_or, length}
+use lib.Signed.{mag}
 use Rattle.model_problems.specs.Ranges.{max_coefficient}
-use Rattle.model_problems.specs.Constraint.{Constraint, coefficient_at}
+use Rattle.model_problems.specs.Division.{gcd}
+use Rattle.model_problems.specs.Constraint.{coefficient_at, combination}
 use Rattle.integer.specs.Divisor.{gcd-pos}
-use Rattle.layout.specs.Rows.{constraint_at}
+use Rattle.layout.specs.Rows.{constraint_at, row_length}
 use Rattle.layout.proofs.Rows.{coefficient-at}
-use Rattle.layout.proofs.Elements.{cell-read}
+use Rattle.layout.proofs.Elements.{back, cell-read}
+use Rattle.derivation.specs.Resolvable.{Resolvable, Combined}
 use Rattle.derivation.proofs.Sizes.{multiplier-most, combination-sized}
 use Rattle.derivation.proofs.ResolvingLaws.{opposite-not-zero, resolvent-of}
 use Rattle.derivation.proofs.resolving.combine_at.Goals as goal
@@ -39,64 +43,51 @@ pub bounds-rows-start : goal.bounds-rows-start
 bounds-rows-start c = omega arith
 
 -- ---- what is known once the divisor is: a and b are the sizes of F's and J's coefficients, the divisor is not 0, and the multipliers are in range
-module _ (c : goal.After-gcd-g) where
-  abbrev at-start : goal.Start
-  at-start = c.before.before.before.before.before
+size_is : (n : ℕ) (xs : List ℤ) (start i r : ℕ) → i < n → mag (get_or xs (start + 1 + i) (pos 0)) < 2 ^ 63 → r ≡ nat_abs (back (get_or xs (start + 1 + i) (pos 0))) →
+    r ≡ nat_abs (coefficient_at (constraint_at n xs start) i)
+size_is n xs start i r l f e = e ∙ ap nat_abs (cell-read xs start i (start + 1 + i) refl f ∙ sym (coefficient-at n xs start i l))
 
-  abbrev F : Constraint
-  F = constraint_at at-start.args.n at-start.args.f.now at-start.args.at
+module _ (i n : ℕ) (f : List ℤ) (at : ℕ) (rows : List ℤ) (start a b g : ℕ) (h : Resolvable i n f at rows start)
+    (a-is : a ≡ nat_abs (coefficient_at (constraint_at n f at) i)) (b-is : b ≡ nat_abs (coefficient_at (constraint_at n rows start) i)) where
+  divisor-positive : g ≡ gcd a b → 0 < g
+  divisor-positive e = rw e (gcd-pos _ _ (rw a-is (opposite-not-zero _ _ h.signs)))
 
-  abbrev J : Constraint
-  J = constraint_at at-start.args.n at-start.args.rows.now at-start.args.start
+  a-in-range : a / g ≤ max_coefficient
+  a-in-range = rw a-is (multiplier-most (constraint_at n f at) i g h.combinable.first_range)
 
-  abbrev a : ℕ
-  a = c.magnitude-a.result
+  b-in-range : b / g ≤ max_coefficient
+  b-in-range = rw b-is (multiplier-most (constraint_at n rows start) i g h.combinable.second_range)
 
-  abbrev b : ℕ
-  b = c.magnitude-b.result
-
-  a-is : a ≡ nat_abs (coefficient_at F at-start.args.i)
-  a-is =
-      let s = at-start.args in
-      c.magnitude-a.ensures ∙ ap nat_abs (
-      cell-read s.f.now s.at s.i (s.at + 1 + s.i) refl c.magnitude-arg-1.given ∙
-      sym (coefficient-at s.n s.f.now s.at s.i at-start.pre.0.variable)
-      )
-
-  b-is : b ≡ nat_abs (coefficient_at J at-start.args.i)
-  b-is =
-      let s = at-start.args in
-      c.magnitude-b.ensures ∙ ap nat_abs (
-      cell-read s.rows.now s.start s.i (s.start + 1 + s.i) refl c.magnitude-arg-2-1.given ∙
-      sym (coefficient-at s.n s.rows.now s.start s.i at-start.pre.0.variable)
-      )
-
-  divisor-positive : 0 < c.gcd-g.result
-  divisor-positive = rw c.gcd-g.ensures (gcd-pos _ _ (rw a-is (opposite-not-zero _ _ at-start.pre.0.signs)))
-
-  a-in-range : a / c.gcd-g.result ≤ max_coefficient
-  a-in-range = rw a-is (multiplier-most F at-start.args.i c.gcd-g.result at-start.pre.0.combinable.first_range)
-
-  b-in-range : b / c.gcd-g.result ≤ max_coefficient
-  b-in-range = rw b-is (multiplier-most J at-start.args.i c.gcd-g.result at-start.pre.0.combinable.second_range)
+  combined-is : (r : List ℤ) → g ≡ gcd a b → constraint_at n r 0 ≡ combination (b / g) (constraint_at n f at) (a / g) (constraint_at n rows start) →
+      length r ≡ row_length → Combined i (constraint_at n f at) (constraint_at n rows start) n r
+  combined-is r e k l = record {
+    outcome = rw k (resolvent-of _ (constraint_at n f at) (constraint_at n rows start) _ _ _ a-is b-is e);
+    sized = rw k (combination-sized _ _ _ _ b-in-range a-in-range h.combinable.first_range h.combinable.second_range);
+    size = l;
+  }
 
 pub nonzero_div-b : goal.nonzero_div-b
-nonzero_div-b c = divisor-positive c
+nonzero_div-b c =
+    let s = c.args in
+    divisor-positive s.i s.n s.f.now s.at s.rows.now s.start _ _ _ c.requires.0
+    (size_is _ _ _ _ _ c.requires.0.variable c.magnitude-arg-1.given c.magnitude-a.ensures)
+    (size_is _ _ _ _ _ c.requires.0.variable c.magnitude-arg-2-1.given c.magnitude-b.ensures) c.gcd-g.ensures
 
 pub nonzero_div-a : goal.nonzero_div-a
-nonzero_div-a c = divisor-positive c
+nonzero_div-a c = nonzero_div-b c
 
-pub combine-requires : goal.combine-requires
-combine-requires c = let g = c in record { combinable = (at-start g).requires.0.combinable; s_le_max_coefficient = (b-in-range g, (a-in-range g, (at-start g).requires.1)) }
+pub combine-requires-clause-s_le_max_coefficient : goal.combine-requires-clause-s_le_max_coefficient
+combine-requires-clause-s_le_max_coefficient c =
+    let s = c.args in
+    let h = c.requires.0 in
+    let a = size_is _ _ _ _ _ h.variable c.magnitude-arg-1.given c.magnitude-a.ensures in
+    let b = size_is _ _ _ _ _ h.variable c.magnitude-arg-2-1.given c.magnitude-b.ensures in
+    (b-in-range s.i s.n s.f.now s.at s.rows.now s.start _ _ c.gcd-g.result h a b, (a-in-range s.i s.n s.f.now s.at s.rows.now s.start _ _ c.gcd-g.result h a b, c.requires.1))
 
 pub returns : goal.returns
 returns c =
-    let g = c in
-    let k = (at-start g).requires.0.combinable in
-    let a = a-in-range g in
-    let b = b-in-range g in
-    record {
-      outcome = rw c.combine.ensures.0 (resolvent-of _ (F g) (J g) _ _ _ (a-is g) (b-is g) g.gcd-g.ensures);
-      sized = rw c.combine.ensures.0 (combination-sized _ _ _ _ (omega arith) (omega arith) k.first_range k.second_range);
-      size = c.combine.ensures.1;
-    }
+    let s = c.args in
+    let h = c.requires.0 in
+    let a = size_is _ _ _ _ _ h.variable c.magnitude-arg-1.given c.magnitude-a.ensures in
+    let b = size_is _ _ _ _ _ h.variable c.magnitude-arg-2-1.given c.magnitude-b.ensures in
+    combined-is s.i s.n s.f.now s.at s.rows.now s.start _ _ c.gcd-g.result h a b _ c.gcd-g.ensures c.combine.ensures.0 c.combine.ensures.1

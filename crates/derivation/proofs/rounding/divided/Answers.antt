@@ -1,5 +1,5 @@
 -- `linear::rounding::divided` meets its contract: the constant and the first i coefficients are divided. Assumes nothing.
-use Prim.Native.Nat.{◌≤◌, ◌-◌, ◌+◌}
+use Prim.Native.Nat.{◌+◌}
 use native.Mathlib.Omega.{arith}
 use mathlib.Core.Path.{◌≡◌, ap, ◌∙◌}
 use borrow.Author.Rules.{rules, sfits_of}
@@ -7,9 +7,8 @@ use lib.IntN.{ℤ}
 use mir.Facts.{to_z-of_z}
 use mir.Syntax.{w64}
 use Rattle.model_problems.specs.Division.{ceil_div, exact_div}
-use Rattle.layout.specs.Rows.{number_in, cell}
 use Rattle.layout.proofs.Elements.{number_read, cell-read}
-use Rattle.layout.proofs.Filled.{Filled, fill-constant, fill-coefficient}
+use Rattle.layout.proofs.Filled.{fill-constant, fill-coefficient}
 use Rattle.derivation.proofs.RoundingLaws.{divided-row}
 use Rattle.derivation.proofs.rounding.divided.Goals as goal
 

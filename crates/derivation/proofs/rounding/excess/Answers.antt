@@ -1,8 +1,7 @@
 -- `linear::rounding::excess` meets its contract. Assumes nothing.
-use Prim.Native.Nat.{◌≤◌, ◌-◌, ◌+◌}
+use Prim.Native.Nat.{◌+◌}
 use native.Mathlib.Omega.{arith}
 use mathlib.Core.Path.{ap, ◌∙◌}
-use borrow.Author.Rules.{rules}
 use lib.IntN.{nat_abs}
 use Rattle.layout.proofs.Elements.{cell-read}
 use Rattle.derivation.proofs.RoundingLaws.{excess-at, excess-none}

@@ -1,11 +1,5 @@
 -- `linear::rounding::excess` meets its contract. Assumes nothing.
-use Prim.Native.Nat.{◌≤◌, ◌-◌, ◌+◌}
-use native.Mathlib.Omega.{arith}
-use mathlib.Core.Path.{ap, ◌∙◌}
-use borrow.Author.Rules.{rules}
-use lib.IntN.{nat_abs}
-use Rattle.layout.proofs.Elements.{cell-read}
-use Rattle.derivation.proofs.RoundingLaws.{excess-at, excess-none}
+use Prim.Native.Nat.{◌≤◌, ◌-◌}
 use Rattle.derivation.proofs.rounding.excess.Given as goal
 
 abbrev pub invariant-loop-i : goal.invariant-loop-i

@@ -1,7 +1,6 @@
 -- `linear::rounding::round` meets its contract. Assumes nothing.
 use native.Mathlib.Omega.{arith}
 use mathlib.Core.Path.{sym, ◌∙◌}
-use borrow.Author.Rules.{rules}
 use Rattle.integer.specs.Divisor.{above-none}
 use Rattle.layout.proofs.Rows.{row_plain}
 use Rattle.derivation.proofs.Sizes.{divisor-sized}

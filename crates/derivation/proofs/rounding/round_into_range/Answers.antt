@@ -1,14 +1,11 @@
 -- `linear::rounding::round_into_range` meets its contract. Assumes nothing.
 use native.Mathlib.Omega.{arith}
 use mathlib.Core.Logic.{inl}
-use mathlib.Core.Path.{◌≡◌, ◌∙◌}
+use mathlib.Core.Path.{◌∙◌}
 use borrow.Author.Rules.{rules}
-use Rattle.model_problems.specs.Constraint.{common_divisor}
-use Rattle.layout.specs.Rows.{constraint_at}
 use Rattle.layout.proofs.Rows.{row_plain}
 use Rattle.derivation.proofs.Sizes.{divisor-sized}
 use Rattle.derivation.proofs.RoundingLaws.{left-none, left_one, above-is, rounded-by}
-use Rattle.derivation.proofs.rounding.round_into_range.Tie as tie
 use Rattle.derivation.proofs.rounding.round_into_range.Goals as goal
 
 pub returns-then-h-eq0 : goal.returns-then-h-eq0
@@ -18,13 +15,12 @@ pub returns-then-h-eq1 : goal.returns-then-h-eq1
 returns-then-h-eq1 c = record { size = search rules; same = left_one _ _ _ (row_plain _ _ _) c.excess-least.ensures c.divisor-h.ensures c.if-h-eq1.true }
 
 -- ---- past the two tests it is the divisor
-divisor-is : (c : tie.Else2) → let s = c in c.divisor-h.result ≡ common_divisor (constraint_at s.args.n s.args.c.now 0).coefficients
-divisor-is c = above-is _ _ _ (row_plain _ _ _) c.excess-least.ensures c.divisor-h.ensures c.if-h-eq1.false
-
 pub divided-requires : goal.divided-requires
 divided-requires c =
-    let s = c in
-    (s.requires.0, omega (arith, c.if-h-eq0.false, divisor-is c.before, divisor-sized _ s.requires.1.1))
+    let h = above-is _ _ _ (row_plain _ _ _) c.excess-least.ensures c.divisor-h.ensures c.if-h-eq1.false in
+    (c.requires.0, omega (arith, c.if-h-eq0.false, h, divisor-sized _ c.requires.1.1))
 
 pub returns : goal.returns
-returns c = record { size = search rules; same = inl (c.divided.ensures ∙ rounded-by _ _ (row_plain _ _ _) (divisor-is c.before.before)) }
+returns c =
+    let h = above-is _ _ _ (row_plain _ _ _) c.excess-least.ensures c.divisor-h.ensures c.if-h-eq1.false in
+    record { size = search rules; same = inl (c.divided.ensures ∙ rounded-by _ _ (row_plain _ _ _) h) }
