@@ -1,6 +1,6 @@
 -- A level's bounds inside those of the level above, bottom and top, and its decision.
 use Prim.Native.Nat.{ℕ, ◌+◌, ◌<◌, ◌≤◌}
-use mathlib.Core.Bool.{Bool, true, false, not}
+use mathlib.Core.Bool.{Bool, true, false}
 use mathlib.Core.List.{List}
 use mathlib.Core.Path.{◌≡◌, sym, ◌∙◌}
 use lib.IntN.{ℤ, pos}
@@ -9,7 +9,6 @@ use lib.ListN.{get_or}
 use mir.Syntax.{w64}
 use mir.Val.{SFits}
 use mir.Facts.{to_z-of_z}
-use borrow.Author.Tests.{not-true, not-false}
 use Rattle.model_walk.specs.Validity.{inside, box_inside}
 use Rattle.integer.specs.Tests.{lt_z-true, lt_z-false, lt-le_z, le-le_z}
 use Rattle.layout.specs.Rows.{number_in, bounds_at, box_of}

@@ -2,13 +2,12 @@
 use Prim.Native.Nat.{ℕ, zero, suc, ◌+◌, ◌<◌, ◌≤◌}
 use native.Mathlib.Omega.{arith}
 use native.Mathlib.Numerals.{add-one}
-use mathlib.Core.Bool.{Bool, true, false, not, ◌&&◌, and_assoc, and-false}
+use mathlib.Core.Bool.{Bool, true, false, ◌&&◌, and_assoc, and-false}
 use mathlib.Core.List.{List}
 use mathlib.Core.Logic.{⊎_elim}
 use mathlib.Core.Path.{◌≡◌, refl, sym, ◌∙◌}
 use lib.IntN.{ℤ}
 use lib.ListN.{get_or, length}
-use borrow.Author.Tests.{not-true, not-false}
 use Rattle.model_problems.specs.Lists.{tab, all_of, all_pairs}
 use Rattle.model_problems.specs.Ranges.{max_variables}
 use Rattle.model_problems.specs.Problem.{bounds_in_range}

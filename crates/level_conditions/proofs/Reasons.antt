@@ -1,12 +1,12 @@
 -- The test of one reason, and the loop over a level's reasons.
 use Prim.Native.Nat.{ℕ, ◌+◌, ◌<◌, ◌≤◌}
 use native.Mathlib.Omega.{arith}
-use mathlib.Core.Bool.{Bool, true, false, not}
+use mathlib.Core.Bool.{Bool, true, false}
 use mathlib.Core.List.{List}
 use mathlib.Core.Path.{◌≡◌}
 use lib.Dec.{leb}
 use lib.ListN.{get_or}
-use borrow.Author.Tests.{le-leb, eq-eqb, ne_eqb, not-true, not-false}
+use borrow.Author.Tests.{le-leb, eq-eqb, ne_eqb}
 use Rattle.model_problems.specs.Lists.{tab, all_of}
 use Rattle.model_walk.specs.Validity.{reason_valid, reasons_valid}
 use Rattle.state.specs.View.{reason_of, reasons_in, domain_reason, decision_reason, flipped_reason}

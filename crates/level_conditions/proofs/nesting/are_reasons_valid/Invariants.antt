@@ -1,7 +1,6 @@
 -- `level_conditions::nesting::are_reasons_valid` meets its contract: the reasons below i have passed. Assumes nothing.
 use Prim.Native.Nat.{◌-◌, ◌≤◌}
-use Rattle.level_conditions.proofs.Reasons.{above-fails, below_fails, reasons-end, reasons-more, reasons-none, reasons_to}
-use borrow.Author.Rules.{rules}
+use Rattle.level_conditions.proofs.Reasons.{reasons_to}
 use mathlib.Core.Bool.{true}
 use mathlib.Core.Path.{◌≡◌}
 use Rattle.level_conditions.proofs.nesting.are_reasons_valid.Given as goal

@@ -1,12 +1,6 @@
 -- `level_conditions::nesting::is_box_in_range` meets its contract: the bounds below i have passed. Assumes nothing.
-use Prim.Native.Nat.{◌-◌, ◌≤◌}
-use Rattle.layout.specs.Rows.{box_of}
-use Rattle.model_problems.specs.Lists.{all_of}
-use Rattle.model_problems.specs.Problem.{bounds_in_range}
 use Rattle.layout.proofs.Ranges.{box-end, box-fails, box-more, box-none}
 use borrow.Author.Rules.{rules}
-use mathlib.Core.Bool.{true}
-use mathlib.Core.Path.{◌≡◌}
 use Rattle.level_conditions.proofs.nesting.is_box_in_range.Goals as goal
 
 pub loop-i-init : goal.loop-i-init

@@ -2,8 +2,6 @@
 use Prim.Native.Nat.{◌-◌, ◌≤◌}
 use Rattle.layout.specs.Rows.{box_of}
 use Rattle.model_walk.specs.Validity.{box_inside}
-use Rattle.level_conditions.proofs.Inside.{inside-end, inside-fails, inside-more, inside-none}
-use borrow.Author.Rules.{rules}
 use mathlib.Core.Bool.{true}
 use mathlib.Core.Path.{◌≡◌}
 use Rattle.level_conditions.proofs.nesting.is_box_inside.Given as goal
