@@ -1,7 +1,7 @@
 -- The tests of the sizes, one after the other, and what it tells that they passed.
 use Prim.Native.Nat.{ℕ, ◌<◌, ◌≤◌}
 use native.Mathlib.Omega.{arith}
-use mathlib.Core.Bool.{Bool, true, false, not, and-true as and_one}
+use mathlib.Core.Bool.{Bool, true, false, and-true as and_one}
 use mathlib.Core.Path.{◌≡◌, sym}
 use lib.Dec.{leb}
 use borrow.Author.Tests.{lt-leb, le-leb, leb-true}

@@ -1,12 +1,6 @@
 -- `conditions::constraints::is_any_falsified` meets its contract: no constraint before row j is falsified. Assumes nothing.
-use Prim.Native.Nat.{◌-◌, ◌≤◌}
-use Rattle.layout.specs.Rows.{box_of}
-use Rattle.model_problems.specs.Lists.{any_of, tab}
-use Rattle.model_walk.specs.Validity.{falsifies}
-use Rattle.state.specs.View.{kept_at}
 use Rattle.conditions.proofs.RowLoops.{clear-end, clear-more, clear_none, falsified-found, row-passed, divisor-passed}
-use mathlib.Core.Bool.{false}
-use mathlib.Core.Path.{◌≡◌, ◌∙◌}
+use mathlib.Core.Path.{◌∙◌}
 use mir.Facts.{to_z-of_z}
 use mir.Syntax.{w64}
 use borrow.Author.Rules.{rules, sfits_of}
@@ -15,8 +9,11 @@ use Rattle.conditions.proofs.constraints.is_any_falsified.Goals as goal
 pub loop-j-init : goal.loop-j-init
 loop-j-init c = search (rules, clear_none)
 
-pub is_falsified-requires : goal.is_falsified-requires
-is_falsified-requires c = search record { divisor_fits = rules; row_fits = row-passed; box_fits = divisor-passed }
+pub is_falsified-requires-clause-row_fits : goal.is_falsified-requires-clause-row_fits
+is_falsified-requires-clause-row_fits c = search (rules, row-passed)
+
+pub is_falsified-requires-clause-divisor_fits : goal.is_falsified-requires-clause-divisor_fits
+is_falsified-requires-clause-divisor_fits c = search (rules, divisor-passed)
 
 pub returns-then-is_falsified : goal.returns-then-is_falsified
 returns-then-is_falsified c = search (rules, falsified-found)

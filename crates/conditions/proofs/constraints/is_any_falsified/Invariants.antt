@@ -4,12 +4,8 @@ use Rattle.layout.specs.Rows.{box_of}
 use Rattle.model_problems.specs.Lists.{any_of, tab}
 use Rattle.model_walk.specs.Validity.{falsifies}
 use Rattle.state.specs.View.{kept_at}
-use Rattle.conditions.proofs.RowLoops.{clear-end, clear-more, clear_none, falsified-found, row-passed, divisor-passed}
 use mathlib.Core.Bool.{false}
-use mathlib.Core.Path.{◌≡◌, ◌∙◌}
-use mir.Facts.{to_z-of_z}
-use mir.Syntax.{w64}
-use borrow.Author.Rules.{rules, sfits_of}
+use mathlib.Core.Path.{◌≡◌}
 use Rattle.conditions.proofs.constraints.is_any_falsified.Given as goal
 
 abbrev pub invariant-loop-j : goal.invariant-loop-j

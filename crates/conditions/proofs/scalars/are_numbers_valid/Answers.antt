@@ -1,9 +1,6 @@
 -- `conditions::scalars::are_numbers_valid` meets its contract: the numbers below p have passed. Assumes nothing.
-use Prim.Native.Nat.{◌-◌, ◌≤◌}
 use Rattle.conditions.proofs.Numbers.{numbers-end, numbers-fail, numbers_more, numbers-none, numbers_to}
 use borrow.Author.Rules.{rules}
-use mathlib.Core.Bool.{true}
-use mathlib.Core.Path.{◌≡◌}
 use Rattle.conditions.proofs.scalars.are_numbers_valid.Goals as goal
 
 pub loop-p-init : goal.loop-p-init

@@ -1,7 +1,6 @@
 -- `conditions::scalars::are_numbers_valid` meets its contract: the numbers below p have passed. Assumes nothing.
 use Prim.Native.Nat.{◌-◌, ◌≤◌}
-use Rattle.conditions.proofs.Numbers.{numbers-end, numbers-fail, numbers_more, numbers-none, numbers_to}
-use borrow.Author.Rules.{rules}
+use Rattle.conditions.proofs.Numbers.{numbers_to}
 use mathlib.Core.Bool.{true}
 use mathlib.Core.Path.{◌≡◌}
 use Rattle.conditions.proofs.scalars.are_numbers_valid.Given as goal

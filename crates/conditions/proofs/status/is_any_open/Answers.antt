@@ -1,12 +1,6 @@
 -- `conditions::status::is_any_open` meets its contract: no variable below i is open. Assumes nothing.
-use Prim.Native.Nat.{◌-◌, ◌≤◌}
-use Rattle.layout.specs.Rows.{box_of}
-use Rattle.model_problems.specs.Lists.{any_of}
-use Rattle.model_problems.specs.Constraint.{is_open}
 use Rattle.conditions.proofs.Marks.{open-end, open-found, open_more, open_none}
 use borrow.Author.Rules.{rules}
-use mathlib.Core.Bool.{false}
-use mathlib.Core.Path.{◌≡◌}
 use Rattle.conditions.proofs.status.is_any_open.Goals as goal
 
 pub loop-i-init : goal.loop-i-init

@@ -3,8 +3,6 @@ use Prim.Native.Nat.{◌-◌, ◌≤◌}
 use Rattle.layout.specs.Rows.{box_of}
 use Rattle.model_problems.specs.Lists.{any_of}
 use Rattle.model_problems.specs.Constraint.{is_open}
-use Rattle.conditions.proofs.Marks.{open-end, open-found, open_more, open_none}
-use borrow.Author.Rules.{rules}
 use mathlib.Core.Bool.{false}
 use mathlib.Core.Path.{◌≡◌}
 use Rattle.conditions.proofs.status.is_any_open.Given as goal
