@@ -1,6 +1,5 @@
 -- Rounding does not make a constraint false: its lowest value is its value at a point, and rounding keeps the points that meet it.
 use Prim.Native.Nat.{ℕ, zero, suc, ◌/◌}
-use native.Mathlib.Omega.{arith}
 use mathlib.Core.Bool.{false}
 use mathlib.Core.List.{List, [], ◌∷◌, map}
 use mathlib.Core.Path.{◌≡◌, refl, sym, ap, ap₂, ◌∙◌}

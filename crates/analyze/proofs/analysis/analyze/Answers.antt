@@ -3,9 +3,8 @@ use native.Mathlib.Omega.{arith}
 use mathlib.Core.Path.{◌≡◌, refl}
 use mathlib.Core.List.{[]}
 use borrow.Author.Rules.{rules}
-use lib.ListN.{length}
-use Rattle.layout.specs.Rows.{row_length, row_at}
-use Rattle.analyze.proofs.Resolvents.{Analyzing, position-most, kept-range, analysis-start, analysis-step, analysis-end}
+use Rattle.layout.specs.Rows.{row_at}
+use Rattle.analyze.proofs.Resolvents.{position-most, kept-range, analysis-start, analysis-step, analysis-end}
 use Rattle.analyze.proofs.analysis.analyze.Goals as goal
 
 pub overflow_mul-j : goal.overflow_mul-j

@@ -1,11 +1,8 @@
 -- `analyze::analysis::analyze` meets its contract: what is ahead of the model's analysis at variable i is what is ahead of the code's. Assumes nothing.
-use native.Mathlib.Omega.{arith}
-use mathlib.Core.Path.{◌≡◌, refl}
-use mathlib.Core.List.{[]}
-use borrow.Author.Rules.{rules}
+use mathlib.Core.Path.{◌≡◌}
 use lib.ListN.{length}
 use Rattle.layout.specs.Rows.{row_length, row_at}
-use Rattle.analyze.proofs.Resolvents.{Analyzing, position-most, kept-range, analysis-start, analysis-step, analysis-end}
+use Rattle.analyze.proofs.Resolvents.{Analyzing}
 use Rattle.analyze.proofs.analysis.analyze.Given as goal
 
 abbrev pub invariant-loop-i : goal.invariant-loop-i

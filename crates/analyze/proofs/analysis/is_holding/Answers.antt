@@ -1,6 +1,7 @@
 -- `analyze::analysis::is_holding` meets its contract. Assumes nothing.
 use native.Mathlib.Omega.{arith}
 use mathlib.Core.Path.{refl}
+use borrow.Author.Tests.{not-true}
 use borrow.Author.Rules.{rules}
 use Rattle.lists.proofs.Bools.{clash, true_of, said-no, said-yes}
 use Rattle.linear.proofs.Ranges.{row_fits, box-fits}
@@ -18,4 +19,4 @@ is_falsified-requires c =
 pub returns : goal.returns
 returns c =
     let e = c in
-    λ t. (said-yes e.is_in_range.ensures e.if-not-is_in_range.false, said-no c.is_falsified.ensures t)
+    λ t. (said-yes e.is_in_range.ensures e.if-not-is_in_range.false, said-no c.is_falsified.ensures (not-true _ t))
