@@ -1,11 +1,10 @@
 -- The whole test, part by part: each module adds a part that passed, as the code knows it.
 use Prim.Native.Nat.{ℕ, ◌+◌, ◌-◌, ◌≤◌, ◌<◌}
 use native.Mathlib.Omega.{arith}
-use mathlib.Core.Bool.{Bool, true, false, not, ◌&&◌, and-false, and-true as and_one}
+use mathlib.Core.Bool.{Bool, true, false, ◌&&◌, and-false, and-true as and_one}
 use mathlib.Core.Path.{◌≡◌, refl, sym, ap}
 use lib.Dec.{leb}
 use lib.ListN.{get_or}
-use borrow.Author.Tests.{not-true, not-false}
 use Rattle.model_problems.specs.Lists.{tab, all, all_of}
 use Rattle.model_problems.specs.Ranges.{max_cuts, max_propagations}
 use Rattle.model_problems.specs.Constraint.{in_range, divisor_in_range}
