@@ -19,17 +19,17 @@ pub loop-i-init : goal.loop-i-init
 loop-i-init c = search (rules, none-placed)
 
 pub put_i32-requires-in-loop-i : goal.put_i32-requires-in-loop-i
-put_i32-requires-in-loop-i c = (search rules, coefficient-room _ _ _ _ c.loop-i-test.true c.requires.2 (sfits_of c.put_i32-arg-in-loop-i-2-1.given))
+put_i32-requires-in-loop-i c = (search rules, coefficient-room _ _ _ _ c.loop-i-test.true c.requires.2 (search rules))
 
 pub loop-i-preserved : goal.loop-i-preserved
 loop-i-preserved c = (
   search rules,
-  omega (arith, c.put_i32-in-loop-i.auto.0, c.loop-i.invariant.1),
+  omega (arith, c.put_i32-in-loop-i.auto.s, c.loop-i.invariant.1),
   coefficients-more _ _ _ _
       c.loop-i-test.true
       _
       c.number_offset-in-loop-i.ensures
-      (sfits_of c.put_i32-arg-in-loop-i-2-1.given)
+      (search rules)
       c.loop-i.invariant.2
       c.put_i32-in-loop-i.ensures,
 )
