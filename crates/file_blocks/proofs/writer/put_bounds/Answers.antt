@@ -19,18 +19,18 @@ pub put_i32-requires : goal.put_i32-requires
 put_i32-requires c = search (rules, lower-room)
 
 pub put_i32-requires-in-loop-i : goal.put_i32-requires-in-loop-i
-put_i32-requires-in-loop-i c = (search rules, upper-room _ _ c.loop-i-test.true c.requires.1 (sfits_of c.put_i32-arg-in-loop-i-3-1.given))
+put_i32-requires-in-loop-i c = (search rules, upper-room _ _ c.loop-i-test.true c.requires.1 (search rules))
 
 pub loop-i-preserved : goal.loop-i-preserved
 loop-i-preserved c = (
   search rules,
-  omega (arith, c.put_i32-in-loop-i.auto.0, c.put_i32.auto.0, c.loop-i.invariant.1),
+  omega (arith, c.put_i32-in-loop-i.auto.s, c.put_i32.auto.s, c.loop-i.invariant.1),
   bounds-more _ _
       c.loop-i-test.true
       _
       c.bounds_offset-at.ensures.0
-      (sfits_of c.put_i32-arg-in-loop-i-1.given)
-      (sfits_of c.put_i32-arg-in-loop-i-3-1.given)
+      (search rules)
+      (search rules)
       c.loop-i.invariant.2
       c.put_i32.ensures
       c.put_i32-in-loop-i.ensures,
