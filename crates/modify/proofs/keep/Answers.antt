@@ -1,11 +1,11 @@
 -- `modify::keep` meets its contract: what it has put in are those of the first j constraints that the mask keeps. Assumes nothing.
 use Prim.Native.Nat.{◌≤◌, ◌-◌}
 use native.Mathlib.Omega.{arith}
-use mathlib.Core.Logic.{⊎_elim}
 use borrow.Author.Rules.{rules}
 use Rattle.layout.proofs.Elements.{number_read}
 use Rattle.modify.proofs.Keeping.{Keeps, keep-none, keep-end, keep-variables, keep-room, keep-skip, keep-more}
 use Rattle.modify.proofs.keep.Goals as goal
+use Rattle.modify.proofs.keep.Goals.{then-mask-j, else-mask-j}
 
 pub loop-j-init : goal.loop-j-init
 loop-j-init c = (omega arith, keep-none _ _ _ _)
@@ -25,10 +25,10 @@ loop-j-preserved c =
     let j = l.loop-j.j in
     let h = l.loop-j.invariant.1 in (
       omega arith,
-      ⊎_elim
-          (λ w. rw w.7 (keep-more p _ s j h _ _ _ w.0.taken w.4.ensures.same (number_read p.divisors j w.5.given) w.6.ensures))
-          (λ w. rw w.1 (keep-skip p _ s j h w.0.left))
-          c.if-mask-j.branch,
+      elim c.if-mask-j.branch [
+        | then-mask-j w ↦ rw w.smaller-is (keep-more p _ s j h _ _ _ w.if-mask-j.true w.copy_row-row.ensures.same (number_read p.divisors j (search rules)) w.append-smaller.ensures)
+        | else-mask-j w ↦ rw w.smaller-is (keep-skip p _ s j h w.if-mask-j.false)
+      ],
     )
 
 pub returns : goal.returns

@@ -17,7 +17,7 @@ loop-i-preserved c =
     let l = c.loop-i in
     let s = c in (
       omega arith,
-      place-more (row_length * s.args.j) _ _ l.i l.rows _ (omega (arith, s.requires)) (number_read s.args.row.now l.i c.v-1.given) l.invariant.1,
+      place-more (row_length * s.args.j) _ _ l.i l.rows _ (omega (arith, s.requires)) (number_read s.args.row.now l.i (search rules)) l.invariant.1,
     )
 
 pub returns : goal.returns
