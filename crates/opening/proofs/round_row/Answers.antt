@@ -39,4 +39,4 @@ returns c =
     let s = r in
     let a = s.args in
     round-more a.n s.requires.0 _ _ _ a.j c.store_row-2.ensures a.constraints.now a.divisors.now s.requires.1.1.1
-    (same (sfits_of t.t14-1.given) (fits (lit< tt) (size (pos 0))) t.if-divisors-j-ne0.false) (d.round-rounded.ensures ∙ ap rounded r.copy_row-row.ensures.same)
+    (same (search rules) (fits (lit< tt) (size (pos 0))) t.if-divisors-j-ne0.false) (d.round-rounded.ensures ∙ ap rounded r.copy_row-row.ensures.same)
