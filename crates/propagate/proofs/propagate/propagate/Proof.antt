@@ -91,7 +91,7 @@ found c =
 tracked : (c : tie.After-first_improvement-better invariant-loop decreases-loop) →
     let l = c in
     let a = l.args in
-    Tracked a.n a.rows.now l.loop-falsified.lower l.loop-falsified.upper l.loop-falsified.activities c.first_improvement-better.new.1.1.1.1.1.1.1.1.1.1.0 (a.m + kept_cuts a.made)
+    Tracked a.n a.rows.now l.loop-falsified.lower l.loop-falsified.upper l.loop-falsified.activities c.first_improvement-better.new.reaches (a.m + kept_cuts a.made)
 tracked c = rw c.kept_count-kept.ensures at c.first_improvement-better.ensures.1
 
 -- no constraint is falsified, so what the scan found is the next move
@@ -109,17 +109,17 @@ enum-known-better c = search rules
 raise-move : (c : tie.In-Lower invariant-loop decreases-loop) →
     let l = c in
     let a = l.args in
-    let g = c.better-1.given.0 in
-    new_lower g.0 g.1.0 g.1.1.0 ≡ next_move (kept_over a.n a.m a.made a.rows.now a.lines.now a.divisors.now) (box_of a.n l.loop-falsified.lower l.loop-falsified.upper)
+    let g = c.in-Lower in
+    new_lower g.j g.i g.v ≡ next_move (kept_over a.n a.m a.made a.rows.now a.lines.now a.divisors.now) (box_of a.n l.loop-falsified.lower l.loop-falsified.upper)
 unfolding found_of
-raise-move c = chosen c.before.before.before _ (sym (ap found_of c.better-1.given.1))
+raise-move c = chosen c.before _ (sym (ap found_of c.in-Lower.is))
 
 raise-level : (c : tie.In-Lower invariant-loop decreases-loop) (d : ℕ) →
     let l = c in
     let a = l.args in
-    let g = c.better-1.given.0 in
+    let g = c.in-Lower in
     let k = held l.loop-falsified.lower l.loop-falsified.upper l.loop-falsified.below l.loop-falsified.above d in
-    Next a.thresholds.now (kept_over a.n a.m a.made a.rows.now a.lines.now a.divisors.now) a.n a.m a.made a.rows.now k g.0 g.1.0 (raised k g.1.0 (lifted (number_in a.thresholds.now g.1.0) g.1.1.0) (number_for a.m a.made g.0))
+    Next a.thresholds.now (kept_over a.n a.m a.made a.rows.now a.lines.now a.divisors.now) a.n a.m a.made a.rows.now k g.j g.i (raised k g.i (lifted (number_in a.thresholds.now g.i) g.v) (number_for a.m a.made g.j))
 raise-level c d =
     let l = c in
     raise-next _ _ _ _ _ _ (length_over _ _ _ _ _ _) (held l.loop-falsified.lower l.loop-falsified.upper l.loop-falsified.below l.loop-falsified.above d) (ready_at d l.loop-falsified.invariant.ready) l.loop-falsified.invariant.gap_free _ _ _ (raise-move c)
@@ -142,16 +142,16 @@ lift-requires c κs = search rules
 raised-to : (c : tie.After-lift-raised invariant-loop decreases-loop) →
     let t = c in
     let l = c in
-    let g = t.better-1.given.0 in
-    to_z w64 (of_z w64 c.lift-raised.result) ≡ lifted (number_in l.args.thresholds.now g.1.0) g.1.1.0
+    let g = t.in-Lower in
+    to_z w64 (of_z w64 c.lift-raised.result) ≡ lifted (number_in l.args.thresholds.now g.i) g.v
 unfolding number_in
 raised-to c =
     let t = c in
     let l = c in
-    let g = t.better-1.given.0 in
+    let g = t.in-Lower in
     let r : SFits w64 c.lift-raised.result = search rules in
-    let v : SFits w64 g.1.1.0 = search rules in
-    let u : SFits w64 (get_or l.args.thresholds.now g.1.0 (pos 0)) = search rules in
+    let v : SFits w64 g.v = search rules in
+    let u : SFits w64 (get_or l.args.thresholds.now g.i (pos 0)) = search rules in
     to_z-of_z r ∙ rw (to_z-of_z v, to_z-of_z u) at c.lift-raised.ensures
 
 raise-lower-requires : tie.Need-raise_lower-first-requires invariant-loop decreases-loop
@@ -161,7 +161,7 @@ raise-lower-requires c κs =
     let l = c in
     let k = held l.loop-falsified.lower l.loop-falsified.upper l.loop-falsified.below l.loop-falsified.above 0 in
     rw (l.kept_count-kept.ensures, raised-to c.before.before.before)
-    (raise-settable _ _ _ _ _ _ (length_over _ _ _ _ _ _) k l.loop-falsified.invariant.ready l.loop-falsified.invariant.gap_free _ _ _ (raise-move c.before.before.before.before.before.before), shiftable _ _ _ _ _ _ _ _ _ _ (scan-fits _ _ _ _ k l.loop-falsified.invariant.ready) (tracked c.before.before.before.before.before.before.before.before.before) (raise-level c.before.before.before.before.before.before 0).variable (raise-rise _ _ _ _ _ _ (length_over _ _ _ _ _ _) k l.loop-falsified.invariant.ready l.loop-falsified.invariant.gap_free _ _ _ (raise-move c.before.before.before.before.before.before)) (record { within = omega arith }))
+    (raise-settable _ _ _ _ _ _ (length_over _ _ _ _ _ _) k l.loop-falsified.invariant.ready l.loop-falsified.invariant.gap_free _ _ _ (raise-move c.before.before.before.before.before.before), shiftable _ _ _ _ _ _ _ _ _ _ (scan-fits _ _ _ _ k l.loop-falsified.invariant.ready) (tracked c.before.before.before.before.before.before.before) (raise-level c.before.before.before.before.before.before 0).variable (raise-rise _ _ _ _ _ _ (length_over _ _ _ _ _ _) k l.loop-falsified.invariant.ready l.loop-falsified.invariant.gap_free _ _ _ (raise-move c.before.before.before.before.before.before)) (record { within = omega arith }))
 
 mul-due : tie.Need-offset_bounds-columns-i invariant-loop decreases-loop
 mul-due c = omega (arith, (raise-level c.before.before.before.before.before.before.before 0).variable, (raise-level c.before.before.before.before.before.before.before 0).ready.few)
@@ -197,17 +197,17 @@ loop-again c =
     let t = c in
     let l = c in
     let a = l.args in
-    let g = t.better-1.given.0 in
+    let g = t.in-Lower in
     let q = l.requires.1.1.0 in
-    let w = lifted (number_in a.thresholds.now g.1.0) g.1.1.0 in
+    let w = lifted (number_in a.thresholds.now g.i) g.v in
     let room : a.n ≤ length l.loop-falsified.lower = omega (arith, l.loop-falsified.invariant.ready.few, l.loop-falsified.invariant.ready.whole.lower) in
     let e = rw (l.kept_count-kept.ensures, raised-to c.before.before.before.before.before.before.before) at r.raise_lower-first.ensures.1 in
     let f = rw (r.raise_lower-first.ensures.0.bound, raised-to c.before.before.before.before.before.before.before) at c.first_indivisible-falsified.ensures in
-    rw (r.raise_lower-first.ensures.0.bound, r.raise_lower-first.ensures.0.why, jump.number_of_lem.ensures, raised-to c.before.before.before.before.before.before.before)
-    (loop-set _ _ _ _ _ _ _ _ _ _ _ _ _ _ _ _ _ _ _ _ l.loop-falsified.invariant _ _ _ _ _ _ g.1.0 g.0 _ _ _ _ (raise-level c.before.before.before.before.before.before.before.before.before.before) (tracked c.before.before.before.before.before.before.before.before.before.before.before.before.before)
-    (raised-closes a.n _ _ _ g.1.0 w (raise-level c.before.before.before.before.before.before.before.before.before.before 0).variable room (raise-better _ _ _ _ _ _ (length_over _ _ _ _ _ _) (held l.loop-falsified.lower l.loop-falsified.upper l.loop-falsified.below l.loop-falsified.above 0) l.loop-falsified.invariant.ready l.loop-falsified.invariant.gap_free _ _ _ (raise-move c.before.before.before.before.before.before.before.before.before.before))) e
-    (λ told. warned _ _ _ _ _ _ _ _ _ _ q.0 _ _ _ (Unmentioned a.lines.now g.1.0) told f (q.1.at g.1.0 (raise-level c.before.before.before.before.before.before.before.before.before.before 0).variable)
-    (λ j h z. rw (box-lower a.n l.loop-falsified.lower l.loop-falsified.upper g.1.0 w (raise-level c.before.before.before.before.before.before.before.before.before.before 0).variable (omega (arith, (raise-level c.before.before.before.before.before.before.before.before.before.before 0).variable, room))) (raise-spared _ _ _ _ _ _ (all-clear _ _ _ _ _ _ _ _ _ _ (clear c.before.before.before.before.before.before.before.before.before.before.before.before.before.before.before)) g.1.0 w (raise-level c.before.before.before.before.before.before.before.before.before.before 0).variable j h z))))
+    rw (r.raise_lower-first.ensures.0.bound, r.raise_lower-first.ensures.0.why, jump.number_of-number.ensures, raised-to c.before.before.before.before.before.before.before)
+    (loop-set _ _ _ _ _ _ _ _ _ _ _ _ _ _ _ _ _ _ _ _ l.loop-falsified.invariant _ _ _ _ _ _ g.i g.j _ _ _ _ (raise-level c.before.before.before.before.before.before.before.before.before.before) (tracked c.before.before.before.before.before.before.before.before.before.before.before)
+    (raised-closes a.n _ _ _ g.i w (raise-level c.before.before.before.before.before.before.before.before.before.before 0).variable room (raise-better _ _ _ _ _ _ (length_over _ _ _ _ _ _) (held l.loop-falsified.lower l.loop-falsified.upper l.loop-falsified.below l.loop-falsified.above 0) l.loop-falsified.invariant.ready l.loop-falsified.invariant.gap_free _ _ _ (raise-move c.before.before.before.before.before.before.before.before.before.before))) e
+    (λ told. warned _ _ _ _ _ _ _ _ _ _ q.0 _ _ _ (Unmentioned a.lines.now g.i) told f (q.1.at g.i (raise-level c.before.before.before.before.before.before.before.before.before.before 0).variable)
+    (λ j h z. rw (box-lower a.n l.loop-falsified.lower l.loop-falsified.upper g.i w (raise-level c.before.before.before.before.before.before.before.before.before.before 0).variable (omega (arith, (raise-level c.before.before.before.before.before.before.before.before.before.before 0).variable, room))) (raise-spared _ _ _ _ _ _ (all-clear _ _ _ _ _ _ _ _ _ _ (clear c.before.before.before.before.before.before.before.before.before.before.before.before.before)) g.i w (raise-level c.before.before.before.before.before.before.before.before.before.before 0).variable j h z))))
 
 enum-known-better-2 : tie.Need-enum_known-better-in-Upper-1 invariant-loop decreases-loop
 enum-known-better-2 c = search rules
@@ -216,17 +216,17 @@ enum-known-better-2 c = search rules
 lower-move : (c : tie.In-Upper invariant-loop decreases-loop) →
     let l = c in
     let a = l.args in
-    let g = c.better-in-Upper-1.given.0 in
-    new_upper g.0 g.1.0 g.1.1.0 ≡ next_move (kept_over a.n a.m a.made a.rows.now a.lines.now a.divisors.now) (box_of a.n l.loop-falsified.lower l.loop-falsified.upper)
+    let g = c.in-Upper in
+    new_upper g.j g.i g.v ≡ next_move (kept_over a.n a.m a.made a.rows.now a.lines.now a.divisors.now) (box_of a.n l.loop-falsified.lower l.loop-falsified.upper)
 unfolding found_of
-lower-move c = chosen c.before.before.before _ (sym (ap found_of c.better-in-Upper-1.given.1))
+lower-move c = chosen c.before _ (sym (ap found_of c.in-Upper.is))
 
 lower-level : (c : tie.In-Upper invariant-loop decreases-loop) (d : ℕ) →
     let l = c in
     let a = l.args in
-    let g = c.better-in-Upper-1.given.0 in
+    let g = c.in-Upper in
     let k = held l.loop-falsified.lower l.loop-falsified.upper l.loop-falsified.below l.loop-falsified.above d in
-    Next a.thresholds.now (kept_over a.n a.m a.made a.rows.now a.lines.now a.divisors.now) a.n a.m a.made a.rows.now k g.0 g.1.0 (lowered k g.1.0 (sunk (number_in a.thresholds.now g.1.0) g.1.1.0) (number_for a.m a.made g.0))
+    Next a.thresholds.now (kept_over a.n a.m a.made a.rows.now a.lines.now a.divisors.now) a.n a.m a.made a.rows.now k g.j g.i (lowered k g.i (sunk (number_in a.thresholds.now g.i) g.v) (number_for a.m a.made g.j))
 lower-level c d =
     let l = c in
     lower-next _ _ _ _ _ _ (length_over _ _ _ _ _ _) (held l.loop-falsified.lower l.loop-falsified.upper l.loop-falsified.below l.loop-falsified.above d) (ready_at d l.loop-falsified.invariant.ready) l.loop-falsified.invariant.gap_free _ _ _ (lower-move c)
@@ -249,16 +249,16 @@ sink-requires c κs = search rules
 lowered-to : (c : tie.After-sink-lowered invariant-loop decreases-loop) →
     let t = c in
     let l = c in
-    let g = t.better-in-Upper-1.given.0 in
-    to_z w64 (of_z w64 c.sink-lowered.result) ≡ sunk (number_in l.args.thresholds.now g.1.0) g.1.1.0
+    let g = t.in-Upper in
+    to_z w64 (of_z w64 c.sink-lowered.result) ≡ sunk (number_in l.args.thresholds.now g.i) g.v
 unfolding number_in
 lowered-to c =
     let t = c in
     let l = c in
-    let g = t.better-in-Upper-1.given.0 in
+    let g = t.in-Upper in
     let r : SFits w64 c.sink-lowered.result = search rules in
-    let v : SFits w64 g.1.1.0 = search rules in
-    let u : SFits w64 (get_or l.args.thresholds.now g.1.0 (pos 0)) = search rules in
+    let v : SFits w64 g.v = search rules in
+    let u : SFits w64 (get_or l.args.thresholds.now g.i (pos 0)) = search rules in
     to_z-of_z r ∙ rw (to_z-of_z v, to_z-of_z u) at c.sink-lowered.ensures
 
 lower-upper-requires : tie.Need-lower_upper-first-requires invariant-loop decreases-loop
@@ -268,7 +268,7 @@ lower-upper-requires c κs =
     let l = c in
     let k = held l.loop-falsified.lower l.loop-falsified.upper l.loop-falsified.below l.loop-falsified.above 0 in
     rw (l.kept_count-kept.ensures, lowered-to c.before.before.before)
-    (lower-settable _ _ _ _ _ _ (length_over _ _ _ _ _ _) k l.loop-falsified.invariant.ready l.loop-falsified.invariant.gap_free _ _ _ (lower-move c.before.before.before.before.before.before), shiftable _ _ _ _ _ _ _ _ _ _ (scan-fits _ _ _ _ k l.loop-falsified.invariant.ready) (tracked c.before.before.before.before.before.before.before.before.before) (lower-level c.before.before.before.before.before.before 0).variable (record { within = omega arith }) (lower-fall _ _ _ _ _ _ (length_over _ _ _ _ _ _) k l.loop-falsified.invariant.ready l.loop-falsified.invariant.gap_free _ _ _ (lower-move c.before.before.before.before.before.before)))
+    (lower-settable _ _ _ _ _ _ (length_over _ _ _ _ _ _) k l.loop-falsified.invariant.ready l.loop-falsified.invariant.gap_free _ _ _ (lower-move c.before.before.before.before.before.before), shiftable _ _ _ _ _ _ _ _ _ _ (scan-fits _ _ _ _ k l.loop-falsified.invariant.ready) (tracked c.before.before.before.before.before.before.before) (lower-level c.before.before.before.before.before.before 0).variable (record { within = omega arith }) (lower-fall _ _ _ _ _ _ (length_over _ _ _ _ _ _) k l.loop-falsified.invariant.ready l.loop-falsified.invariant.gap_free _ _ _ (lower-move c.before.before.before.before.before.before)))
 
 mul-due-2 : tie.Need-offset_bounds-columns-i-in-Upper invariant-loop decreases-loop
 mul-due-2 c = omega (arith, (lower-level c.before.before.before.before.before.before.before 0).variable, (lower-level c.before.before.before.before.before.before.before 0).ready.few)
@@ -304,17 +304,17 @@ loop-again-2 c =
     let t = c in
     let l = c in
     let a = l.args in
-    let g = t.better-in-Upper-1.given.0 in
+    let g = t.in-Upper in
     let q = l.requires.1.1.0 in
-    let w = sunk (number_in a.thresholds.now g.1.0) g.1.1.0 in
+    let w = sunk (number_in a.thresholds.now g.i) g.v in
     let room : a.n ≤ length l.loop-falsified.upper = omega (arith, l.loop-falsified.invariant.ready.few, l.loop-falsified.invariant.ready.whole.upper) in
     let e = rw (l.kept_count-kept.ensures, lowered-to c.before.before.before.before.before.before.before) at r.lower_upper-first.ensures.1 in
     let f = rw (r.lower_upper-first.ensures.0.bound, lowered-to c.before.before.before.before.before.before.before) at c.first_indivisible-falsified-in-Upper.ensures in
     rw (r.lower_upper-first.ensures.0.bound, r.lower_upper-first.ensures.0.why, jump.number_of-number-in-Upper.ensures, lowered-to c.before.before.before.before.before.before.before)
-    (loop-set _ _ _ _ _ _ _ _ _ _ _ _ _ _ _ _ _ _ _ _ l.loop-falsified.invariant _ _ _ _ _ _ g.1.0 g.0 _ _ _ _ (lower-level c.before.before.before.before.before.before.before.before.before.before) (tracked c.before.before.before.before.before.before.before.before.before.before.before.before.before)
-    (lowered-closes a.n _ _ _ g.1.0 w (lower-level c.before.before.before.before.before.before.before.before.before.before 0).variable room (lower-better _ _ _ _ _ _ (length_over _ _ _ _ _ _) (held l.loop-falsified.lower l.loop-falsified.upper l.loop-falsified.below l.loop-falsified.above 0) l.loop-falsified.invariant.ready l.loop-falsified.invariant.gap_free _ _ _ (lower-move c.before.before.before.before.before.before.before.before.before.before))) e
-    (λ told. warned _ _ _ _ _ _ _ _ _ _ q.0 _ _ _ (Unmentioned a.lines.now g.1.0) told f (q.1.at g.1.0 (lower-level c.before.before.before.before.before.before.before.before.before.before 0).variable)
-    (λ j h z. rw (box-upper a.n l.loop-falsified.lower l.loop-falsified.upper g.1.0 w (lower-level c.before.before.before.before.before.before.before.before.before.before 0).variable (omega (arith, (lower-level c.before.before.before.before.before.before.before.before.before.before 0).variable, room))) (lower-spared _ _ _ _ _ _ (all-clear _ _ _ _ _ _ _ _ _ _ (clear c.before.before.before.before.before.before.before.before.before.before.before.before.before.before.before)) g.1.0 w (lower-level c.before.before.before.before.before.before.before.before.before.before 0).variable j h z))))
+    (loop-set _ _ _ _ _ _ _ _ _ _ _ _ _ _ _ _ _ _ _ _ l.loop-falsified.invariant _ _ _ _ _ _ g.i g.j _ _ _ _ (lower-level c.before.before.before.before.before.before.before.before.before.before) (tracked c.before.before.before.before.before.before.before.before.before.before.before)
+    (lowered-closes a.n _ _ _ g.i w (lower-level c.before.before.before.before.before.before.before.before.before.before 0).variable room (lower-better _ _ _ _ _ _ (length_over _ _ _ _ _ _) (held l.loop-falsified.lower l.loop-falsified.upper l.loop-falsified.below l.loop-falsified.above 0) l.loop-falsified.invariant.ready l.loop-falsified.invariant.gap_free _ _ _ (lower-move c.before.before.before.before.before.before.before.before.before.before))) e
+    (λ told. warned _ _ _ _ _ _ _ _ _ _ q.0 _ _ _ (Unmentioned a.lines.now g.i) told f (q.1.at g.i (lower-level c.before.before.before.before.before.before.before.before.before.before 0).variable)
+    (λ j h z. rw (box-upper a.n l.loop-falsified.lower l.loop-falsified.upper g.i w (lower-level c.before.before.before.before.before.before.before.before.before.before 0).variable (omega (arith, (lower-level c.before.before.before.before.before.before.before.before.before.before 0).variable, room))) (lower-spared _ _ _ _ _ _ (all-clear _ _ _ _ _ _ _ _ _ _ (clear c.before.before.before.before.before.before.before.before.before.before.before.before.before)) g.i w (lower-level c.before.before.before.before.before.before.before.before.before.before 0).variable j h z))))
 
 enum_told : tie.Need-enum_told-1 invariant-loop decreases-loop
 enum_told c = search rules
@@ -328,9 +328,9 @@ returns c =
     let f = c in
     let l = c in
     let v = l.loop-falsified.invariant in
-    let last = next-open _ _ _ _ (warned-first _ _ _ _ _ _ _ _ _ (length_over _ _ _ _ _ _) (clear c.before.before.before.before.before)) (omega arith) (sym (ap found_of c.enum_told-1.given.1) ∙ found c.before.before.before) in (
+    let last = next-open _ _ _ _ (warned-first _ _ _ _ _ _ _ _ _ (length_over _ _ _ _ _ _) (clear c.before.before.before.before)) (omega arith) (sym (ap found_of c.in-Nothing.is) ∙ found c.before.before) in (
       λ d. stop-answer _ _ _ _ _ _ (length_over _ _ _ _ _ _) (held l.loop-falsified.lower l.loop-falsified.upper l.loop-falsified.below l.loop-falsified.above d) (ready_at d v.ready) v.gap_free _ _ (c.decide_or_finish-found.ensures ∙ last) ∙ sym (v.same d),
-      ((v.ready, v.gap_free), (tracked-some _ _ _ _ _ _ _ 0 (omega arith) (tracked c.before.before.before), λ i e. tracked c.before.before.before)),
+      ((v.ready, v.gap_free), (tracked-some _ _ _ _ _ _ _ 0 (omega arith) (tracked c.before.before), λ i e. tracked c.before.before)),
     )
 
 -- the loop is left where a constraint is falsified

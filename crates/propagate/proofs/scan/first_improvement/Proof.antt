@@ -239,7 +239,7 @@ loop-again c =
     let f = c in
     let first = c in
     let l = c in
-    (l.loop-left.invariant.0, passed c.before.before.before.before (sym (tested c.before.before) ∙ ap (improvement.move_of l.scan.j first.first-i.result) c.in-Nothing.is))
+    (l.loop-left.invariant.0, passed c.before.before.before (sym (tested c.before) ∙ ap (improvement.move_of l.scan.j first.first-i.result) c.in-Nothing.is))
 
 loop-less-2 : tie.Need-loop-left-smaller invariant-loop decreases-loop invariant-scan decreases-scan
 loop-less-2 c = search rules
@@ -303,13 +303,13 @@ returns-2 : tie.Need-returns-in-Lower invariant-loop decreases-loop invariant-sc
 unfolding found_of improvement.move_of
 returns-2 c =
     let v : SFits w64 c.in-Lower.v = search rules in
-    rw (to_z-of_z v) (hit c.before.before.before _ (ap (improvement.move_of _ _) c.in-Lower.is))
+    rw (to_z-of_z v) (hit c.before _ (ap (improvement.move_of _ _) c.in-Lower.is))
 
 returns-3 : tie.Need-returns-in-Upper invariant-loop decreases-loop invariant-scan decreases-scan
 unfolding found_of improvement.move_of
 returns-3 c =
     let v : SFits w64 c.in-Upper.v = search rules in
-    rw (to_z-of_z v) (hit c.before.before.before _ (ap (improvement.move_of _ _) c.in-Upper.is))
+    rw (to_z-of_z v) (hit c.before _ (ap (improvement.move_of _ _) c.in-Upper.is))
 
 pub first_improvement_spec : {M : Type 1} → statement M
 first_improvement_spec =

@@ -1,0 +1,86 @@
+-- `turns::track::mark` meets its contract. Assumes nothing.
+use Prim.Native.Nat.{◌+◌, ◌-◌, ◌≤◌, ◌<◌}
+use native.Mathlib.Nat.{eq-or-lt_of_le}
+use native.Mathlib.Omega.{arith}
+use mathlib.Core.Logic.{⊎_elim}
+use mathlib.Core.Path.{◌≡◌, ◌∙◌}
+use borrow.Author.Rules.{rules}
+use lib.ListN.{length-set}
+use lib.Seq.{get_or-set_same, get_or-set_other}
+use Rattle.turns.specs.Tracking.{Marks}
+use Rattle.turns.proofs.track.mark.Statement.{statement}
+use Rattle.turns.proofs.track.mark.Tie as tie
+use Rattle.turns.proofs.track.mark.Reads as reads
+use Rattle.turns.proofs.track.mark.Lts as lts
+use Rattle.bits.proofs.masks.row_mask.Reads as row-mask-reads
+
+abbrev invariant-loop : tie.invariant-loop
+invariant-loop rows n from count masks₀ p₀ masks p = (p ≤ count) × Marks n from p rows masks
+
+abbrev decreases-loop : tie.decreases-loop
+decreases-loop rows n from count masks₀ p₀ masks p = count - p
+
+loop-holds : tie.Need-loop-init invariant-loop decreases-loop
+loop-holds c = (omega arith, record { room = c.requires.room; at = λ k h. absurd (omega arith) })
+
+add-row-mask : tie.Need-overflow-add-row-mask invariant-loop decreases-loop
+add-row-mask c = omega (arith, c.before.before.before.requires.inside, c.before.loop-test.true)
+
+mul-row-mask : tie.Need-overflow-mul-row-mask invariant-loop decreases-loop
+mul-row-mask c = omega (arith, c.before.before.before.requires.inside, c.before.loop-test.true)
+
+row-mask-requires : tie.Need-row-mask-requires invariant-loop decreases-loop
+row-mask-requires c κs =
+    let l = c.before.before in
+    (l.before.requires.few, omega (arith, l.before.requires.few, l.before.requires.inside, l.before.requires.long, c.before.loop-test.true))
+
+mul-masks : tie.Need-overflow-mul-masks invariant-loop decreases-loop
+mul-masks c = omega (arith, c.before.before.before.before.requires.most, c.before.before.loop-test.true)
+
+element-write-masks : tie.Need-element-write-masks invariant-loop decreases-loop
+element-write-masks c = omega (arith, c.before.before.before.before.requires.most, c.before.before.loop-test.true)
+
+add-p : tie.Need-overflow-add-p invariant-loop decreases-loop
+add-p c = search rules
+
+loop-less : tie.Need-loop-smaller invariant-loop decreases-loop
+loop-less c = search rules
+
+loop-again : tie.Need-loop-preserved invariant-loop decreases-loop
+loop-again c =
+    let l = c.before.before.before in
+    let p = l.loop.p in
+    let v = l.loop.invariant.1 in (
+      omega (arith, c.before.before.loop-test.true),
+      record {
+        room = length-set l.loop.masks p c.row-mask.result ∙ v.room;
+        at = λ k h.
+            ⊎_elim
+            (λ (e : k ≡ p). rw (e, get_or-set_same l.loop.masks p c.row-mask.result 0 (omega (arith, v.room, l.before.requires.most, c.before.before.loop-test.true))) c.row-mask.ensures)
+            (λ (e : k < p). rw (get_or-set_other l.loop.masks p k c.row-mask.result 0 (λ z. omega arith)) (v.at k e))
+            (eq-or-lt_of_le (omega arith));
+      },
+    )
+
+returns : tie.Need-returns invariant-loop decreases-loop
+returns c =
+    let l = c.before in
+    let e : l.loop.p ≡ l.before.args.count = omega (arith, l.loop.invariant.0, c.loop-test.false) in
+    rw e at l.loop.invariant.1
+
+pub mark_spec : {M : Type 1} → statement M
+mark_spec =
+    tie.close
+    (tie.spec
+    invariant-loop
+    decreases-loop
+    loop-holds
+    add-row-mask
+    mul-row-mask
+    row-mask-requires
+    mul-masks
+    element-write-masks
+    add-p
+    loop-less
+    loop-again
+    returns)
