@@ -7,5 +7,5 @@ use Rattle.conflict.proofs.is_spent.Tie as tie
 returns : tie.Need-returns
 returns c = search (rules, eqb-true, eqb-false)
 
-pub is-spent-spec : {M : Type 1} → statement M
-is-spent-spec = tie.close (tie.spec returns)
+pub is_spent_spec : {M : Type 1} → statement M
+is_spent_spec = tie.close (tie.spec returns)

@@ -8,42 +8,39 @@ use Rattle.turns.proofs.Due.{flipped-box, due-few, flipped-warned}
 use Rattle.turns.proofs.back.go_back.Statement.{statement}
 use Rattle.turns.proofs.back.go_back.Tie as tie
 
-abbrev begun : tie.After-backjump → tie.Start
-begun b = b.before.before.before.before.before
+backjump-requires : tie.Need-backjump-first-requires
+backjump-requires c κs = (c.requires.flippable, c.requires.lengths)
 
-backjump-requires : tie.Need-backjump-requires
-backjump-requires c κs = (c.before.before.before.before.requires.flippable, c.before.before.before.before.requires.lengths)
+mul-due-at : tie.Need-offset_bounds-mentions-i
+mul-due-at c = omega (arith, c.requires.flippable.variable, c.requires.few)
 
-mul-due-at : tie.Need-overflow-mul-due-at
-mul-due-at c = omega (arith, (begun c).requires.flippable.variable, (begun c).requires.few)
+element-copy-out-due-at : tie.Need-bounds-mentions-i
+element-copy-out-due-at c = omega (arith, c.requires.flippable.variable, c.requires.few)
 
-element-copy-out-due-at : tie.Need-element-copy-out-due-at
-element-copy-out-due-at c = omega (arith, (begun c).requires.flippable.variable, (begun c).requires.few)
-
-due-at-requires : tie.Need-due-at-requires
+due-at-requires : tie.Need-due_at-due-requires
 due-at-requires c κs = search rules
 
-first-indivisible-requires : tie.Need-first-indivisible-requires
+first-indivisible-requires : tie.Need-first_indivisible-requires
 first-indivisible-requires c κs =
-    let b = c.before.before.before in
-    let p = (begun b).requires in
+    let b = c in
+    let p = b.requires in
     let f = p.flippable in
-    let u = c.before.due-at.ensures in
-    testable _ _ _ _ _ _ _ _ p.apart p.few f.inputs (flipped-box f b.backjump.ensures.bound)
+    let u = c.due_at-due.ensures in
+    testable _ _ _ _ _ _ _ _ p.apart p.few f.inputs (flipped-box f b.backjump-first.ensures.bound)
     (due-few _ _ 0 _ _ _ [] [] [] [] p.apart _ (pos 0) f.variable _ _ _ _ _ u.0 u.1 p.every (p.mentions.at _ f.variable))
 
 returns : tie.Need-returns
 returns c =
-    let b = c.before.before.before.before in
-    let p = (begun b).requires in
+    let b = c in
+    let p = b.requires in
     let f = p.flippable in
-    let w = b.backjump.ensures in
-    let u = c.before.before.due-at.ensures in
+    let w = b.backjump-first.ensures in
+    let u = c.due_at-due.ensures in
     record {
       bound = w.bound;
       why = w.why;
-      falsifies = flipped-warned _ _ _ _ _ _ _ _ _ _ p.apart _ _ f.variable _ _ _ _ _ u.0 u.1 p.every (p.mentions.at _ f.variable) _ w.bound _ _ (omega (arith, f.variable, p.few, f.lowers)) p.clear w.told c.first-indivisible.ensures;
+      falsifies = flipped-warned _ _ _ _ _ _ _ _ _ _ p.apart _ _ f.variable _ _ _ _ _ u.0 u.1 p.every (p.mentions.at _ f.variable) _ w.bound _ _ (omega (arith, f.variable, p.few, f.lowers)) p.clear w.told c.first_indivisible.ensures;
     }
 
-pub go-back-spec : {M : Type 1} → statement M
-go-back-spec = tie.close (tie.spec backjump-requires mul-due-at element-copy-out-due-at due-at-requires first-indivisible-requires returns)
+pub go_back_spec : {M : Type 1} → statement M
+go_back_spec = tie.close (tie.spec backjump-requires mul-due-at element-copy-out-due-at due-at-requires first-indivisible-requires returns)
