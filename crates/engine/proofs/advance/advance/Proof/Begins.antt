@@ -24,86 +24,76 @@ use Rattle.turns.proofs.Rounds.{ready}
 use Rattle.engine.proofs.advance.advance.Tie as tie
 use Rattle.engine.proofs.advance.advance.Proof.Loop.{Inv-loop, μ-loop}
 
--- ---- the places
-abbrev begin : tie.After-whole Inv-loop μ-loop → tie.Start Inv-loop μ-loop
-begin w = w.before.before.before.before.before.before.before.before.before
-
-abbrev opened : tie.After-put-rows Inv-loop μ-loop → tie.After-whole Inv-loop μ-loop
-opened p = p.before.before.before.before.before.before.before.before.before.before.before
-
-abbrev put : tie.After-track Inv-loop μ-loop → tie.After-put-rows Inv-loop μ-loop
-put t = t.before.before.before.before.before.before.before.before.before.before.before.before.before
-
 -- ---- what the calls before the loop ask
-pub mul-whole : tie.Need-overflow-mul-whole Inv-loop μ-loop
-mul-whole c = omega (arith, start-depth c.before.before.before.before.before.before.before.requires)
+pub mul-whole : tie.Need-offset_bounds-levels-depth Inv-loop μ-loop
+mul-whole c = omega (arith, start-depth c.requires)
 
-pub array-copy-out-whole : tie.Need-array-copy-out-whole Inv-loop μ-loop
-array-copy-out-whole c = start-depth c.before.before.before.before.before.before.before.requires
+pub array-copy-out-whole : tie.Need-bounds-levels-depth Inv-loop μ-loop
+array-copy-out-whole c = start-depth c.requires
 
-pub whole-requires : tie.Need-whole-requires Inv-loop μ-loop
+pub whole-requires : tie.Need-whole-before-requires Inv-loop μ-loop
 whole-requires c κs = tt
 
 -- the state's arrays are as long as they are declared
-lengths : (c : tie.After-whole Inv-loop μ-loop) →
-    let s = (begin c).args.s in
+lengths : (c : tie.After-whole-before Inv-loop μ-loop) →
+    let s = c.args.s in
     (length s.rows ≡ rows_length) × ((length s.divisors ≡ 64) × ((length s.numbers ≡ 64) × ((length s.levels ≡ 33) × (length s.thresholds ≡ 32))))
 lengths c = (search rules, (search rules, (search rules, (search (rules, elements-kept), search rules))))
 
 pub mirror-requires : tie.Need-mirror-requires Inv-loop μ-loop
-mirror-requires c κs = (omega (arith, start-depth (begin c.before.before.before.before.before.before).pre), (search rules, search rules))
+mirror-requires c κs = (omega (arith, start-depth c.requires), (search rules, search rules))
 
-pub put-rows-requires : tie.Need-put-rows-requires Inv-loop μ-loop
+pub put-rows-requires : tie.Need-put_rows-requires Inv-loop μ-loop
 put-rows-requires c κs =
-    let n = start-counts (begin c.before.before.before.before.before.before.before.before.before.before).pre in
+    let n = start-counts c.requires in
     let z = lengths c.before.before.before.before.before.before.before.before.before.before in
     (n.few, (n.inputs, (refl, (z.1.0, z.0))))
 
-pub divided-mask-requires : tie.Need-divided-mask-requires Inv-loop μ-loop
-divided-mask-requires c κs = ((start-counts (begin (opened c.before)).pre).inputs, (lengths (opened c.before)).1.0)
+pub divided-mask-requires : tie.Need-divided_mask-divided-requires Inv-loop μ-loop
+divided-mask-requires c κs = ((start-counts c.requires).inputs, (lengths c.before.before.before.before.before.before.before.before.before.before.before.before).1.0)
 
-pub columns-requires : tie.Need-columns-requires Inv-loop μ-loop
+pub columns-requires : tie.Need-columns-mentions-requires Inv-loop μ-loop
 columns-requires c κs =
-    let n = start-counts (begin (opened c.before.before.before.before)).pre in
-    (n.few, (n.inputs, ((lengths (opened c.before.before.before.before)).0, ((lengths (opened c.before.before.before.before)).1.0, c.before.before.divided-mask.ensures))))
+    let n = start-counts c.requires in
+    (n.few, (n.inputs, ((lengths c.before.before.before.before.before.before.before.before.before.before.before.before.before.before.before).0, ((lengths c.before.before.before.before.before.before.before.before.before.before.before.before.before.before.before).1.0, c.divided_mask-divided.ensures))))
 
 -- the rows with blanks, and the state at the start
-begins : (c : tie.After-put-rows Inv-loop μ-loop) →
-    let a = (begin (opened c)).args in
+begins : (c : tie.After-put_rows Inv-loop μ-loop) →
+    let a = c.args in
     let s = a.s in
-    let w = (opened c).whole.result in
-    Running (view (start_of s)) a.buffer.now a.limit a.keep s.thresholds s.rows s.divisors s.n s.m s.budget a.buffer.now c.put-rows.new.1.1.1.1.0 s.numbers s.levels s.made s.conflicts s.depth w w s.depth 0 s.propagations s.propagations
+    let w = c.whole-before.result in
+    Running (view (start_of s)) a.buffer.now a.limit a.keep s.thresholds s.rows s.divisors s.n s.m s.budget a.buffer.now c.put_rows.new.rows s.numbers s.levels s.made s.conflicts s.depth w w s.depth 0 s.propagations s.propagations
 begins c =
-    let w = (opened c).whole in
+    let w = c.whole-before in
     let l : Whole w.result = rw w.ensures.0 w.ensures.1 in
-    let z = lengths (opened c) in
-    running-starts (begin (opened c)).pre _ c.put-rows.ensures z.0 z.1.0 w.result w.ensures.0 l z.1.1.0 z.1.1.1.0 z.1.1.1.1
+    let z = lengths c.before.before.before.before.before.before.before.before.before.before.before in
+    running-starts c.requires _ c.put_rows.ensures z.0 z.1.0 w.result w.ensures.0 l z.1.1.0 z.1.1.1.0 z.1.1.1.1
 
-pub track-requires : tie.Need-track-requires Inv-loop μ-loop
+pub track-requires : tie.Need-track-first-requires Inv-loop μ-loop
 track-requires c κs =
     let r = begins c.before.before.before.before.before.before.before.before.before.before.before.before in
     record { most = r.counts.inputs; fits = scan-fits _ _ _ _ _ (ready r); lengths = tracked-none _ _ _ _ _ _ r.rows_long (search rules) (search rules); input_room = search rules; cut_room = search rules }
 
-pub first-indivisible-requires : tie.Need-first-indivisible-requires Inv-loop μ-loop
+pub first-indivisible-requires : tie.Need-first_indivisible-told-requires Inv-loop μ-loop
 first-indivisible-requires c κs =
-    let r = begins (put c.before.before.before.before) in
-    testable _ _ _ _ _ _ _ _ r.apart r.counts.few r.counts.inputs (scan-box (scan-fits _ _ _ _ _ (ready r)) r.whole.lower r.whole.upper) c.before.before.before.before.before.before.before.before.before.before.before.before.before.before.before.divided-mask.ensures.few
+    let r = begins c.before.before.before.before.before.before.before.before.before.before.before.before.before.before.before.before.before in
+    testable _ _ _ _ _ _ _ _ r.apart r.counts.few r.counts.inputs (scan-box (scan-fits _ _ _ _ _ (ready r)) r.whole.lower r.whole.upper) c.divided_mask-divided.ensures.few
 
-pub loop-holds : tie.Need-loop-init Inv-loop μ-loop
+pub loop-holds : tie.Need-loop-going-init Inv-loop μ-loop
 unfolding status_of
 loop-holds c =
-    let r = begins (put c.before.before.before.before.before) in
-    let t = c.before.before.before.before.before.track.ensures in
-    let deep = start-depth (begin (opened (put c.before.before.before.before.before))).pre in
+    let r = begins c.before.before.before.before.before.before.before.before.before.before.before.before.before.before.before.before.before.before in
+    let t = c.track-first.ensures in
+    let deep = start-depth c.requires in
     started
     (record {
       running = λ e. r;
       carried = λ e.
           record {
-            falsified = warned _ _ _ _ _ _ _ _ _ _ r.apart _ _ _ Everyone t.0 c.first-indivisible.ensures c.before.before.before.before.before.before.before.before.before.before.before.before.before.before.before.before.divided-mask.ensures (λ j h z. absurd z);
+            falsified = warned _ _ _ _ _ _ _ _ _ _ r.apart _ _ _ Everyone t.0 c.first_indivisible-told.ensures c.divided_mask-divided.ensures (λ j h z. absurd z);
             room = record { olds_long = search rules; limits_long = search rules; gones_long = search rules; counts_long = search rules };
             saved = saved-none _ _ _ _ _ _ _ 33 _;
-            bounds = (put c.before.before.before.before.before).before.before.before.before.mirror.ensures _ r.counts.few;
+            bounds = c.mirror.ensures _ r.counts.few;
             masks = t.1;
             clear = λ t h k. absurd (omega arith);
           };

@@ -15,83 +15,76 @@ use Rattle.turns.proofs.Rounds.{depth_small, learnable}
 use Rattle.turns.proofs.Concluding.{countable}
 use Rattle.turns.proofs.Counted.{Meets, meets, counted_none}
 use Rattle.engine.proofs.advance.advance.Tie as tie
-use Rattle.engine.proofs.advance.advance.Proof.Loop.{Inv-loop, μ-loop, start, round, here, going, running, carried, answered, moved, whole_here, levels-long}
-
--- ---- the places
-abbrev pub clashed : tie.After-found2 Inv-loop μ-loop → tie.After-propagate Inv-loop μ-loop
-clashed f = f.before.before
-
-abbrev pub conflicted : tie.After-conflict Inv-loop μ-loop → tie.After-found2 Inv-loop μ-loop
-conflicted x = x.before.before.before.before.before.before.before.before.before.before.before.before.before.before.before.before
+use Rattle.engine.proofs.advance.advance.Proof.Loop.{Inv-loop, μ-loop, here, going, running, carried, answered, moved, whole_here, levels-long}
 
 -- ---- a conflict: out of budget, or counted
-pub enum-known-found-2 : tie.Need-enum-known-found-2 Inv-loop μ-loop
+pub enum-known-found-2 : tie.Need-enum_known-found-in-Conflict-1 Inv-loop μ-loop
 enum-known-found-2 c = search rules
 
-pub is-spent-requires : tie.Need-is-spent-requires Inv-loop μ-loop
+pub is-spent-requires : tie.Need-is_spent-requires Inv-loop μ-loop
 is-spent-requires c κs = search rules
 
-pub loop-less-3 : tie.Need-loop-smaller-3 Inv-loop μ-loop
-loop-less-3 c = rw (going (clashed c.before.before.before)) (omega arith)
+pub loop-less-3 : tie.Need-loop-going-smaller-then-is_spent Inv-loop μ-loop
+loop-less-3 c = rw (going c.before.before.before) (omega arith)
 
-conflict-at : (c : tie.After-found2 Inv-loop μ-loop) → stop_of (clashed c).propagate.result.found ≡ conflict c.found2.given.0.0
+conflict-at : (c : tie.In-Conflict Inv-loop μ-loop) → stop_of c.propagate-stopped.result.found ≡ conflict c.in-Conflict.j
 unfolding stop_of
-conflict-at c = ap stop_of c.found2.given.1
+conflict-at c = ap stop_of c.in-Conflict.is
 
-pub loop-again-3 : tie.Need-loop-preserved-3 Inv-loop μ-loop
+pub loop-again-3 : tie.Need-loop-going-preserved-then-is_spent Inv-loop μ-loop
 unfolding status_of
 loop-again-3 c =
-    let f = c.before.before.before in
-    let p = clashed f in
-    let l = round p in
-    let r = running p in
-    go_on_lem l.loop.inv
+    let f = c in
+    let p = f in
+    let l = p in
+    let r = running p.before.before.before in
+    go_on_lem l.loop-going.invariant
     (ends
-    (rw (l.loop.inv.here.open-ended (going p)).1 (spends r (here p) f.found2.given.0.0 _ (l.loop.inv.here.more (going p)) (c.before.is-spent.ensures.0 c.if2.true) (moved p _ (conflict-at f))))
-    (unsolved OutOfBudget tt) l.loop.inv.here.apart l.loop.inv.here.rows_long l.loop.inv.here.deep (levels-long p) l.loop.inv.here.bytes)
+    (rw (l.loop-going.invariant.here.open-ended (going p.before.before.before)).1 (spends r (here p.before.before.before) f.in-Conflict.j _ (l.loop-going.invariant.here.more (going p.before.before.before)) (c.is_spent.ensures.0 c.if-is_spent.true) (moved p.before.before.before _ (conflict-at f.before.before))))
+    (unsolved OutOfBudget tt) l.loop-going.invariant.here.apart l.loop-going.invariant.here.rows_long l.loop-going.invariant.here.deep (levels-long p.before.before.before) l.loop-going.invariant.here.bytes)
 
-afford : (c : tie.Else2 Inv-loop μ-loop) → (round (clashed c.before.before.before)).loop.conflicts < (start (round (clashed c.before.before.before))).args.s.budget
-afford c = omega (arith, (running (clashed c.before.before.before)).counts.afford, c.before.is-spent.ensures.1 c.if2.false)
+afford : (c : tie.Else-is_spent Inv-loop μ-loop) → c.loop-going.conflicts < c.args.s.budget
+afford c = omega (arith, (running c.before.before.before).counts.afford, c.is_spent.ensures.1 c.if-is_spent.false)
 
-pub add-conflicts : tie.Need-overflow-add-conflicts Inv-loop μ-loop
-add-conflicts c = omega (arith, afford c, (running (clashed c.before.before.before)).counts.limited)
+pub add-conflicts : tie.Need-overflow_add-conflicts Inv-loop μ-loop
+add-conflicts c = omega (arith, afford c, (running c.before.before.before).counts.limited)
 
-pub conflict-requires : tie.Need-conflict-requires Inv-loop μ-loop
+pub conflict-requires : tie.Need-conflict-met-requires Inv-loop μ-loop
 conflict-requires c κs =
-    let f = c.before.before.before.before.before.before.before.before.before.before.before.before.before.before.before in
-    let p = clashed f in
-    let q = p.propagate.ensures.1.0.0 in
-    let v = carried p in
-    countable (running p) (here p) f.found2.given.0.0 (moved p _ (conflict-at f)) 0 _ _ v.bounds _ v.masks.cut_room ((round p).loop.inv.here.more (going p))
-    (learnable (running p) (here p) p.propagate.result (answered p) f.found2.given.0.0 (conflict-at f) (whole_here p, q.bounds))
+    let f = c in
+    let p = f in
+    let q = p.propagate-stopped.ensures.1.0.0 in
+    let v = carried p.before.before.before.before.before.before.before.before.before.before.before.before.before.before.before in
+    countable (running p.before.before.before.before.before.before.before.before.before.before.before.before.before.before.before) (here p.before.before.before.before.before.before.before.before.before.before.before.before.before.before.before) f.in-Conflict.j (moved p.before.before.before.before.before.before.before.before.before.before.before.before.before.before.before _ (conflict-at f.before.before.before.before.before.before.before.before.before.before.before.before.before.before)) 0 _ _ v.bounds _ v.masks.cut_room (p.loop-going.invariant.here.more (going p.before.before.before.before.before.before.before.before.before.before.before.before.before.before.before))
+    (learnable (running p.before.before.before.before.before.before.before.before.before.before.before.before.before.before.before) (here p.before.before.before.before.before.before.before.before.before.before.before.before.before.before.before) p.propagate-stopped.result (answered p.before.before.before.before.before.before.before.before.before.before.before.before.before.before.before) f.in-Conflict.j (conflict-at f.before.before.before.before.before.before.before.before.before.before.before.before.before.before) (whole_here p.before.before.before.before.before.before.before.before.before.before.before.before.before.before.before, q.bounds))
 
 -- what the conflict left
-pub met : (c : tie.After-conflict Inv-loop μ-loop) →
-    let p = clashed (conflicted c) in
-    let l = round p in
-    let a = (start l).args in
+pub met : (c : tie.After-conflict-met Inv-loop μ-loop) →
+    let p = c in
+    let l = p in
+    let a = l.args in
     let s = a.s in
-    let v = l.loop in
-    Meets v.inv.base a.buffer.now v.left a.keep s.thresholds s.rows s.divisors s.n s.m s.budget v.buffer v.rows v.numbers v.levels v.made v.conflicts v.depth (held v.lower v.upper v.below v.above v.decided) v.before v.start v.done v.earlier v.propagations
-    (here p) p.propagate.result.count c.conflict.result.back c.conflict.result.made c.conflict.new.1.1.1.1.1.1.1.1.1.1.1.1.1.1.0 c.conflict.new.1.1.1.1.1.1.1.1.1.1.1.1.1.1.1.0 c.conflict.new.1.1.1.1.1.1.1.1.1.1.1.1.1.1.1.1.1.1.1.0
+    let v = l.loop-going in
+    Meets v.invariant.base a.buffer.now v.left a.keep s.thresholds s.rows s.divisors s.n s.m s.budget v.buffer v.rows v.numbers v.levels v.made v.conflicts v.depth (held v.lower v.upper v.below v.above v.decided) v.before v.start v.done v.earlier v.propagations
+    (here p.before.before.before.before.before.before.before.before.before.before.before.before.before.before.before.before) p.propagate-stopped.result.count c.conflict-met.result.back c.conflict-met.result.made c.conflict-met.new.rows c.conflict-met.new.numbers c.conflict-met.new.buffer
 met c =
-    let f = conflicted c in
-    let p = clashed f in
-    meets (running p) _ _ _ _ (round p).loop.decided f.found2.given.0.0 (moved p _ (conflict-at f)) (carried p).bounds ((round p).loop.inv.here.more (going p)) (afford c.before.before.before.before.before.before.before.before.before.before.before.before.before) c.conflict.ensures
+    let f = c in
+    let p = f in
+    meets (running p.before.before.before.before.before.before.before.before.before.before.before.before.before.before.before.before) _ _ _ _ p.loop-going.decided f.in-Conflict.j (moved p.before.before.before.before.before.before.before.before.before.before.before.before.before.before.before.before _ (conflict-at f.before.before.before.before.before.before.before.before.before.before.before.before.before.before.before)) (carried p.before.before.before.before.before.before.before.before.before.before.before.before.before.before.before.before).bounds (p.loop-going.invariant.here.more (going p.before.before.before.before.before.before.before.before.before.before.before.before.before.before.before.before)) (afford c.before.before.before.before.before.before.before.before.before.before.before.before.before) c.conflict-met.ensures
 
-pub add_done : tie.Need-overflow-add-done Inv-loop μ-loop
+pub add_done : tie.Need-overflow_add-done Inv-loop μ-loop
 add_done c =
-    let l = round (clashed (conflicted c.before.before)) in
-    omega (arith, (met c.before.before).left, l.loop.inv.less, (start l).fits.limit)
+    let l = c in
+    omega (arith, (met c.before.before).left, l.loop-going.invariant.less, l.ranges.limit)
 
 -- ---- none
-pub loop-less-4 : tie.Need-loop-smaller-4 Inv-loop μ-loop
-loop-less-4 c = rw (going (clashed (conflicted c.before.before.before))) (omega arith)
+pub loop-less-4 : tie.Need-loop-going-smaller-then-back-eq0 Inv-loop μ-loop
+loop-less-4 c = rw (going c.before.before.before.before.before.before.before.before.before.before.before.before.before.before.before.before.before.before.before) (omega arith)
 
-pub loop-again-4 : tie.Need-loop-preserved-4 Inv-loop μ-loop
+pub loop-again-4 : tie.Need-loop-going-preserved-then-back-eq0 Inv-loop μ-loop
 unfolding status_of
 loop-again-4 c =
-    let x = c.before.before.before in
-    let p = clashed (conflicted x) in
-    go_on_lem (round p).loop.inv
-    (ends (at_level _ _ _ _ _ _ _ _ _ _ _ _ _ _ _ _ (counted_none (met x) c.if3.true)) (unsolved NoSolution tt) (met x).kept.apart (met x).kept.rows_long (depth_small (running p)) (levels-long p) (x.conflict.auto.1.1.1.1.1.1.1.1.1.1.1.1.1.1.1.1.1.1.1.0 ∙ (round p).loop.inv.here.bytes))
+    let x = c in
+    let p = x in
+    go_on_lem p.loop-going.invariant
+    (ends (at_level _ _ _ _ _ _ _ _ _ _ _ _ _ _ _ _ (counted_none (met x.before.before.before) c.if-back-eq0.true)) (unsolved NoSolution tt) (met x.before.before.before).kept.apart (met x.before.before.before).kept.rows_long (depth_small (running p.before.before.before.before.before.before.before.before.before.before.before.before.before.before.before.before.before.before.before)) (levels-long p.before.before.before.before.before.before.before.before.before.before.before.before.before.before.before.before.before.before.before) (x.conflict-met.auto.buffer ∙ p.loop-going.invariant.here.bytes))
