@@ -4,8 +4,6 @@ use native.Mathlib.Omega.{arith}
 use mathlib.Core.Bool.{true, false}
 use mathlib.Core.List.{[], ◌∷◌}
 use mathlib.Core.Path.{◌≡◌, refl, ap, ◌∙◌}
-use denote.Enum.Declared.{tag_of}
-use types.Run.{OneOf, miss}
 use Rattle.model_problems.specs.Problem.{ok}
 use Rattle.model_walk.specs.Search as model
 use Rattle.model_walk.specs.Conflict.{back_up}
@@ -16,7 +14,6 @@ use Rattle.state.specs.View.{core_over, core_of, status_of, view}
 use Rattle.state.specs.declared.Search.{Search}
 use Rattle.state.specs.declared.Status.{Status}
 use Rattle.state.specs.declared.Status.TheVariants.{Undecided, Infeasible, Solved}
-use Rattle.state.specs.contracts.Status.{the_type}
 use Rattle.state.proofs.Cores.{length-levels}
 use Rattle.shown.specs.declared.Exclusion.TheVariants.{Struck, Ended, Unsolved, Invalid}
 use Rattle.shown.specs.Excluding.{exclusion_of, whole_in, seen_excluded, kept_whole, shown_exclusion, exclude_seen}
@@ -31,13 +28,13 @@ unfolding exclude_seen exclude_call checked
 shown-as s e v q = rw (v, q)
 
 -- not marked as solved
-unsolved-by : (s : Search) (m : Status) → OneOf (0 ∷ 1 ∷ []) (tag_of the_type m) → exclude_by (status_of m) (view s) ≡ unchanged unsolved (view s)
+unsolved-by : (s : Search) (m : Status) → (m ≡ Solved → ⊥) → exclude_by (status_of m) (view s) ≡ unchanged unsolved (view s)
 unfolding exclude_by status_of
 unsolved-by s Undecided h = refl
 unsolved-by s Infeasible h = refl
-unsolved-by s Solved h = absurd (miss (0 ∷ 1 ∷ []) 2 tt h)
+unsolved-by s Solved h = absurd (h refl)
 
-pub exclude-unsolved : (s : Search) → admitted (view s) ≡ true → OneOf (0 ∷ 1 ∷ []) (tag_of the_type s.status) → seen_excluded (record { answer = Unsolved; state = s }) ≡ exclude_seen s
+pub exclude-unsolved : (s : Search) → admitted (view s) ≡ true → (s.status ≡ Solved → ⊥) → seen_excluded (record { answer = Unsolved; state = s }) ≡ exclude_seen s
 unfolding shown_exclusion seen_excluded exclusion_of whole_in kept_whole unchanged
 exclude-unsolved s v h = shown-as s (unchanged unsolved (view s)) v (unfold exclude view in unsolved-by s s.status h)
 

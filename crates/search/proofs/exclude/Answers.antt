@@ -14,13 +14,13 @@ pub returns-then-not-is_admitted : goal.returns-then-not-is_admitted
 returns-then-not-is_admitted c = exclude-refused _ (said-no c.is_admitted.ensures c.if-not-is_admitted.true)
 
 pub strike-state-requires : goal.strike-state-requires
-strike-state-requires c = (valid-view _ ((let it : admitted (view c.args.s) ≡ true = said-yes c.is_admitted.ensures c.if-not-is_admitted.false in it)), omega arith)
+strike-state-requires c = (valid-view _ (said-yes c.is_admitted.ensures c.if-not-is_admitted.false), omega arith)
 
 pub returns-then-s-gt0 : goal.returns-then-s-gt0
-returns-then-s-gt0 c = exclude-struck _ _ ((let it : admitted (view c.args.s) ≡ true = said-yes c.is_admitted.ensures c.if-not-is_admitted.false in it)) (search rules) (omega arith) c.strike-state.ensures
+returns-then-s-gt0 c = exclude-struck _ _ (said-yes c.is_admitted.ensures c.if-not-is_admitted.false) (search rules) (omega arith) c.strike-state.ensures
 
 pub returns-else-s-gt0 : goal.returns-else-s-gt0
-returns-else-s-gt0 c = exclude-ended _ ((let it : admitted (view c.args.s) ≡ true = said-yes c.is_admitted.ensures c.if-not-is_admitted.false in it)) (search rules) (omega arith)
+returns-else-s-gt0 c = exclude-ended _ (said-yes c.is_admitted.ensures c.if-not-is_admitted.false) (search rules) (omega arith)
 
 pub returns-in_default : goal.returns-in_default
-returns-in_default c = exclude-unsolved _ ((let it : admitted (view c.args.s) ≡ true = said-yes c.is_admitted.ensures c.if-not-is_admitted.false in it)) c.in_default.keys2
+returns-in_default c = exclude-unsolved _ (said-yes c.is_admitted.ensures c.if-not-is_admitted.false) c.in_default.not-Solved

@@ -16,24 +16,24 @@ pub returns-then-not-is_admitted : goal.returns-then-not-is_admitted
 returns-then-not-is_admitted c = rw (c.after_strikes.ensures, c.refused-t.ensures) (list-refused _ _ (said-no c.is_admitted.ensures c.if-not-is_admitted.true))
 
 pub nonzero_div-room : goal.nonzero_div-room
-nonzero_div-room c = let z = sizes _ (valid-view _ ((let it : admitted (view c.args.s) ≡ true = said-yes c.is_admitted.ensures c.if-not-is_admitted.false in it))) in omega (arith, z.some)
+nonzero_div-room c = let z = sizes _ (valid-view _ (said-yes c.is_admitted.ensures c.if-not-is_admitted.false)) in omega (arith, z.some)
 
 pub overflow_sub-turns : goal.overflow_sub-turns
-overflow_sub-turns c = (sizes _ (valid-view _ ((let it : admitted (view c.args.s) ≡ true = said-yes c.is_admitted.ensures c.if-not-is_admitted.false in it)))).afford
+overflow_sub-turns c = (sizes _ (valid-view _ (said-yes c.is_admitted.ensures c.if-not-is_admitted.false))).afford
 
 pub overflow_add-turns : goal.overflow_add-turns
-overflow_add-turns c = let z = sizes _ (valid-view _ ((let it : admitted (view c.args.s) ≡ true = said-yes c.is_admitted.ensures c.if-not-is_admitted.false in it))) in omega (arith, z.limited)
+overflow_add-turns c = let z = sizes _ (valid-view _ (said-yes c.is_admitted.ensures c.if-not-is_admitted.false)) in omega (arith, z.limited)
 
 pub proceed-a-requires : goal.proceed-a-requires
 proceed-a-requires c =
-    record { valid = valid-view _ ((let it : admitted (view c.args.s) ≡ true = said-yes c.is_admitted.ensures c.if-not-is_admitted.false in it)); few = few-view _ ((let it : admitted (view c.args.s) ≡ true = said-yes c.is_admitted.ensures c.if-not-is_admitted.false in it)); kept = λ k. clash k refl; apart = λ k. clash k refl; roomy = mul-div-le _ _ }
+    record { valid = valid-view _ (said-yes c.is_admitted.ensures c.if-not-is_admitted.false); few = few-view _ (said-yes c.is_admitted.ensures c.if-not-is_admitted.false); kept = λ k. clash k refl; apart = λ k. clash k refl; roomy = mul-div-le _ _ }
 
 pub answer-t-requires : goal.answer-t-requires
 answer-t-requires c =
-    let z = after-sizes (valid-view _ ((let it : admitted (view c.args.s) ≡ true = said-yes c.is_admitted.ensures c.if-not-is_admitted.false in it))) c.proceed-a.ensures in
+    let z = after-sizes (valid-view _ (said-yes c.is_admitted.ensures c.if-not-is_admitted.false)) c.proceed-a.ensures in
     (z.few, z.shallow)
 
 pub returns : goal.returns
 returns c =
     rw (c.after_strikes-2.ensures, c.answer-t.ensures)
-    (list-shown _ _ _ _ _ _ ((let it : admitted (view c.args.s) ≡ true = said-yes c.is_admitted.ensures c.if-not-is_admitted.false in it)) c.proceed-a.ensures)
+    (list-shown _ _ _ _ _ _ (said-yes c.is_admitted.ensures c.if-not-is_admitted.false) c.proceed-a.ensures)

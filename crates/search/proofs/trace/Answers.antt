@@ -15,14 +15,14 @@ returns-then-not-is_admitted c = rw c.refused.ensures (trace-refused _ _ (said-n
 
 pub proceed-a-requires : goal.proceed-a-requires
 proceed-a-requires c =
-    record { valid = valid-view _ ((let it : admitted (view c.args.s) ≡ true = said-yes c.is_admitted.ensures c.if-not-is_admitted.false in it)); few = few-view _ ((let it : admitted (view c.args.s) ≡ true = said-yes c.is_admitted.ensures c.if-not-is_admitted.false in it)); kept = λ k. omega arith; apart = λ k. refl; roomy = omega arith }
+    record { valid = valid-view _ (said-yes c.is_admitted.ensures c.if-not-is_admitted.false); few = few-view _ (said-yes c.is_admitted.ensures c.if-not-is_admitted.false); kept = λ k. omega arith; apart = λ k. refl; roomy = omega arith }
 
 pub answer-requires : goal.answer-requires
 answer-requires c =
-    let z = after-sizes (valid-view _ ((let it : admitted (view c.args.s) ≡ true = said-yes c.is_admitted.ensures c.if-not-is_admitted.false in it))) c.proceed-a.ensures in
+    let z = after-sizes (valid-view _ (said-yes c.is_admitted.ensures c.if-not-is_admitted.false)) c.proceed-a.ensures in
     (z.few, z.shallow)
 
 pub returns : goal.returns
 returns c =
     rw c.answer.ensures
-    (trace-shown _ _ _ _ _ _ ((let it : admitted (view c.args.s) ≡ true = said-yes c.is_admitted.ensures c.if-not-is_admitted.false in it)) c.proceed-a.ensures)
+    (trace-shown _ _ _ _ _ _ (said-yes c.is_admitted.ensures c.if-not-is_admitted.false) c.proceed-a.ensures)
