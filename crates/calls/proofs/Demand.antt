@@ -31,7 +31,7 @@ use Rattle.shown.specs.Seen.{values_of}
 use Rattle.shown.specs.declared.Opened.{Opened}
 use Rattle.answers.specs.declared.Ran.{Ran}
 use Rattle.answers.specs.declared.Verdict.TheVariants as verdict
-use Rattle.calls.specs.Calls.{Source, file, value, problem_from, Fine, Opens, Call, ran, Makes, told, ListFrom, state_in, journal_of, NoRun, until_run, steps_in, steps_of, SameAnswer, CallAfter, Decided, Opening, RunOf, UnderBudget, EnoughBudget, CallsHold, WithEnough}
+use Rattle.calls.specs.Calls.{Source, file, value, problem_from, Fine, OpensFrom, Call, ran, Makes, told, ListFrom, state_in, journal_of, NoRun, until_run, steps_in, steps_of, SameAnswer, CallAfter, Decided, OpeningFrom, RunFrom, UnderBudget, EnoughBudget, CallsHoldFrom, WithEnoughFrom}
 use Rattle.calls.proofs.Shown.{case_of, case-valid, case-plain}
 use Rattle.calls.proofs.Lists.{journal-end, set-end, journal-prefix, CallTells, call-tells, Follows, follows, one_more, steps-more, no_run}
 
@@ -60,12 +60,12 @@ fine-source (file f) a = demand-3.acceptable f a
 fine-source (value p) a = a
 
 -- and both calls open it
-opens-source : (s : Source) → Fine s → (o : Opened) → Opens s o → seen_opened o ≡ opening (ok (open_problem (problem_from s)))
+opens-source : (s : Source) → Fine s → (o : Opened) → OpensFrom s o → seen_opened o ≡ opening (ok (open_problem (problem_from s)))
 unfolding problem_from
 opens-source (file f) a o e = e ∙ ap opening (demand-3.opens f a)
 opens-source (value p) a o e = e ∙ ap opening (demand-of-problems.opens (problem_of p) a)
 
-pub fresh : (s : Source) → Fine s → (o : Opened) → Opens s o → Fresh o (open_problem (problem_from s))
+pub fresh : (s : Source) → Fine s → (o : Opened) → OpensFrom s o → Fresh o (open_problem (problem_from s))
 fresh s a o e = opened-as o (open_problem (problem_from s)) (opens-source s a o e)
 
 -- ---- 'none' exactly when there is no solution, else the first
@@ -80,7 +80,7 @@ decided p q v e u d =
     first (x, h, l) = (e ∙ ap case_of h ∙ (unfold case_of in refl), x, u ∙ ap values_of h ∙ (unfold values_of in refl), l)
 
 -- ---- the calls and the run from one opening
-module _ (s : Source) (a : Fine s) (o : Opened) (h : Opens s o) (q : Ran) (g : Makes o.state (ran q)) where
+module _ (s : Source) (a : Fine s) (o : Opened) (h : OpensFrom s o) (q : Ran) (g : Makes o.state (ran q)) where
   abbrev p : Problem
   p = problem_from s
 
@@ -188,7 +188,7 @@ module _ (s : Source) (a : Fine s) (o : Opened) (h : Opens s o) (q : Ran) (g : M
   enough : points p ≤ p.budget → Decided p q
   enough e = decided p q (run m).verdict run_is.verdict run_is.values (t.decides e)
 
-  pub opening-holds : Opening (problem_from s) o q
+  pub opening-holds : OpeningFrom (problem_from s) o q
   opening-holds =
       record {
         accepted = (fresh s a o h).done;
@@ -202,7 +202,7 @@ module _ (s : Source) (a : Fine s) (o : Opened) (h : Opens s o) (q : Ran) (g : M
       }
 
 -- ---- two openings
-run_of : (s : Source) (q : Ran) → RunOf s q → RunTells q (run (open_problem (problem_from s)))
+run_of : (s : Source) (q : Ran) → RunFrom s q → RunTells q (run (open_problem (problem_from s)))
 run_of s q r = run_is s r.fine r.opened r.opens q r.runs
 
 -- the verdict of an opening's run is that of its problem under its budget
@@ -212,18 +212,18 @@ verdict_of s = verdict_with (problem_from s) (problem_from s).budget
 own : (s : Source) → Fine s → (run (open_problem (problem_from s))).verdict ≡ verdict_of s
 own s a = (demand-of-problems.steps (problem_from s) (fine-source s a)).own
 
-same_answer : (s t : Source) (q u : Ran) → RunOf s q → RunOf t u → verdict_of s ≡ verdict_of t → SameAnswer q u
+same_answer : (s t : Source) (q u : Ran) → RunFrom s q → RunFrom t u → verdict_of s ≡ verdict_of t → SameAnswer q u
 same_answer s t q u r w e =
     let x = run_of s q r in
     let y = run_of t u w in
     let v = own s r.fine ∙ e ∙ sym (own t w.fine) in
     (x.verdict ∙ ap case_of v ∙ sym y.verdict, x.values ∙ ap values_of v ∙ sym y.values)
 
-spent : (s : Source) (q : Ran) → RunOf s q → verdict_of s ≡ out_of_budget → q.verdict ≡ verdict.OutOfBudget
+spent : (s : Source) (q : Ran) → RunFrom s q → verdict_of s ≡ out_of_budget → q.verdict ≡ verdict.OutOfBudget
 spent s q r e = (run_of s q r).verdict ∙ ap case_of (own s r.fine ∙ e) ∙ (unfold case_of in refl)
 
 -- t's problem is s's under t's budget
-under-budget : (s t : Source) {u : Ran} → RunOf t u → UnderBudget s t → verdict_of t ≡ verdict_with (problem_from s) (problem_from t).budget
+under-budget : (s t : Source) {u : Ran} → RunFrom t u → UnderBudget s t → verdict_of t ≡ verdict_with (problem_from s) (problem_from t).budget
 unfolding verdict_with
 under-budget s t w b = sym (own t w.fine) ∙ ap (λ (p : Problem). (run (open_problem p)).verdict) b
 
@@ -231,20 +231,20 @@ under-budget s t w b = sym (own t w.fine) ∙ ap (λ (p : Problem). (run (open_p
 budgets : (s : Source) → Fine s → (b c : ℕ) → b ≤ c → (verdict_with (problem_from s) b ≡ verdict_with (problem_from s) c) ⊎ (verdict_with (problem_from s) b ≡ out_of_budget)
 budgets s a = (demand-of-problems.steps (problem_from s) (fine-source s a)).smaller
 
-smaller-holds : (s t : Source) (q u : Ran) → RunOf s q → RunOf t u → UnderBudget s t → (problem_from t).budget ≤ (problem_from s).budget → SameAnswer u q ⊎ (u.verdict ≡ verdict.OutOfBudget)
+smaller-holds : (s t : Source) (q u : Ran) → RunFrom s q → RunFrom t u → UnderBudget s t → (problem_from t).budget ≤ (problem_from s).budget → SameAnswer u q ⊎ (u.verdict ≡ verdict.OutOfBudget)
 smaller-holds s t q u r w b n = by (budgets s r.fine (problem_from t).budget (problem_from s).budget n)
   where
     by : ((verdict_with (problem_from s) (problem_from t).budget ≡ verdict_of s) ⊎ (verdict_with (problem_from s) (problem_from t).budget ≡ out_of_budget)) → SameAnswer u q ⊎ (u.verdict ≡ verdict.OutOfBudget)
     by (inl e) = inl (same_answer t s u q w r (under-budget s t w b ∙ e))
     by (inr e) = inr (spent t u w (under-budget s t w b ∙ e))
 
-same-holds : (s t : Source) (q u : Ran) → RunOf s q → RunOf t u → Agree (verdict_of s) (verdict_of t) → SameAnswer q u ⊎ ((q.verdict ≡ verdict.OutOfBudget) ⊎ (u.verdict ≡ verdict.OutOfBudget))
+same-holds : (s t : Source) (q u : Ran) → RunFrom s q → RunFrom t u → Agree (verdict_of s) (verdict_of t) → SameAnswer q u ⊎ ((q.verdict ≡ verdict.OutOfBudget) ⊎ (u.verdict ≡ verdict.OutOfBudget))
 same-holds s t q u r w (inl e) = inl (same_answer s t q u r w e)
 same-holds s t q u r w (inr (inl e)) = inr (inl (spent s q r e))
 same-holds s t q u r w (inr (inr e)) = inr (inr (spent t u w e))
 
-pub calls-hold : CallsHold
-calls-hold =
+pub calls-hold-from : CallsHoldFrom
+calls-hold-from =
     record {
       opening = opening-holds;
       smaller = smaller-holds;
@@ -254,13 +254,13 @@ calls-hold =
     }
 
 -- ---- with budgets of at least the points neither answer is 'spent'
-not-spent : (s : Source) (q : Ran) → RunOf s q → EnoughBudget s → ¬ (q.verdict ≡ verdict.OutOfBudget)
+not-spent : (s : Source) (q : Ran) → RunFrom s q → EnoughBudget s → ¬ (q.verdict ≡ verdict.OutOfBudget)
 not-spent s q r n e =
-    let d = (calls-hold.opening s r.fine r.opened r.opens q r.runs).decides n in
+    let d = (calls-hold-from.opening s r.fine r.opened r.opens q r.runs).decides n in
     let z = (d.else-first (λ h. impossible (cc))).0 in
     impossible (cc)
 
-smaller-enough : (s t : Source) (q u : Ran) → RunOf s q → RunOf t u → UnderBudget s t → EnoughBudget s → SameAnswer u q ⊎ (u.verdict ≡ verdict.OutOfBudget)
+smaller-enough : (s t : Source) (q u : Ran) → RunFrom s q → RunFrom t u → UnderBudget s t → EnoughBudget s → SameAnswer u q ⊎ (u.verdict ≡ verdict.OutOfBudget)
 smaller-enough s t q u r w b n =
     ⊎_elim (λ (l : (problem_from s).budget < (problem_from t).budget). larger (budgets s r.fine (problem_from s).budget (problem_from t).budget (omega arith)))
     (λ (l : (problem_from t).budget ≤ (problem_from s).budget). smaller-holds s t q u r w b l) (lt-or-le (problem_from s).budget (problem_from t).budget)
@@ -269,13 +269,13 @@ smaller-enough s t q u r w b n =
     larger (inl e) = inl (same_answer t s u q w r (under-budget s t w b ∙ sym e))
     larger (inr e) = absurd (not-spent s q r n (spent s q r e))
 
-same-enough : (s t : Source) (q u : Ran) → RunOf s q → RunOf t u → SameSolutions (problem_from s) (problem_from t) → EnoughBudget s → EnoughBudget t → SameAnswer q u
-same-enough s t q u r w e n k = by (calls-hold.same s t q u r w e)
+same-enough : (s t : Source) (q u : Ran) → RunFrom s q → RunFrom t u → SameSolutions (problem_from s) (problem_from t) → EnoughBudget s → EnoughBudget t → SameAnswer q u
+same-enough s t q u r w e n k = by (calls-hold-from.same s t q u r w e)
   where
     by : SameAnswer q u ⊎ ((q.verdict ≡ verdict.OutOfBudget) ⊎ (u.verdict ≡ verdict.OutOfBudget)) → SameAnswer q u
     by (inl x) = x
     by (inr (inl x)) = absurd (not-spent s q r n x)
     by (inr (inr x)) = absurd (not-spent t u w k x)
 
-pub with-enough : WithEnough
-with-enough = record { smaller = smaller-enough; same = same-enough }
+pub with-enough-from : WithEnoughFrom
+with-enough-from = record { smaller = smaller-enough; same = same-enough }

@@ -8,3 +8,4 @@ pub mod Replies
 pub mod Tallies
 pub mod InPlace
 pub mod Listing
+pub mod Files

@@ -35,7 +35,7 @@ use Rattle.answers.specs.declared.Ran.{Ran}
 use Rattle.answers.specs.declared.Verdict.TheVariants as said
 use Rattle.calls.specs.Calls.{problem_from, stepped, traced as tracing, ran, told, SameAnswer, SameCounts}
 use Rattle.calls.specs.Listing as own
-use Rattle.calls.specs.Listing.{Action, called, listed, Does, last_run, state_of, state_after, DoneFrom, blocks_of, padded, stands, shown, strikes, set_in_runs, set_by, set_in, Lists, SaysAgain, TurnAfter, ListAfter, StrikeAfter, ListingOf, ListingsHold}
+use Rattle.calls.specs.Listing.{Action, called, listed, Does, last_run, state_of, state_after, DoneFrom, blocks_of, padded, stands, shown, strikes, set_in_runs, set_by, set_in, Lists, SaysAgain, TurnAfter, ListAfter, StrikeAfter, ListingOf, ListingsHoldFrom}
 use Rattle.calls.proofs.Shown.{case_of, case-valid, case-plain, case-solution}
 use Rattle.calls.proofs.Replies.{asked, out_of, out-valid, out-ended, Says, Replies, Counts, ActionTells, call-tells, strike-tells, rows_by, shown_of, stands_of, strikes-of, ends_of, due-of}
 use Rattle.calls.proofs.Tallies.{limit, call-sets, strike-sets}
@@ -324,8 +324,8 @@ module _ (p : Problem) (s : Search) (m : model.Search) (start : view s ≡ m) (z
   listing-of : ListingOf p s
   listing-of = record { lists = lists_of; turn = λ acts c d. turn-of acts (called c) d (told c) (λ x i. i) (λ x k i. i) (unfold state_of in refl); strike = strike-of; list = list_of }
 
-pub listings-hold : ListingsHold
-listings-hold =
+pub listings-hold-from : ListingsHoldFrom
+listings-hold-from =
     record {
       opening = λ s a o h. let p = problem_from s in let f = fine-source s a in listing-of p o.state (open_problem p) (fresh s a o h).start (listings-of-problems.lists p f) (place.listed p f);
     }

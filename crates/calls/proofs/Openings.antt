@@ -1,4 +1,4 @@
--- Opening a file and opening a problem in hand give the same search.
+-- OpeningFrom a file and opening a problem in hand give the same search.
 use Prim.Native.Nat.{ℕ, zero, suc, ◌≤◌}
 use mathlib.Core.Bool.{cond}
 use mathlib.Core.List.{List}
@@ -29,7 +29,7 @@ use Rattle.state.specs.View.{view}
 use Rattle.state.specs.declared.Search.{Search}
 use Rattle.shown.specs.Opening.{blank, SeenOpening, seen_opened, opening}
 use Rattle.shown.specs.declared.Opened.{Opened}
-use Rattle.calls.specs.Calls.{file, value, Fine, Opens}
+use Rattle.calls.specs.Calls.{file, value, Fine, OpensFrom}
 use Rattle.calls.specs.Openings.{Checks, SameSearch, BothRefused, SameOpening}
 use Rattle.calls.proofs.RoundTrips.{no-error, problem-read, inputs-shaped, writes-no-error, file-is}
 use Rattle.calls.proofs.Demand.{opened-as}
@@ -71,7 +71,7 @@ empty-error : problem_error (problem_of empty) ≡ 4
 unfolding problem_error problem_of empty model.first_error model.sizes_in_range model.variables box_of all tab
 empty-error = refl
 
-module _ (f : List ℕ) (r : Reading) (reads : seen_read r ≡ reading_of (read_file f)) (o u : Opened) (h : Opens (file f) o) (g : Opens (value r.problem) u) where
+module _ (f : List ℕ) (r : Reading) (reads : seen_read r ≡ reading_of (read_file f)) (o u : Opened) (h : OpensFrom (file f) o) (g : OpensFrom (value r.problem) u) where
   read_opened : r.answer ≡ Done → SameSearch o u
   unfolding open_file read_file open_given
   read_opened d =
@@ -100,7 +100,7 @@ module _ (f : List ℕ) (r : Reading) (reads : seen_read r ≡ reading_of (read_
 
 -- ---- a problem, and the file that `write` writes of it
 module _ (p : Problem) (b : List ℕ) (a : Answer) (s : List ℕ) (writes : written a s ≡ write_file (problem_of p) b) where
-  rewritten-opened : a ≡ Done → (o u : Opened) → Opens (value p) o → Opens (file (take (file_length (problem_of p)) s)) u → SameSearch o u
+  rewritten-opened : a ≡ Done → (o u : Opened) → OpensFrom (value p) o → OpensFrom (file (take (file_length (problem_of p)) s)) u → SameSearch o u
   unfolding open_file
   rewritten-opened d o u h g =
       let z = writes-no-error p b a s writes d in
@@ -130,7 +130,7 @@ unfolding number
 checked-fine p c k d =
     record { shaped = shaped_of (model.variables (problem_of p)) (problem_of p).constraints (inputs-shaped p); fine = sym k ∙ ap number d }
 
-opened-checked : (p : Problem) (c : Answer) → Checks p c → (o : Opened) → Opens (value p) o → number o.answer ≡ number c
+opened-checked : (p : Problem) (c : Answer) → Checks p c → (o : Opened) → OpensFrom (value p) o → number o.answer ≡ number c
 unfolding open_given
 opened-checked p c k o h = numbered o (problem_error (problem_of p)) (problem_of p) h ∙ sym k
 

@@ -40,9 +40,9 @@ Fine (file f) = Accepted f
 Fine (value p) = Acceptable (problem_of p)
 
 -- ---- the calls: what their contracts say of an answer
-abbrev pub Opens : Source → Opened → Type 0
-Opens (file f) o = seen_opened o ≡ opening (open_file f)
-Opens (value p) o = seen_opened o ≡ opening (open_given (problem_of p))
+abbrev pub OpensFrom : Source → Opened → Type 0
+OpensFrom (file f) o = seen_opened o ≡ opening (open_file f)
+OpensFrom (value p) o = seen_opened o ≡ opening (open_given (problem_of p))
 
 -- a call on a search with its answer; of a trace the buffer's bytes too, before and after
 pub data Call : Type 0 where
@@ -150,7 +150,7 @@ pub record Decided (p : model.Problem) (q : Ran) : Type 0 where
   pub else-first : ¬ (q.verdict ≡ verdict.NoSolution) → (q.verdict ≡ verdict.Solution) × (x : Point) × (q.values ≡ x ++ zeros (room - length x)) × First p x
 
 -- of all lists of calls from one opening of p, and the run q from there
-pub record Opening (p : model.Problem) (o : Opened) (q : Ran) : Type 0 where
+pub record OpeningFrom (p : model.Problem) (o : Opened) (q : Ran) : Type 0 where
   pub accepted : o.answer ≡ Done
   pub last : ℕ
   pub blocks : List (List ℕ)
@@ -163,10 +163,10 @@ pub record Opening (p : model.Problem) (o : Opened) (q : Ran) : Type 0 where
   pub or-spent : Decided p q ⊎ (q.verdict ≡ verdict.OutOfBudget)
 
 -- a run after an opening
-pub record RunOf (s : Source) (q : Ran) : Type 0 where
+pub record RunFrom (s : Source) (q : Ran) : Type 0 where
   pub fine : Fine s
   pub opened : Opened
-  pub opens : Opens s opened
+  pub opens : OpensFrom s opened
   pub runs : Makes opened.state (ran q)
 
 -- of one and the same problem under two budgets
@@ -176,18 +176,18 @@ UnderBudget s t = problem_from t ≡ with_budget (problem_from s) (problem_from 
 abbrev pub EnoughBudget : Source → Type 0
 EnoughBudget s = points (problem_from s) ≤ (problem_from s).budget
 
-pub record CallsHold : Type 0 where
-  pub opening : (s : Source) → Fine s → (o : Opened) → Opens s o → (q : Ran) → Makes o.state (ran q) → Opening (problem_from s) o q
+pub record CallsHoldFrom : Type 0 where
+  pub opening : (s : Source) → Fine s → (o : Opened) → OpensFrom s o → (q : Ran) → Makes o.state (ran q) → OpeningFrom (problem_from s) o q
   -- a smaller budget: the same answer, or 'spent', whatever the number of points
-  pub smaller : (s t : Source) (q u : Ran) → RunOf s q → RunOf t u → UnderBudget s t → (problem_from t).budget ≤ (problem_from s).budget →
+  pub smaller : (s t : Source) (q u : Ran) → RunFrom s q → RunFrom t u → UnderBudget s t → (problem_from t).budget ≤ (problem_from s).budget →
       SameAnswer u q ⊎ (u.verdict ≡ verdict.OutOfBudget)
   -- equal answers for equal solution sets, whatever the budgets, but for 'spent'
-  pub same : (s t : Source) (q u : Ran) → RunOf s q → RunOf t u → SameSolutions (problem_from s) (problem_from t) →
+  pub same : (s t : Source) (q u : Ran) → RunFrom s q → RunFrom t u → SameSolutions (problem_from s) (problem_from t) →
       SameAnswer q u ⊎ ((q.verdict ≡ verdict.OutOfBudget) ⊎ (u.verdict ≡ verdict.OutOfBudget))
 
 -- with enough budget: at least the points
-pub record WithEnough : Type 0 where
+pub record WithEnoughFrom : Type 0 where
   -- the answer under another budget, smaller or larger, is that under one of at least the points, or 'spent'
-  pub smaller : (s t : Source) (q u : Ran) → RunOf s q → RunOf t u → UnderBudget s t → EnoughBudget s → SameAnswer u q ⊎ (u.verdict ≡ verdict.OutOfBudget)
+  pub smaller : (s t : Source) (q u : Ran) → RunFrom s q → RunFrom t u → UnderBudget s t → EnoughBudget s → SameAnswer u q ⊎ (u.verdict ≡ verdict.OutOfBudget)
   -- equal answers for equal solution sets
-  pub same : (s t : Source) (q u : Ran) → RunOf s q → RunOf t u → SameSolutions (problem_from s) (problem_from t) → EnoughBudget s → EnoughBudget t → SameAnswer q u
+  pub same : (s t : Source) (q u : Ran) → RunFrom s q → RunFrom t u → SameSolutions (problem_from s) (problem_from t) → EnoughBudget s → EnoughBudget t → SameAnswer q u

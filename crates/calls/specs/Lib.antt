@@ -3,3 +3,4 @@ pub mod RoundTrips
 pub mod Calls
 pub mod Listing
 pub mod Openings
+pub mod Files

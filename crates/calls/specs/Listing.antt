@@ -26,7 +26,7 @@ use Rattle.shown.specs.declared.Exclusion.TheVariants as exclusion
 use Rattle.answers.specs.declared.Listed.{Listed}
 use Rattle.answers.specs.declared.Verdict.{Verdict}
 use Rattle.answers.specs.declared.Verdict.TheVariants as verdict
-use Rattle.calls.specs.Calls.{Source, problem_from, Fine, Opens, Call, stepped, traced, ran, Makes, told, parts_at, given, SameAnswer, SameCounts}
+use Rattle.calls.specs.Calls.{Source, problem_from, Fine, OpensFrom, Call, stepped, traced, ran, Makes, told, parts_at, given, SameAnswer, SameCounts}
 
 -- ---- the calls, strikes and listings among them: what their contracts say of an answer
 -- of a listing the buffer's numbers too, before and after
@@ -278,5 +278,5 @@ pub record ListingOf (p : Problem) (s : Search) : Type 0 where
   pub strike : (acts : List Action) (e : Excluded) → DoneFrom s (excluded e ∷ acts) → StrikeAfter p (state_after s acts) acts e
   pub list : (acts : List Action) (old new : List ℤ) (r : Listed) → DoneFrom s (listed old new r ∷ acts) → ListAfter p (state_after s acts) acts old new r
 
-pub record ListingsHold : Type 0 where
-  pub opening : (s : Source) → Fine s → (o : Opened) → Opens s o → ListingOf (problem_from s) o.state
+pub record ListingsHoldFrom : Type 0 where
+  pub opening : (s : Source) → Fine s → (o : Opened) → OpensFrom s o → ListingOf (problem_from s) o.state

@@ -11,7 +11,7 @@ use lib.IntN.{ℤ}
 use Rattle.model_problems.specs.Lists.{tab}
 use Rattle.model_problems.specs.Ranges.{max_variables}
 use Rattle.model_problems.specs.Constraint.{Constraint, equal}
-use Rattle.model_walk.specs.Search.{Level, Core, kept, number_at, next_number, keep}
+use Rattle.model_walk.specs.Search.{Level, Core, number_at, next_number, keep}
 use Rattle.model_walk.specs.Conflict.{first_equal, numbered_by, numbered}
 use Rattle.lists.proofs.Tab.{length-tab, tab-step, tab-end}
 use Rattle.layout.specs.Rows.{constraint_at, row_at}

@@ -2,12 +2,12 @@
 use Prim.Native.Nat.{ℕ, ◌+◌, ◌*◌, ◌/◌, ◌%◌, ◌-◌, ◌<◌, ◌≤◌}
 use native.Mathlib.Omega.{arith}
 use native.Mathlib.Numerals.{add-one}
-use mathlib.Core.Bool.{Bool, true, false, not, and-false}
+use mathlib.Core.Bool.{Bool, true, false, and-false}
 use mathlib.Core.Path.{◌≡◌, refl, sym, ap, ◌∙◌}
 use mathlib.Core.List.{List}
 use lib.Dec.{eqb}
 use lib.ListN.{take, drop, length}
-use borrow.Author.Tests.{le-leb, lt-leb, eq-eqb, eqb-true, not-true, not-false}
+use borrow.Author.Tests.{le-leb, lt-leb, eq-eqb, eqb-true}
 use Rattle.model_files.specs.Bytes.{Bytes, u32_at, u32_bytes, u16_bytes, block_length, check_offset, block, checksum, zero_between, zero_from}
 use Rattle.model_files.specs.File.{magic, variables_in, constraints_in, budget_in, bounds_offset, coefficient_offset, divisor_offset, threshold_offset, problem_in, whole_blocks, check_matches, checks_match, magic_matches, block_count_matches, block_padded, constraint_padded, head_padded, padding_zero}
 use Rattle.model_problems.specs.Lists.{tab, all}

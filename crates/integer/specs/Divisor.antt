@@ -1,6 +1,6 @@
 -- The model's greatest common divisor, and division by a divisor.
-use Rattle.std.specs.Prelude.{◌⊎◌, ◌≡◌, refl, ℕ, zero, suc, ◌*◌, ◌/◌, ◌%◌, ◌≤◌, ◌<◌, ℤ, pos, negsuc, neg_ℤ, nat_abs, ◌*ℤ◌}
-use Rattle.std.proofs.Common.{inl, inr, ⊎_elim, sym, ap, mod-lt, zero-lt-suc, arith}
+use Rattle.std.specs.Prelude.{◌⊎◌, ◌≡◌, refl, ℕ, zero, suc, ◌/◌, ◌%◌, ◌≤◌, ◌<◌, ℤ, pos, negsuc, neg_ℤ, nat_abs, ◌*ℤ◌}
+use Rattle.std.proofs.Common.{⊎_elim, sym, ap, mod-lt, zero-lt-suc, arith}
 use Rattle.std.specs.Int.{◌∣◌}
 use Rattle.std.proofs.Math.Nat.{mul-div_cancel', dvd_refl, dvd-zero, dvd-mod_iff, dvd_antisymm, le_of_dvd, pos_of_dvd_of_pos}
 use Rattle.model_problems.specs.Division.{exact_div, gcd_with, gcd}

@@ -1,5 +1,5 @@
 -- What the tests of the ranges say, in the model's words. The premises of a law are the facts that stand where the code returns.
-use Prim.Native.Nat.{ℕ, ◌+◌, ◌<◌, ◌≤◌}
+use Prim.Native.Nat.{ℕ, ◌<◌, ◌≤◌}
 use native.Mathlib.Omega.{arith}
 use mathlib.Core.Bool.{Bool, true, false, and-true}
 use mathlib.Core.Path.{◌≡◌, sym, ◌∙◌}

@@ -1,7 +1,7 @@
 -- The tests of one variable's bounds, and loops that go up while the numbers are in range: over the variables of a box, over rows, and over the divisors of inputs. The premises of a
 -- law are the facts that stand where the code goes on or returns.
 use Prim.Native.Nat.{ℕ, ◌+◌, ◌*◌, ◌<◌, ◌≤◌}
-use mathlib.Core.Bool.{Bool, true, false, not, and-true}
+use mathlib.Core.Bool.{Bool, true, false, and-true}
 use mathlib.Core.List.{List}
 use mathlib.Core.Path.{◌≡◌, sym, ap, ◌∙◌}
 use lib.IntN.{ℤ, pos}

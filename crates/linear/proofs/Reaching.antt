@@ -5,21 +5,21 @@ use native.Mathlib.Omega.{arith}
 use mathlib.Core.Bool.{true, false}
 use mathlib.Core.List.{List, [], ◌∷◌}
 use mathlib.Core.Option.{none}
-use mathlib.Core.Path.{◌≡◌, refl, sym, ap, ap₂, ◌∙◌}
+use mathlib.Core.Path.{◌≡◌, refl, sym, ap, ◌∙◌}
 use lib.Dec.{leb-zero, lit≤}
-use lib.IntN.{ℤ, pos, negsuc, neg_ℤ, nat_abs, ◌+ℤ◌, ◌-ℤ◌, ◌*ℤ◌, +ℤ_assoc, +ℤ_comm, +ℤ_idl}
+use lib.IntN.{ℤ, pos, negsuc, nat_abs, ◌+ℤ◌, ◌-ℤ◌, ◌*ℤ◌, +ℤ_assoc, +ℤ_comm, +ℤ_idl}
 use lib.ListN.{get_or, set, length}
 use lib.Signed.{◌≤ℤ◌, le_z}
 use Rattle.model_problems.specs.Lists.{tab}
 use Rattle.model_problems.specs.Ranges.{max_coefficient}
-use Rattle.model_problems.specs.Constraint.{Constraint, Bounds, Box, no_bounds, coefficient_at, lower_at, upper_at, set_lower, set_upper, term, terms, activity}
+use Rattle.model_problems.specs.Constraint.{Constraint, Bounds, Box, coefficient_at, lower_at, upper_at, set_lower, set_upper, term, terms, activity}
 use Rattle.model_walk.specs.Move.{improvement_at}
 use Rattle.integer.specs.Parts.{◌⊑◌, sub_parts, mul-parts, le_out}
 use Rattle.integer.specs.Expression as E
 use Rattle.integer.specs.Expression.{rep, var, nat}
 use Rattle.integer.specs.Size.{Within, weaken, add-within, mul-within, neg-within}
 use Rattle.lists.proofs.Bools.{clash}
-use Rattle.layout.specs.Rows.{number_in, cell, constraint_at, bounds_at, box_of}
+use Rattle.layout.specs.Rows.{cell, constraint_at, bounds_at, box_of}
 use Rattle.linear.specs.Ranges.{TermFits, RowFits, BoxFits, widest_term, widest_activity}
 use Rattle.linear.specs.Improvement.{move_of}
 use Rattle.linear.specs.Reach.{span_of, widest_span}

@@ -1,11 +1,10 @@
 -- Tests: the two ways to say that one passes, what the code's `if` tells of one, both of two, one of two; and the one of two orders.
 use Prim.Native.Nat.{ℕ, zero, suc, ◌<◌, ◌≤◌}
 use native.Mathlib.Omega.{arith}
-use mathlib.Core.Bool.{Bool, true, false, not, ◌&&◌, ◌||◌}
+use mathlib.Core.Bool.{Bool, true, false, ◌&&◌, ◌||◌}
 use mathlib.Core.Path.{◌≡◌, refl, sym, ◌∙◌}
 use mathlib.Core.Logic.{◌⊎◌, inl, inr, ⊎_elim}
 use lib.Dec.{T}
-use borrow.Author.Tests.{not-true, not-false}
 
 -- ---- T b and b ≡ true
 pub true_of : (b : Bool) → T b → b ≡ true

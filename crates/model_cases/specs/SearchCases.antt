@@ -1,7 +1,7 @@
 -- Computed cases of turns and runs. The problems were searched for; their values come from document 01 and from two other implementations of it.
 use Rattle.std.specs.Prelude.{ℕ, Bool, ◌&&◌, not, List, [], ◌∷◌, eqb, ℤ, pos, replicate}
 use Rattle.model_problems.specs.Lists.{all, all_pairs, with_default}
-use Rattle.model_problems.specs.Constraint.{Constraint, Bounds, Box, falsified, resolvent, in_range, equal}
+use Rattle.model_problems.specs.Constraint.{Constraint, Box, falsified, resolvent, in_range, equal}
 use Rattle.model_problems.specs.Problem.{Problem}
 use Rattle.model_walk.specs.Search.{Reason, domain, decision, flipped, constraint, Reasons, Core, Status, undecided, infeasible, solved, depth, core_of, open_problem}
 use Rattle.model_walk.specs.Move.{descend}

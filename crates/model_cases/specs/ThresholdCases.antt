@@ -1,18 +1,18 @@
 -- Computed cases of document 02's N6: bounds that jump, files with thresholds, and made-up walks.
 -- Verdicts, counts and bytes are those of two other implementations.
 use Rattle.std.specs.Prelude.{ℕ, Bool, ◌&&◌, not, List, [], ◌∷◌, ◌++◌, map, eqb, ℤ, pos, replicate}
-use Rattle.model_problems.specs.Lists.{all, all_of, any_of, all_pairs}
-use Rattle.model_problems.specs.Constraint.{Constraint, Bounds, Box}
+use Rattle.model_problems.specs.Lists.{all, all_of, any_of}
+use Rattle.model_problems.specs.Constraint.{Constraint, Bounds}
 use Rattle.model_problems.specs.Problem.{Problem}
 use Rattle.model_files.specs.File.{read_error, read_file, file_of, write_error}
-use Rattle.model_walk.specs.Search.{domain, decision, flipped, constraint, Level, undecided, Search, open_problem}
+use Rattle.model_walk.specs.Search.{domain, flipped, Level, undecided, Search, open_problem}
 use Rattle.model_walk.specs.Validity.{valid}
 use Rattle.model_walk.specs.Step.{no_solution, solution, Outcome, run_call}
 use Rattle.model_claims.specs.Enumeration.{all_turns, walk}
 use Rattle.model_walk.specs.Trace.{joined}
-use Rattle.model_problems.specs.Examples.{neg, linear, with_divisor, between, semicontinuous, problem, A-first, A-second, same_values, is_ok, to}
+use Rattle.model_problems.specs.Examples.{neg, linear, with_divisor, between, semicontinuous, A-first, A-second, is_ok, to}
 use Rattle.model_walk.specs.Examples.{runs_to}
-use Rattle.model_cases.specs.Examples.{same_bytes, same_problem, steps_to, entry, writes, filled}
+use Rattle.model_cases.specs.Examples.{same_bytes, same_problem, entry, writes, filled}
 use Rattle.model_cases.specs.SearchCases.{stands, after, by}
 use Rattle.model_cases.specs.ExclusionCases.{rounds}
 use Rattle.model_cases.specs.ListingCases.{lists}

@@ -1,8 +1,8 @@
 -- Computed cases of lines, thresholds and points.
-use Rattle.std.specs.Prelude.{ℕ, Bool, ◌&&◌, not, List, [], ◌∷◌, map, T, eqb, pos}
+use Rattle.std.specs.Prelude.{Bool, ◌&&◌, not, List, [], ◌∷◌, map, T, eqb, pos}
 use Rattle.model_problems.specs.Lists.{all, all_of, any_of, all_pairs}
 use Rattle.model_problems.specs.Division.{divides}
-use Rattle.model_problems.specs.Constraint.{Constraint, Bounds, falsified, rounded, resolvent, equal}
+use Rattle.model_problems.specs.Constraint.{Constraint, falsified, rounded, resolvent, equal}
 use Rattle.model_problems.specs.Threshold.{allowed, lifted, sunk, next_value}
 use Rattle.model_problems.specs.Points.{Point, all_points, points, value}
 use Rattle.model_problems.specs.Examples.{neg, linear, divided, between, to, at, semicontinuous, problem, same_values}

@@ -1,9 +1,8 @@
 -- The walk in brief: small computed cases of document 02's N1, N4 and N5. `model_cases` has the others.
-use Rattle.std.specs.Prelude.{ℕ, suc, Bool, ◌&&◌, List, [], ◌∷◌, T, eqb, ℤ, pos, length, replicate}
+use Rattle.std.specs.Prelude.{ℕ, suc, Bool, ◌&&◌, List, [], ◌∷◌, T, eqb, pos, length, replicate}
 use Rattle.model_problems.specs.Lists.{all, all_pairs}
 use Rattle.model_problems.specs.Constraint.{Constraint, Bounds, equal}
 use Rattle.model_problems.specs.Points.{Point}
-use Rattle.model_problems.specs.Problem.{Problem}
 use Rattle.model_problems.specs.Ranges.{max_propagations}
 use Rattle.model_problems.specs.Examples.{neg, linear, divided, between, to, at, problem, plan_a, plan_b, same_values, is_ok}
 use Rattle.model_walk.specs.Search.{constraint, Level, Core, Search, levels, open_problem}

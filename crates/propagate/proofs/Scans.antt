@@ -8,7 +8,7 @@ use mathlib.Core.List.{List}
 use mathlib.Core.Option.{Option, none, some}
 use mathlib.Core.Path.{◌≡◌, refl, sym, ◌∙◌}
 use borrow.Author.Tests.{lt-ltb, le-ltb}
-use lib.IntN.{ℤ, pos, ◌-ℤ◌}
+use lib.IntN.{ℤ, ◌-ℤ◌}
 use lib.Signed.{lt_z}
 use Rattle.model_problems.specs.Lists.{tab, or_else, with_default}
 use Rattle.model_problems.specs.Constraint.{Constraint, Box, modulus, term, activity}

@@ -1,28 +1,24 @@
 -- What is tracked of the constraints: one by one, as bounds change, and what it tells of the scans.
-use Prim.Native.Nat.{ℕ, zero, suc, ◌+◌, ◌-◌, ◌*◌, ◌≤◌, ◌<◌}
+use Prim.Native.Nat.{ℕ, ◌+◌, ◌*◌, ◌≤◌, ◌<◌}
 use native.Mathlib.Nat.{eq-or-lt_of_le}
 use native.Mathlib.Omega.{arith}
-use native.Mathlib.Numerals.{add-one}
-use mathlib.Core.Bool.{true, false}
 use mathlib.Core.List.{List}
-use mathlib.Core.Logic.{◌⊎◌, inl, inr, ⊎_elim}
-use mathlib.Core.Option.{Option, none}
-use mathlib.Core.Path.{◌≡◌, refl, sym, ap, subst, ◌∙◌}
+use mathlib.Core.Logic.{⊎_elim}
+use mathlib.Core.Option.{none}
+use mathlib.Core.Path.{◌≡◌, refl, sym, subst, ◌∙◌}
 use lib.Dec.{lit≤}
 use lib.IntN.{ℤ, pos, ◌+ℤ◌, ◌-ℤ◌}
-use lib.ListN.{length, set, get_or, length-set}
+use lib.ListN.{length, set, length-set}
 use lib.Seq.{get_or-set_same, get_or-set_other}
-use lib.Signed.{◌≤ℤ◌, lt_z}
-use Rattle.model_problems.specs.Lists.{tab, or_else}
+use lib.Signed.{◌≤ℤ◌}
+use Rattle.model_problems.specs.Lists.{tab}
 use Rattle.model_problems.specs.Ranges.{max_variables}
-use Rattle.model_problems.specs.Constraint.{Bounds, in_range, activity, term, lower_at, upper_at, set_lower, set_upper, coefficient_at}
+use Rattle.model_problems.specs.Constraint.{in_range, activity, term}
 use Rattle.model_files.specs.File.{no_constraint}
-use Rattle.model_walk.specs.Move.{Move, conflict, first_falsified, improvement_from}
 use Rattle.integer.specs.Order.{≤_trans}
 use Rattle.integer.specs.Expression.{var, le, of_le}
 use Rattle.integer.specs.Parts.{◌⊑◌}
 use Rattle.integer.specs.Size.{Within, weaken, below, add-within, neg-within}
-use Rattle.integer.specs.Tests.{lt-lt_z, le-lt_z}
 use Rattle.lists.proofs.Bools.{true_of, lt-or-le}
 use Rattle.lists.proofs.Tab.{length-tab, get_d-tab}
 use Rattle.lists.proofs.AllOf.{all_of-get_d}
@@ -32,7 +28,6 @@ use Rattle.linear.proofs.Ranges.{row_fits, box-fits, term_fits, lower-within, up
 use Rattle.linear.proofs.Reaching.{span_none, span-nested, span-size, activity-raised, activity-lowered, activity-size}
 use Rattle.layout.specs.Rows.{row_length, number_in, cell, constraint_at, row_at, bounds_at, box_of, max_rows, rows_length}
 use Rattle.layout.proofs.Rows.{length-box, coefficient-at, lower-at, upper-at, box-lower, box-upper}
-use Rattle.propagate.specs.Moves.{hit_at}
 use Rattle.propagate.specs.Tracked.{ScanFits, Known, TrackedAt, Tracked, Shiftable, Shifted, FirstAbove, Told}
 use Rattle.bits.specs.Masks.{Opens}
 use Rattle.propagate.proofs.Scans.{improved_at}

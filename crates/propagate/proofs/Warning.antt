@@ -5,8 +5,8 @@ use native.Mathlib.Omega.{arith}
 use mathlib.Core.Bool.{true, false}
 use mathlib.Core.List.{List, [], ◌∷◌, ◌++◌}
 use mathlib.Core.Logic.{◌⊎◌, inl, inr, ⊎_elim}
-use mathlib.Core.Option.{Option, none, some}
-use mathlib.Core.Path.{◌≡◌, refl, sym, ap, subst, ◌∙◌}
+use mathlib.Core.Option.{none, some}
+use mathlib.Core.Path.{◌≡◌, refl, sym, ap, ◌∙◌}
 use borrow.Author.Tests.{lt-ltb, le-ltb}
 use lib.IntN.{ℤ, pos, negsuc, nat_abs}
 use lib.ListN.{get_or, length, length-append, get_or-append}
@@ -26,7 +26,6 @@ use Rattle.state.specs.View.{kept_cuts, divisor_for}
 use Rattle.validity.proofs.Every.{Every}
 use Rattle.validity.proofs.Constraints.{Inequality, lower-unseen, upper-unseen}
 use Rattle.validity.proofs.Blank.{Blank, blank-clear, BlankOf, whole, blank, Blanked, blanked-same, blanked-append, improvement-blanked}
-use Rattle.bits.specs.Masks.{bit}
 use Rattle.propagate.specs.Moves.{hit_at}
 use Rattle.propagate.specs.Ready.{kept_rows}
 use Rattle.propagate.specs.Tracked.{Told}

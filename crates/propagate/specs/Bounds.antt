@@ -1,5 +1,5 @@
 -- A bound of a variable is set, on one side, with its reason.
-use Rattle.std.specs.Prelude.{ℕ, ◌<◌, List, ◌≡◌, ℤ, ◌-ℤ◌, length, set}
+use Rattle.std.specs.Prelude.{ℕ, ◌<◌, List, ◌≡◌, ℤ, ◌-ℤ◌, set}
 use Rattle.model_problems.specs.Ranges.{max_variables}
 use Rattle.integer.specs.Size.{Within}
 use Rattle.linear.specs.Ranges.{widest_bound, widest_change}

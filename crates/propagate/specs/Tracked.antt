@@ -1,6 +1,6 @@
 -- What the scans ask, and what is kept of each constraint as bounds change: its minimum activity, and a number that is at least what any variable can
 -- move it.
-use Rattle.std.specs.Prelude.{ℕ, ◌+◌, ◌*◌, ◌≤◌, ◌<◌, List, ◌≡◌, T, ℤ, pos, ◌+ℤ◌, length, ◌≤ℤ◌, ◌<ℤ◌}
+use Rattle.std.specs.Prelude.{ℕ, ◌*◌, ◌≤◌, ◌<◌, List, ◌≡◌, T, ℤ, pos, ◌+ℤ◌, length, ◌≤ℤ◌, ◌<ℤ◌}
 use Rattle.model_problems.specs.Lists.{tab, all_of}
 use Rattle.model_problems.specs.Ranges.{max_variables, max_coefficient}
 use Rattle.model_problems.specs.Constraint.{in_range, term, activity}

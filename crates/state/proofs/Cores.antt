@@ -1,12 +1,11 @@
 -- The view of a state after its levels changed.
 use Prim.Native.Nat.{ℕ, zero, suc, ◌+◌, ◌-◌, ◌≤◌, ◌<◌}
 use native.Mathlib.Omega.{arith}
-use native.Mathlib.Numerals.{add-one}
 use mathlib.Core.List.{List, [], ◌∷◌, ◌++◌}
 use mathlib.Core.Logic.{◌≢◌}
 use mathlib.Core.Path.{◌≡◌, refl, sym, ap, ap₂, fun_ext, ◌∙◌}
 use lib.IntN.{ℤ}
-use lib.ListN.{get_or, set, length, drop}
+use lib.ListN.{set, length, drop}
 use lib.Seq.{get_or-set_same, get_or-set_other}
 use Rattle.model_problems.specs.Lists.{tab}
 use Rattle.model_problems.specs.Constraint.{Constraint}
@@ -17,7 +16,6 @@ use Rattle.lists.proofs.Tab.{length-tab, tab-append, tab-ext, tab-ext-0}
 use Rattle.layout.specs.Rows.{constraint_at, row_at, divided_at, input_at}
 use Rattle.state.specs.View.{level_of, no_level, level_at, levels_from, kept_cuts, number_for, divisor_for, kept_at, core_over, core_with}
 use Rattle.state.specs.declared.Level.{Level}
-use Rattle.state.specs.declared.Search.{Search}
 
 -- the kept constraints are one table of rows
 pub kept-rows : (n m made : ℕ) (rows : List ℤ) (numbers : List ℕ) (l : model.Level) (ls : List model.Level) →

@@ -1,8 +1,8 @@
 -- A changed level is the model's changed level.
-use Prim.Native.Nat.{ℕ, zero, suc, ◌+◌, ◌-◌, ◌≤◌, ◌<◌}
+use Prim.Native.Nat.{ℕ, ◌≤◌, ◌<◌}
 use native.Mathlib.Omega.{arith}
-use mathlib.Core.List.{List, [], ◌∷◌, ◌++◌}
-use mathlib.Core.Path.{◌≡◌, refl, sym, ap, ap₂, ◌∙◌}
+use mathlib.Core.List.{List}
+use mathlib.Core.Path.{◌≡◌, sym, ap, ap₂, ◌∙◌}
 use lib.IntN.{ℤ, pos}
 use lib.ListN.{get_or, set, length}
 use lib.Seq.{get_or-set_same, get_or-set_other}
@@ -11,7 +11,7 @@ use Rattle.model_problems.specs.Constraint.{Box, lower_at}
 use Rattle.model_problems.specs.Threshold.{threshold_at, next_value}
 use Rattle.model_walk.specs.Search as model
 use Rattle.lists.proofs.Tab.{get_d-tab, set-tab}
-use Rattle.layout.specs.Rows.{box_of, number_in, thresholds_of}
+use Rattle.layout.specs.Rows.{number_in, thresholds_of}
 use Rattle.layout.proofs.Rows.{lower-at, box-lower, box-upper}
 use Rattle.state.specs.View.{reason_of, reasons_in, decision_reason, flipped_reason, level_of}
 use Rattle.state.specs.Change.{Whole, raised, lowered, decided_at}

@@ -12,7 +12,7 @@ use Rattle.model_problems.specs.Ranges.{max_constraints, max_cuts}
 use Rattle.model_walk.specs.Search.{dropped, kept_number}
 use Rattle.lists.proofs.Tab.{length-tab}
 use Rattle.layout.specs.Rows.{row_at}
-use Rattle.state.specs.View.{kept_cuts, core_over, core_with}
+use Rattle.state.specs.View.{kept_cuts, core_over}
 use Rattle.state.specs.Position.{absent, constraint_in, PositionOf}
 
 -- ---- an element that may be missing

@@ -1,24 +1,23 @@
 -- Every state that the code can hold has the shape that the model's validity is about: its view's lists are as long as its sizes say.
-use Prim.Native.Nat.{ℕ, zero, suc, ◌+◌, ◌*◌, ◌<◌, min}
-use native.Mathlib.Omega.{arith}
-use mathlib.Core.Bool.{true, ◌&&◌}
-use mathlib.Core.List.{List, [], ◌∷◌, ◌++◌, map}
-use mathlib.Core.Path.{◌≡◌, refl, sym, ap, subst, ◌∙◌}
+use Prim.Native.Nat.{ℕ, zero, suc, ◌+◌, ◌*◌, min}
+use mathlib.Core.Bool.{true}
+use mathlib.Core.List.{List, map}
+use mathlib.Core.Path.{◌≡◌, refl, sym, subst, ◌∙◌}
 use lib.Dec.{T, eqb, eqb_refl}
 use lib.IntN.{ℤ}
 use lib.ListN.{length, length-map}
 use Rattle.model_problems.specs.Lists.{tab, all, all_of}
 use Rattle.model_problems.specs.Ranges.{max_cuts}
-use Rattle.model_problems.specs.Constraint.{Constraint, modulus, is_inequality}
+use Rattle.model_problems.specs.Constraint.{modulus, is_inequality}
 use Rattle.model_walk.specs.Search as model
 use Rattle.model_walk.specs.Validity.{level_shaped, constraint_shaped, shaped}
 use Rattle.lists.proofs.Bools.{true_of, T_of, and_both}
 use Rattle.lists.proofs.Tab.{length-tab}
 use Rattle.lists.proofs.All.{all-of}
 use Rattle.lists.proofs.AllOf.{all_of-tab}
-use Rattle.layout.specs.Rows.{constraint_at, row_at, divided_at, row_length, box_of, bounds_at}
+use Rattle.layout.specs.Rows.{constraint_at, row_at, divided_at, row_length}
 use Rattle.layout.proofs.Rows.{length-box, length-coefficients}
-use Rattle.state.specs.View.{reasons_in, level_of, no_level, level_at, levels_from, kept_cuts, kept_at, core_over, inputs_of, core_of}
+use Rattle.state.specs.View.{reasons_in, level_of, level_at, levels_from, kept_cuts, kept_at, core_over, inputs_of, core_of}
 use Rattle.state.specs.declared.Level.{Level}
 use Rattle.state.specs.declared.Search.{Search}
 use Rattle.state.proofs.Cores.{kept-over}

@@ -1,6 +1,5 @@
 -- A level's arrays after a change.
 use Rattle.std.specs.Prelude.{ℕ, List, ◌≡◌, ℤ, pos, get_or, set, length}
-use Rattle.layout.specs.Rows.{number_in}
 use Rattle.state.specs.View.{decision_reason}
 use Rattle.state.specs.declared.Level.{Level}
 

@@ -1,5 +1,5 @@
 -- A threshold beside the limits of its variable, and one that a search state carries.
-use mathlib.Core.Bool.{Bool, true, false, not}
+use mathlib.Core.Bool.{Bool, true, false}
 use mathlib.Core.Path.{◌≡◌}
 use lib.Dec.{eqb}
 use lib.IntN.{ℤ, pos}

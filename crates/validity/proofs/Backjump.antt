@@ -11,7 +11,7 @@ use lib.IntN.{ℤ}
 use lib.ListN.{get_or, length, drop, length-set}
 use lib.Seq.{get_or-set_other}
 use Rattle.model_problems.specs.Lists.{all_of, or_else, with_default}
-use Rattle.model_problems.specs.Constraint.{Constraint, Bounds, Box, no_bounds, lower_at, upper_at, set_lower, falsified}
+use Rattle.model_problems.specs.Constraint.{Constraint, Bounds, no_bounds, lower_at, upper_at, set_lower, falsified}
 use Rattle.model_problems.specs.Threshold.{threshold_at, next_value}
 use Rattle.model_walk.specs.Search.{flipped, Reasons, no_reasons, Level, reasons_at, set_lower_reason, hold_lower, flip_at, Core, levels, with_levels, kept, dropped}
 use Rattle.model_walk.specs.Conflict.{least_falsified, back_from}

@@ -1,10 +1,9 @@
 -- N6's thresholds: a bound jumps to the nearest value that the variable may have, and no further; boxes whose bounds are such values.
 use Prim.Native.Nat.{ℕ, zero, suc}
 use native.Mathlib.Omega.{arith}
-use mathlib.Core.Bool.{Bool, true, false, ◌&&◌, not, cond}
+use mathlib.Core.Bool.{Bool, true, false, not, cond}
 use mathlib.Core.List.{List, [], ◌∷◌}
 use mathlib.Core.Logic.{◌⊎◌, inl, inr, ⊎_elim, ◌↔◌}
-use mathlib.Core.Path.{◌≡◌}
 use lib.Dec.{T}
 use lib.IntN.{ℤ, pos, suc_ℤ}
 use lib.Signed.{le_z, lt_z}

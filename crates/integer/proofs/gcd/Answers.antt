@@ -1,5 +1,4 @@
 -- `integer::gcd` meets its contract: no divisor is at most 0 and not 0. Assumes nothing.
-use borrow.Author.Rules.{rules}
 use Rattle.integer.specs.Divisor.{above-none}
 use Rattle.integer.proofs.gcd.Goals as goal
 

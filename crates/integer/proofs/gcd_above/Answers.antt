@@ -3,7 +3,6 @@ use native.Mathlib.Omega.{arith}
 use native.Mathlib.Nat.{mod-lt}
 use mathlib.Core.Logic.{inl, inr}
 use mathlib.Core.Path.{◌≡◌, refl, sym, ◌∙◌}
-use Rattle.model_problems.specs.Division.{gcd}
 use Rattle.integer.specs.Divisor.{gcd-step, gcd-zero, gcd-small}
 use Rattle.integer.proofs.gcd_above.Goals as goal
 

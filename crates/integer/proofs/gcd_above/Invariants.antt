@@ -1,10 +1,6 @@
 -- `integer::gcd_above` meets its contract: the greatest common divisor of what is left is that of the arguments. Assumes nothing.
-use native.Mathlib.Omega.{arith}
-use native.Mathlib.Nat.{mod-lt}
-use mathlib.Core.Logic.{inl, inr}
-use mathlib.Core.Path.{◌≡◌, refl, sym, ◌∙◌}
+use mathlib.Core.Path.{◌≡◌}
 use Rattle.model_problems.specs.Division.{gcd}
-use Rattle.integer.specs.Divisor.{gcd-step, gcd-zero, gcd-small}
 use Rattle.integer.proofs.gcd_above.Given as goal
 
 abbrev pub invariant-loop-y : goal.invariant-loop-y

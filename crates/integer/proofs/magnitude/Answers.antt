@@ -5,7 +5,6 @@ use mathlib.Core.Path.{◌≡◌, ap}
 use lib.IntN.{ℤ, pos, neg_ℤ, nat_abs, ◌+ℤ◌, ◌-ℤ◌, +ℤ_idl}
 use lib.Signed.{◌<ℤ◌, ◌≤ℤ◌, nat_abs-le}
 use mir.Facts.{to_z-of_z}
-use mir.Syntax.{w64}
 use Rattle.integer.specs.Size.{size, abs_neg}
 use Rattle.integer.specs.Expression.{rep, var, le, of_lt}
 use Rattle.integer.specs.Tests.{le_z-true, le_z-false, cast-up}

@@ -1,10 +1,9 @@
 -- `layout::copy_row` meets its contract: the first i numbers are copied. Assumes nothing.
-use Prim.Native.Nat.{◌≤◌, ◌-◌, ◌+◌}
+use Prim.Native.Nat.{◌+◌}
 use native.Mathlib.Omega.{arith}
 use mathlib.Core.Path.{◌≡◌}
-use borrow.Author.Rules.{rules}
 use Rattle.layout.proofs.Elements.{number_read}
-use Rattle.layout.proofs.Copying.{Copying, copy-none, copy_more, copied}
+use Rattle.layout.proofs.Copying.{copy-none, copy_more, copied}
 use Rattle.layout.proofs.copy_row.Goals as goal
 
 pub loop-i-init : goal.loop-i-init

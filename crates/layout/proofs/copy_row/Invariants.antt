@@ -1,10 +1,6 @@
 -- `layout::copy_row` meets its contract: the first i numbers are copied. Assumes nothing.
 use Prim.Native.Nat.{◌≤◌, ◌-◌, ◌+◌}
-use native.Mathlib.Omega.{arith}
-use mathlib.Core.Path.{◌≡◌}
-use borrow.Author.Rules.{rules}
-use Rattle.layout.proofs.Elements.{number_read}
-use Rattle.layout.proofs.Copying.{Copying, copy-none, copy_more, copied}
+use Rattle.layout.proofs.Copying.{Copying}
 use Rattle.layout.proofs.copy_row.Given as goal
 
 abbrev pub invariant-loop-i : goal.invariant-loop-i

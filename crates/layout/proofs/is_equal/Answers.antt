@@ -1,12 +1,10 @@
 -- `layout::is_equal` meets its contract: the constants and the coefficients below k are the same. Assumes nothing.
-use Prim.Native.Nat.{◌≤◌, ◌-◌}
 use native.Mathlib.Omega.{arith}
-use mathlib.Core.Bool.{true, false}
+use mathlib.Core.Bool.{false}
 use mathlib.Core.Path.{◌≡◌, ◌∙◌, ap₂}
-use borrow.Author.Rules.{rules, sfits_of}
+use borrow.Author.Rules.{sfits_of}
 use mir.Facts.{to_z-of_z}
 use mir.Syntax.{w64}
-use Rattle.model_problems.specs.Lists.{tab, all}
 use Rattle.model_problems.specs.Constraint.{equalℤ}
 use Rattle.lists.proofs.Bools.{said-no, said-yes}
 use Rattle.lists.proofs.All.{all_none, all_more}

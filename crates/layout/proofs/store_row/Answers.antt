@@ -1,11 +1,9 @@
 -- `layout::store_row` meets its contract: the first i places hold its numbers. Assumes nothing.
-use Prim.Native.Nat.{◌≤◌, ◌-◌, ◌*◌}
+use Prim.Native.Nat.{◌*◌}
 use native.Mathlib.Omega.{arith}
 use mathlib.Core.Path.{◌≡◌}
-use borrow.Author.Rules.{rules}
 use Rattle.layout.specs.Rows.{row_length}
 use Rattle.layout.proofs.Elements.{number_read}
-use Rattle.layout.specs.Copies.{Placed}
 use Rattle.layout.proofs.Placing.{place_none, place-more}
 use Rattle.layout.proofs.store_row.Goals as goal
 

@@ -1,12 +1,6 @@
 -- `levels::copy_to` meets its contract. Assumes nothing.
-use Prim.Native.Nat.{ℕ, ◌≤◌, ◌<◌, ◌-◌, ◌+◌}
-use native.Mathlib.Omega.{arith}
-use mathlib.Core.Path.{◌≡◌}
-use Rattle.layout.specs.Rows.{number_in}
-use Rattle.layout.proofs.Elements.{number_read}
-use Rattle.levels.proofs.Copying.{copied_none, copied_more}
+use Prim.Native.Nat.{◌≤◌, ◌-◌}
 use Rattle.levels.specs.Copied.{Copied}
-use borrow.Author.Rules.{rules}
 use Rattle.levels.proofs.copy_to.Given as goal
 
 abbrev pub invariant-loop-j : goal.invariant-loop-j

@@ -1,7 +1,7 @@
 use borrow.Author.Rules.{rules}
-use Prim.Native.Nat.{◌+◌, ◌*◌, ◌≤◌, ◌<◌, ◌-◌}
+use Prim.Native.Nat.{◌+◌, ◌*◌, ◌<◌}
 use native.Mathlib.Omega.{arith}
-use Rattle.numerals.proofs.Reading.{Left, left-all, none, next, no_digit, large, all}
+use Rattle.numerals.proofs.Reading.{left-all, none, next, no_digit, large, all}
 use Rattle.numerals.proofs.digits.Goals as goal
 
 pub returns-then-from-end : goal.returns-then-from-end

@@ -1,7 +1,5 @@
-use borrow.Author.Rules.{rules}
-use Prim.Native.Nat.{◌+◌, ◌*◌, ◌≤◌, ◌<◌, ◌-◌}
-use native.Mathlib.Omega.{arith}
-use Rattle.numerals.proofs.Reading.{Left, left-all, none, next, no_digit, large, all}
+use Prim.Native.Nat.{◌≤◌, ◌-◌}
+use Rattle.numerals.proofs.Reading.{Left}
 use Rattle.numerals.proofs.digits.Given as goal
 
 abbrev pub invariant-loop-i : goal.invariant-loop-i

@@ -1,4 +1,3 @@
-use borrow.Author.Rules.{rules}
 use Rattle.numerals.proofs.Reading.{minus-none, less-fits, opposite-fits, minus_is}
 use Rattle.numerals.proofs.minus.Goals as goal
 

@@ -1,11 +1,4 @@
-use borrow.Author.Tests.{not-true, not-false}
-use borrow.Author.Rules.{rules}
-use Prim.Native.Nat.{◌+◌, ◌*◌, ◌≤◌}
 use native.Mathlib.Omega.{arith}
-use mathlib.Core.Bool.{true}
-use mathlib.Core.Path.{◌≡◌}
-use lib.ListN.{length}
-use Rattle.model_files.specs.Bytes.{block_length}
 use Rattle.record.proofs.Emitting.{left_alone, part_length, part-written}
 use Rattle.record.proofs.emit.Goals as goal
 

@@ -1,4 +1,3 @@
-use borrow.Author.Rules.{rules}
 use Rattle.record.proofs.Putting.{content-placed}
 use Rattle.record.proofs.put_content.Goals as goal
 

@@ -1,4 +1,3 @@
-use borrow.Author.Rules.{rules}
 use Rattle.block.proofs.Placing.{then}
 use Rattle.record.proofs.put_head.Goals as goal
 

@@ -1,13 +1,10 @@
-use borrow.Author.Rules.{rules}
 use Prim.Native.Nat.{◌+◌, ◌*◌, ◌-◌, ◌≤◌}
 use mathlib.Core.Path.{◌≡◌}
 use lib.ListN.{length}
 use Rattle.model_problems.specs.Ranges.{max_variables}
 use Rattle.model_files.specs.Bytes.{block_length}
 use Rattle.block.specs.Placed.{Placed}
-use Rattle.block.proofs.Placing.{none-placed}
 use Rattle.record.specs.Written.{used_place, used_of}
-use Rattle.record.proofs.Putting.{used-placed, all_placed}
 use Rattle.record.proofs.put_used.Given as goal
 
 abbrev pub invariant-loop-i : goal.invariant-loop-i

@@ -1,4 +1,3 @@
-use borrow.Author.Rules.{rules}
 use native.Mathlib.Omega.{arith}
 use Rattle.model_files.specs.Journal.{record_bytes}
 use Rattle.block.proofs.Sealing.{sealed-content}

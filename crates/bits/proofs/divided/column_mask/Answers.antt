@@ -1,15 +1,11 @@
 -- `bits::divided::column_mask` meets its contract: the mask is that of the inputs passed. Assumes nothing.
-use Prim.Native.Nat.{ℕ, ◌+◌, ◌-◌, ◌*◌, ◌≤◌, ◌<◌, ◌^◌}
+use Prim.Native.Nat.{◌+◌, ◌-◌, ◌*◌, ◌<◌, ◌^◌}
 use native.Mathlib.Omega.{arith}
-use mathlib.Core.Bool.{false}
-use mathlib.Core.Logic.{◌⊎◌}
-use mathlib.Core.Path.{◌≡◌, refl}
+use mathlib.Core.Path.{refl}
 use Rattle.layout.proofs.Elements.{number_read, cell-read}
-use lib.IntN.{pos}
-use Rattle.layout.specs.Rows.{row_length, number_in, cell}
-use Rattle.bits.specs.Divided.{Unmentioned}
-use Rattle.bits.proofs.Bits.{Covers, covers-none, covers-small, covers-all, covers_out, covers-in}
-use borrow.Author.Rules.{rules, sfits_of}
+use Rattle.layout.specs.Rows.{row_length}
+use Rattle.bits.proofs.Bits.{covers-none, covers-small, covers-all, covers_out, covers-in}
+use borrow.Author.Rules.{rules}
 use Rattle.bits.proofs.divided.column_mask.Goals as goal
 
 pub loop-j-init : goal.loop-j-init

@@ -1,15 +1,11 @@
 -- `bits::divided::column_mask` meets its contract: the mask is that of the inputs passed. Assumes nothing.
-use Prim.Native.Nat.{ℕ, ◌+◌, ◌-◌, ◌*◌, ◌≤◌, ◌<◌, ◌^◌}
-use native.Mathlib.Omega.{arith}
-use mathlib.Core.Bool.{false}
+use Prim.Native.Nat.{ℕ, ◌≤◌}
 use mathlib.Core.Logic.{◌⊎◌}
-use mathlib.Core.Path.{◌≡◌, refl}
-use Rattle.layout.proofs.Elements.{number_read, cell-read}
+use mathlib.Core.Path.{◌≡◌}
 use lib.IntN.{pos}
-use Rattle.layout.specs.Rows.{row_length, number_in, cell}
+use Rattle.layout.specs.Rows.{number_in}
 use Rattle.bits.specs.Divided.{Unmentioned}
-use Rattle.bits.proofs.Bits.{Covers, covers-none, covers-small, covers-all, covers_out, covers-in}
-use borrow.Author.Rules.{rules, sfits_of}
+use Rattle.bits.proofs.Bits.{Covers}
 use Rattle.bits.proofs.divided.column_mask.Given as goal
 
 abbrev pub invariant-loop-j : goal.invariant-loop-j

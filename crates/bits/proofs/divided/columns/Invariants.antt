@@ -1,15 +1,7 @@
 -- `bits::divided::columns` meets its contract. Assumes nothing.
-use Rattle.bits.proofs.Bits.{bit_past}
-use lib.Pow.{pow_pos}
-use mathlib.Core.Logic.{inl, ⊎_elim}
 use Prim.Native.Nat.{ℕ, ◌-◌, ◌≤◌, ◌<◌}
-use native.Mathlib.Omega.{arith}
-use mathlib.Core.Path.{◌≡◌, ◌∙◌}
-use borrow.Author.Count.{below_more}
-use lib.Seq.{get_or-set_same, get_or-set_other}
-use Rattle.lists.proofs.Tab.{get_d-const}
-use borrow.Author.Rules.{rules}
-use lib.ListN.{get_or, set, length, length-set}
+use mathlib.Core.Path.{◌≡◌}
+use lib.ListN.{get_or, length}
 use Rattle.model_problems.specs.Ranges.{max_variables}
 use Rattle.bits.specs.Divided.{Due, Unmentioned}
 use Rattle.bits.proofs.divided.columns.Given as goal

@@ -1,19 +1,15 @@
 -- `bits::divided::first_indivisible` meets its contract: the constraints whose bit is gone are not falsified. Assumes nothing.
 use Rattle.bits.proofs.Bits.{bit_past}
-use Prim.Native.Nat.{ℕ, ◌+◌, ◌*◌, ◌≤◌, ◌<◌, ◌^◌}
+use Prim.Native.Nat.{◌≤◌, ◌<◌}
 use native.Mathlib.Omega.{arith}
-use mathlib.Core.Bool.{true, false}
-use mathlib.Core.Logic.{◌⊎◌, inl, inr, ⊎_elim}
+use mathlib.Core.Logic.{inl, inr, ⊎_elim}
 use mathlib.Core.Path.{◌≡◌, sym, ◌∙◌}
-use borrow.Author.Rules.{rules}
 use native.Mathlib.Nat.{eq-or-lt_of_le}
 use Rattle.lists.proofs.Bools.{lt-or-le}
 use Rattle.layout.proofs.Elements.{number_read}
 use Rattle.linear.proofs.Ranges.{row_fits}
 use Rattle.model_problems.specs.Constraint.{falsified}
 use Rattle.layout.specs.Rows.{row_at, input_at, box_of}
-use Rattle.bits.specs.Masks.{bit}
-use Rattle.bits.specs.Divided.{FirstIndivisible}
 use Rattle.bits.proofs.divided.first_indivisible.Goals as goal
 
 pub loop-left-init : goal.loop-left-init
@@ -48,9 +44,12 @@ returns-then-is_falsified c =
     record {
       most = omega (arith, e.if-limit-j.false);
       before = λ k h. f.loop-left.invariant.1 k (f.first-j.ensures.before k h);
-      here = λ h. ((let it : c.first-j.result < c.args.m = c.first-j.ensures.inside _ c.loop-left.invariant.0 in it), sym ((let it : let f = c in let a = f.args in c.is_falsified.result ≡ falsified (input_at a.n a.lines.now a.divisors.now f.first-j.result) (box_of a.n a.lower.now a.upper.now) = let f = c in
-    let a = f.args in
-    rw (number_read a.divisors.now f.first-j.result c.is_falsified-arg-in-loop-left-1.given) at c.is_falsified.ensures in it)) ∙ c.if-is_falsified.true);
+      here = λ h. (
+        (let it : c.first-j.result < c.args.m = c.first-j.ensures.inside _ c.loop-left.invariant.0 in it),
+        sym ((let it : let f = c in let a = f.args in c.is_falsified.result ≡ falsified (input_at a.n a.lines.now a.divisors.now f.first-j.result) (box_of a.n a.lower.now a.upper.now) = let f = c in
+            let a = f.args in
+            rw (number_read a.divisors.now f.first-j.result c.is_falsified-arg-in-loop-left-1.given) at c.is_falsified.ensures in it)) ∙ c.if-is_falsified.true,
+      );
     }
 
 pub loop-left-preserved : goal.loop-left-preserved
@@ -67,8 +66,8 @@ loop-left-preserved c =
           (λ (h : j < t). l.loop-left.invariant.1 j (o.before j h))
           (λ (h : t ≤ j). ⊎_elim
           (λ (e : t ≡ j). inr (rw (← e) (sym ((let it : let f = c in let a = f.args in c.is_falsified.result ≡ falsified (input_at a.n a.lines.now a.divisors.now f.first-j.result) (box_of a.n a.lower.now a.upper.now) = let f = c in
-    let a = f.args in
-    rw (number_read a.divisors.now f.first-j.result c.is_falsified-arg-in-loop-left-1.given) at c.is_falsified.ensures in it)) ∙ c.if-is_falsified.false)))
+          let a = f.args in
+          rw (number_read a.divisors.now f.first-j.result c.is_falsified-arg-in-loop-left-1.given) at c.is_falsified.ensures in it)) ∙ c.if-is_falsified.false)))
           (λ (g : t < j). l.loop-left.invariant.1 j (sym (r.kept t o j g) ∙ z))
           (eq-or-lt_of_le h))
           (lt-or-le j t),

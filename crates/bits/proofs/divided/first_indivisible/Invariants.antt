@@ -1,19 +1,11 @@
 -- `bits::divided::first_indivisible` meets its contract: the constraints whose bit is gone are not falsified. Assumes nothing.
-use Rattle.bits.proofs.Bits.{bit_past}
-use Prim.Native.Nat.{ℕ, ◌+◌, ◌*◌, ◌≤◌, ◌<◌, ◌^◌}
-use native.Mathlib.Omega.{arith}
-use mathlib.Core.Bool.{true, false}
-use mathlib.Core.Logic.{◌⊎◌, inl, inr, ⊎_elim}
-use mathlib.Core.Path.{◌≡◌, sym, ◌∙◌}
-use borrow.Author.Rules.{rules}
-use native.Mathlib.Nat.{eq-or-lt_of_le}
-use Rattle.lists.proofs.Bools.{lt-or-le}
-use Rattle.layout.proofs.Elements.{number_read}
-use Rattle.linear.proofs.Ranges.{row_fits}
+use Prim.Native.Nat.{ℕ, ◌<◌, ◌^◌}
+use mathlib.Core.Bool.{false}
+use mathlib.Core.Logic.{◌⊎◌}
+use mathlib.Core.Path.{◌≡◌}
 use Rattle.model_problems.specs.Constraint.{falsified}
-use Rattle.layout.specs.Rows.{row_at, input_at, box_of}
+use Rattle.layout.specs.Rows.{input_at, box_of}
 use Rattle.bits.specs.Masks.{bit}
-use Rattle.bits.specs.Divided.{FirstIndivisible}
 use Rattle.bits.proofs.divided.first_indivisible.Given as goal
 
 abbrev pub invariant-loop-left : goal.invariant-loop-left

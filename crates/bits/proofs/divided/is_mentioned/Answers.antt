@@ -3,7 +3,6 @@ use Rattle.integer.specs.Tests.{same, fits_lit}
 use borrow.Author.Tests.{eqb-true, not-false}
 use lib.IntN.{pos}
 use mathlib.Core.Logic.{inl, inr}
-use borrow.Author.Rules.{rules}
 use Rattle.bits.proofs.divided.is_mentioned.Goals as goal
 
 pub returns-then-q-eq0 : goal.returns-then-q-eq0

@@ -1,11 +1,10 @@
 -- `bits::masks::nonzero_mask` meets its contract: the mask is that of the places passed. Assumes nothing.
-use Prim.Native.Nat.{ℕ, ◌+◌, ◌≤◌, ◌<◌, ◌^◌}
+use Prim.Native.Nat.{◌<◌, ◌^◌}
 use native.Mathlib.Omega.{arith}
-use mathlib.Core.Path.{◌≡◌}
 use lib.IntN.{pos}
 use Rattle.integer.specs.Tests.{same, fits_lit}
 use Rattle.layout.specs.Rows.{number_in}
-use Rattle.bits.proofs.Bits.{Covers, covers-none, covers-small, covers-all, covers_out, covers-in}
+use Rattle.bits.proofs.Bits.{covers-none, covers-small, covers-all, covers_out, covers-in}
 use borrow.Author.Rules.{rules, sfits_of}
 use Rattle.bits.proofs.masks.nonzero_mask.Goals as goal
 

@@ -1,12 +1,9 @@
 -- `bits::masks::nonzero_mask` meets its contract: the mask is that of the places passed. Assumes nothing.
-use Prim.Native.Nat.{ℕ, ◌+◌, ◌≤◌, ◌<◌, ◌^◌}
-use native.Mathlib.Omega.{arith}
+use Prim.Native.Nat.{ℕ, ◌+◌, ◌≤◌}
 use mathlib.Core.Path.{◌≡◌}
 use lib.IntN.{pos}
-use Rattle.integer.specs.Tests.{same, fits_lit}
 use Rattle.layout.specs.Rows.{number_in}
-use Rattle.bits.proofs.Bits.{Covers, covers-none, covers-small, covers-all, covers_out, covers-in}
-use borrow.Author.Rules.{rules, sfits_of}
+use Rattle.bits.proofs.Bits.{Covers}
 use Rattle.bits.proofs.masks.nonzero_mask.Given as goal
 
 abbrev pub invariant-loop-i : goal.invariant-loop-i

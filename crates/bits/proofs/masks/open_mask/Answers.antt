@@ -1,12 +1,11 @@
 -- `bits::masks::open_mask` meets its contract: the mask is that of the variables passed. Assumes nothing.
-use Prim.Native.Nat.{ℕ, ◌≤◌, ◌<◌, ◌^◌}
+use Prim.Native.Nat.{◌<◌, ◌^◌}
 use native.Mathlib.Omega.{arith}
-use lib.Signed.{◌≤ℤ◌}
 use mir.Facts.{to_z-of_z}
 use mir.Syntax.{w64}
 use Rattle.integer.specs.Tests.{le_z-true}
 use Rattle.layout.specs.Rows.{number_in}
-use Rattle.bits.proofs.Bits.{Covers, covers-none, covers-small, covers-all, covers_out, covers-in}
+use Rattle.bits.proofs.Bits.{covers-none, covers-small, covers-all, covers_out, covers-in}
 use borrow.Author.Rules.{rules, sfits_of}
 use Rattle.bits.proofs.masks.open_mask.Goals as goal
 

@@ -1,5 +1,4 @@
 -- `bits::masks::rest` meets its contract. Assumes nothing.
-use borrow.Author.Rules.{rules}
 use Rattle.bits.proofs.Bits.{rest-set}
 use Rattle.bits.proofs.masks.rest.Goals as goal
 

@@ -1,5 +1,4 @@
 -- `bits::masks::row_mask` meets its contract. Assumes nothing.
-use borrow.Author.Rules.{rules}
 use Rattle.layout.specs.Rows.{cell}
 use Rattle.bits.proofs.masks.row_mask.Goals as goal
 

@@ -1,5 +1,4 @@
-use Rattle.std.proofs.Common.{◌≡◌, ◌-◌, ◌≤◌, ◌++◌, length, drop, replicate, rules}
-use Rattle.model_files.specs.Bytes.{block_length}
+use Rattle.std.proofs.Common.{rules}
 use Rattle.block.proofs.Sealing.{cleared_more, cleared-all}
 use Rattle.block.proofs.build.clear.Goals as goal
 

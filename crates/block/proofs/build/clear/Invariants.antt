@@ -1,6 +1,5 @@
-use Rattle.std.proofs.Common.{◌≡◌, ◌-◌, ◌≤◌, ◌++◌, length, drop, replicate, rules}
+use Rattle.std.proofs.Common.{◌≡◌, ◌-◌, ◌≤◌, ◌++◌, length, drop, replicate}
 use Rattle.model_files.specs.Bytes.{block_length}
-use Rattle.block.proofs.Sealing.{cleared_more, cleared-all}
 use Rattle.block.proofs.build.clear.Given as goal
 
 abbrev pub invariant-loop-i : goal.invariant-loop-i

@@ -1,5 +1,5 @@
-use Rattle.std.proofs.Common.{◌≡◌, ◌-◌, ◌≤◌, rules}
-use Rattle.block.proofs.Checking.{sum_to, sum-none, sum-next, sum-all}
+use Rattle.std.proofs.Common.{rules}
+use Rattle.block.proofs.Checking.{sum-none, sum-next, sum-all}
 use Rattle.block.proofs.check.checksum.Goals as goal
 
 pub loop-w-init : goal.loop-w-init

@@ -1,5 +1,5 @@
-use Rattle.std.proofs.Common.{◌≡◌, ◌-◌, ◌≤◌, rules}
-use Rattle.block.proofs.Checking.{sum_to, sum-none, sum-next, sum-all}
+use Rattle.std.proofs.Common.{◌≡◌, ◌-◌, ◌≤◌}
+use Rattle.block.proofs.Checking.{sum_to}
 use Rattle.block.proofs.check.checksum.Given as goal
 
 abbrev pub invariant-loop-w : goal.invariant-loop-w

@@ -1,5 +1,4 @@
-use Rattle.std.proofs.Common.{◌≡◌, ◌-◌, ◌≤◌, rules}
-use Rattle.model_files.specs.Bytes.{zero_between}
+use Rattle.std.proofs.Common.{rules}
 use Rattle.block.proofs.Checking.{zero-next, zero-fails, zero-all}
 use Rattle.block.proofs.check.is_zero_between.Goals as goal
 

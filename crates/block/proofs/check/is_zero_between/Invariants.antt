@@ -1,6 +1,5 @@
-use Rattle.std.proofs.Common.{◌≡◌, ◌-◌, ◌≤◌, rules}
+use Rattle.std.proofs.Common.{◌≡◌, ◌-◌, ◌≤◌}
 use Rattle.model_files.specs.Bytes.{zero_between}
-use Rattle.block.proofs.Checking.{zero-next, zero-fails, zero-all}
 use Rattle.block.proofs.check.is_zero_between.Given as goal
 
 abbrev pub invariant-loop-j : goal.invariant-loop-j

@@ -1,9 +1,7 @@
 -- `cuts::keeping::drop_number` meets its contract: the places below i hold what stood one further on. Assumes nothing.
-use Prim.Native.Nat.{◌≤◌, ◌-◌}
 use native.Mathlib.Omega.{arith}
 use mathlib.Core.Path.{◌≡◌, refl}
-use borrow.Author.Rules.{rules}
-use Rattle.cuts.specs.Storing.{last_cut, Moved}
+use Rattle.cuts.specs.Storing.{last_cut}
 use Rattle.cuts.proofs.Storing.{move-none, move-more}
 use Rattle.cuts.proofs.keeping.drop_number.Goals as goal
 

@@ -1,10 +1,6 @@
 -- `cuts::keeping::drop_number` meets its contract: the places below i hold what stood one further on. Assumes nothing.
 use Prim.Native.Nat.{◌≤◌, ◌-◌}
-use native.Mathlib.Omega.{arith}
-use mathlib.Core.Path.{◌≡◌, refl}
-use borrow.Author.Rules.{rules}
 use Rattle.cuts.specs.Storing.{last_cut, Moved}
-use Rattle.cuts.proofs.Storing.{move-none, move-more}
 use Rattle.cuts.proofs.keeping.drop_number.Given as goal
 
 abbrev pub invariant-loop-i : goal.invariant-loop-i

@@ -1,13 +1,13 @@
 -- `cuts::keeping::drop_row` meets its contract: the places from the first cut up to i hold what stood a row further on. Assumes nothing.
-use Prim.Native.Nat.{◌≤◌, ◌-◌, ◌+◌, ◌*◌}
+use Prim.Native.Nat.{◌+◌, ◌*◌}
 use native.Mathlib.Omega.{arith}
 use mathlib.Core.Path.{◌≡◌}
-use borrow.Author.Rules.{rules, sfits_of}
+use borrow.Author.Rules.{sfits_of}
 use lib.IntN.{pos}
 use mir.Facts.{to_z-of_z}
 use mir.Syntax.{w64}
 use Rattle.layout.specs.Rows.{row_length}
-use Rattle.cuts.specs.Storing.{last_cut, Moved}
+use Rattle.cuts.specs.Storing.{last_cut}
 use Rattle.cuts.proofs.Storing.{move-none, move-more}
 use Rattle.cuts.proofs.keeping.drop_row.Goals as goal
 

@@ -1,12 +1,8 @@
 -- `cuts::keeping::equal_row` meets its contract: the first equal row is the first from j on. Assumes nothing.
-use Prim.Native.Nat.{◌≤◌, ◌-◌}
 use native.Mathlib.Nat.{sub-zero}
 use native.Mathlib.Omega.{arith}
-use mathlib.Core.Path.{◌≡◌, sym, ◌∙◌}
-use borrow.Author.Rules.{rules}
-use Rattle.model_problems.specs.Lists.{tab}
-use Rattle.model_walk.specs.Conflict.{first_equal}
-use Rattle.layout.specs.Rows.{constraint_at, row_at}
+use mathlib.Core.Path.{sym, ◌∙◌}
+use Rattle.layout.specs.Rows.{row_at}
 use Rattle.cuts.proofs.Numbering.{scan-end, scan-equal, scan-other}
 use Rattle.cuts.proofs.keeping.equal_row.Goals as goal
 

@@ -1,6 +1,5 @@
 -- `cuts::keeping::keep_number` meets its contract, as `keep_row` does. Assumes nothing.
 use native.Mathlib.Omega.{arith}
-use borrow.Author.Rules.{rules}
 use Rattle.cuts.proofs.Storing.{number-kept, number-kept-full}
 use Rattle.cuts.proofs.keeping.keep_number.Goals as goal
 

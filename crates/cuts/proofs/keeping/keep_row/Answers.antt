@@ -1,6 +1,5 @@
 -- `cuts::keeping::keep_row` meets its contract: the cut goes after the others, or into the last place once the oldest has gone. Assumes nothing.
 use native.Mathlib.Omega.{arith}
-use borrow.Author.Rules.{rules}
 use Rattle.cuts.proofs.Storing.{row_kept, row-kept-full}
 use Rattle.cuts.proofs.keeping.keep_row.Goals as goal
 

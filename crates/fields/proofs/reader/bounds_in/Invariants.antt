@@ -1,10 +1,7 @@
 use Prim.Native.Nat.{◌-◌, ◌≤◌}
-use native.Mathlib.Omega.{arith}
 use mathlib.Core.Path.{◌≡◌}
-use borrow.Author.Rules.{sfits_of, rules}
 use Rattle.fields.specs.Fields.{filled, bound_in}
-use Rattle.fields.specs.Fields.{room, zeros}
-use Rattle.fields.proofs.Arrays.{bound-is, filled_none, filled_more, filled-end}
+use Rattle.fields.specs.Fields.{room}
 use Rattle.fields.proofs.reader.bounds_in.Given as goal
 
 -- The bounds before i are read, and zeros stand after them.

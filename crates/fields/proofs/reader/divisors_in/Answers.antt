@@ -1,8 +1,6 @@
-use Prim.Native.Nat.{◌-◌, ◌≤◌}
 use native.Mathlib.Omega.{arith}
-use mathlib.Core.Path.{◌≡◌}
 use borrow.Author.Rules.{sfits_of, rules}
-use Rattle.fields.specs.Fields.{divisor_room, zeros, filled, divisor_in}
+use Rattle.fields.specs.Fields.{zeros}
 use Rattle.fields.proofs.Arrays.{filled_none, filled_more, filled-end, divisor-is}
 use Rattle.fields.proofs.reader.divisors_in.Goals as goal
 

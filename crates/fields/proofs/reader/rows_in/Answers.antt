@@ -1,9 +1,6 @@
-use Prim.Native.Nat.{◌-◌, ◌≤◌}
 use native.Mathlib.Omega.{arith}
-use mathlib.Core.Path.{◌≡◌}
 use borrow.Author.Rules.{sfits_of, rules}
-use Rattle.fields.specs.Fields.{filled, cell_in}
-use Rattle.fields.specs.Fields.{cells, zeros}
+use Rattle.fields.specs.Fields.{zeros}
 use Rattle.fields.proofs.Arrays.{filled_none, filled_more, filled-end}
 use Rattle.fields.proofs.reader.rows_in.Goals as goal
 

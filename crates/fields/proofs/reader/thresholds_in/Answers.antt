@@ -1,9 +1,6 @@
-use Prim.Native.Nat.{◌-◌, ◌≤◌}
 use native.Mathlib.Omega.{arith}
-use mathlib.Core.Path.{◌≡◌}
 use borrow.Author.Rules.{sfits_of, rules}
-use Rattle.model_files.specs.File.{threshold_in}
-use Rattle.fields.specs.Fields.{room, zeros, filled}
+use Rattle.fields.specs.Fields.{zeros}
 use Rattle.fields.proofs.Arrays.{threshold-is, filled_none, filled_more, filled-end}
 use Rattle.fields.proofs.reader.thresholds_in.Goals as goal
 

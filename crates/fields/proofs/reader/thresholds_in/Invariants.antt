@@ -1,10 +1,7 @@
 use Prim.Native.Nat.{◌-◌, ◌≤◌}
-use native.Mathlib.Omega.{arith}
 use mathlib.Core.Path.{◌≡◌}
-use borrow.Author.Rules.{sfits_of, rules}
 use Rattle.model_files.specs.File.{threshold_in}
-use Rattle.fields.specs.Fields.{room, zeros, filled}
-use Rattle.fields.proofs.Arrays.{threshold-is, filled_none, filled_more, filled-end}
+use Rattle.fields.specs.Fields.{room, filled}
 use Rattle.fields.proofs.reader.thresholds_in.Given as goal
 
 -- The thresholds before i are read, and zeros stand after them.

@@ -1,15 +1,11 @@
 use Prim.Native.Nat.{◌+◌, ◌*◌, ◌-◌, ◌≤◌}
-use native.Mathlib.Omega.{arith}
 use mathlib.Core.Path.{◌≡◌}
 use lib.ListN.{length}
-use borrow.Author.Rules.{sfits_of, rules}
 use Rattle.model_files.specs.Bytes.{block_length}
 use Rattle.model_files.specs.File.{coefficient_bytes}
 use Rattle.model_problems.specs.Lists.{parts}
 use Rattle.layout.specs.Rows.{constraint_at}
-use Rattle.block.proofs.Placing.{none-placed}
 use Rattle.block.specs.Placed.{Placed}
-use Rattle.fields.proofs.Writing.{constant-room, coefficient-room, coefficients-more, numbers-end}
 use Rattle.fields.proofs.writer.put_numbers.Given as goal
 
 -- The coefficients before i stand after the constant.

@@ -1,4 +1,3 @@
-use borrow.Author.Rules.{rules}
 use Rattle.fields.proofs.Writing.{sizes-placed}
 use Rattle.fields.proofs.writer.put_sizes.Goals as goal
 

@@ -1,13 +1,5 @@
 -- `layout::range::are_divisors_in_range` meets its contract: the divisors before j are in range. Assumes nothing.
-use Prim.Native.Nat.{ℕ, ◌-◌, ◌≤◌}
-use mathlib.Core.Bool.{true}
-use mathlib.Core.List.{List}
-use mathlib.Core.Path.{◌≡◌}
 use borrow.Author.Rules.{rules}
-use lib.IntN.{ℤ}
-use Rattle.model_problems.specs.Lists.{tab, all_of}
-use Rattle.model_problems.specs.Constraint.{divisor_in_range}
-use Rattle.layout.specs.Rows.{input_at}
 use Rattle.layout.proofs.Ranges.{divisors-none, divisors-more, divisors-fail, divisors-end}
 use Rattle.layout.proofs.range.are_divisors_in_range.Goals as goal
 

@@ -1,12 +1,6 @@
 -- `layout::range::are_in_range` meets its contract: the constraints before row j have passed. Assumes nothing.
-use Prim.Native.Nat.{◌-◌, ◌≤◌}
-use Rattle.layout.specs.Rows.{row_at}
-use Rattle.model_problems.specs.Constraint.{in_range}
-use Rattle.model_problems.specs.Lists.{all_of, tab}
 use Rattle.layout.proofs.Ranges.{range-end, range-fails, range-more, range_none}
 use borrow.Author.Rules.{rules}
-use mathlib.Core.Bool.{true}
-use mathlib.Core.Path.{◌≡◌}
 use Rattle.layout.proofs.range.are_in_range.Goals as goal
 
 pub loop-j-init : goal.loop-j-init

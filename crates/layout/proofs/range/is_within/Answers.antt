@@ -1,5 +1,4 @@
 -- `layout::range::is_within` meets its contract. Assumes nothing.
-use borrow.Author.Rules.{rules}
 use Rattle.layout.proofs.Limits.{negation-fits, below-least, from-least}
 use Rattle.layout.proofs.range.is_within.Goals as goal
 

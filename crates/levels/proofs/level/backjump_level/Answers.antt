@@ -4,16 +4,10 @@ use Prim.Native.Nat.{ℕ, suc, ◌+◌, ◌*◌, ◌-◌, ◌≤◌, ◌<◌}
 use native.Mathlib.Omega.{arith}
 use mathlib.Core.Bool.{true, false}
 use mathlib.Core.Path.{◌≡◌, sym, subst, ◌∙◌}
-use borrow.Author.Rules.{rules}
-use borrow.Author.Tests.{not-true, not-false}
 use native.Mathlib.Nat.{eq-or-lt_of_le}
 use mathlib.Core.List.{List}
 use mathlib.Core.Logic.{⊎_elim}
 use lib.IntN.{ℤ}
-use lib.ListN.{length, drop, take, length-drop}
-use lib.Seq.{take_all}
-use mir.Syntax.{w64}
-use mir.Val.{to_z}
 use mir.Facts.{to_z-of_z}
 use Rattle.layout.proofs.Elements.{back}
 use Rattle.lists.proofs.Bools.{clash}
@@ -82,8 +76,8 @@ loop-level-preserved c =
       falsifies = λ t a b.
           ⊎_elim
           (λ (q : l.loop-level.level - 1 ≡ t). rw (← q) (sym ((let it : let l = c in let a = l.args in c.is_falsified.result ≡ falsified (divided_at a.n a.cut.now 0 (back a.q)) (box_in a.n a.lowers.now a.uppers.now (l.loop-level.level - 1)) = let l = c in
-    let at = max_variables * (l.loop-level.level - 1) in
-    rw (whole_part l.args.lowers.now at, whole_part l.args.uppers.now at) at c.is_falsified.ensures in it)) ∙ c.if-not-is_falsified.false))
+          let at = max_variables * (l.loop-level.level - 1) in
+          rw (whole_part l.args.lowers.now at, whole_part l.args.uppers.now at) at c.is_falsified.ensures in it)) ∙ c.if-not-is_falsified.false))
           (λ (q : l.loop-level.level - 1 < t). l.loop-level.invariant.falsifies t (omega arith) b)
           (eq-or-lt_of_le a);
     }

@@ -1,30 +1,16 @@
 -- `levels::level::backjump_level` meets its contract: every level passed falsifies the constraint, and where one does not, none above it does. Assumes
 -- nothing.
-use Prim.Native.Nat.{ℕ, suc, ◌+◌, ◌*◌, ◌-◌, ◌≤◌, ◌<◌}
+use Prim.Native.Nat.{ℕ, ◌+◌, ◌-◌, ◌≤◌}
 use native.Mathlib.Omega.{arith}
-use mathlib.Core.Bool.{true, false}
-use mathlib.Core.Path.{◌≡◌, sym, subst, ◌∙◌}
-use borrow.Author.Rules.{rules}
-use borrow.Author.Tests.{not-true, not-false}
-use native.Mathlib.Nat.{eq-or-lt_of_le}
+use mathlib.Core.Bool.{true}
+use mathlib.Core.Path.{◌≡◌}
 use mathlib.Core.List.{List}
-use mathlib.Core.Logic.{⊎_elim}
 use lib.IntN.{ℤ}
 use lib.ListN.{length, drop, take, length-drop}
 use lib.Seq.{take_all}
-use mir.Syntax.{w64}
-use mir.Val.{to_z}
-use mir.Facts.{to_z-of_z}
-use Rattle.layout.proofs.Elements.{back}
-use Rattle.lists.proofs.Bools.{clash}
-use Rattle.model_problems.specs.Ranges.{max_variables}
 use Rattle.model_problems.specs.Constraint.{Constraint, falsified}
-use Rattle.model_walk.specs.Conflict.{levels_tested}
 use Rattle.layout.specs.Rows.{divided_at}
-use Rattle.linear.specs.Ranges.{DivisorFits}
 use Rattle.levels.specs.Mirror.{box_in}
-use Rattle.levels.specs.Level.{LevelsNested, LeastFalsifying}
-use Rattle.levels.proofs.Nesting.{level-fits, clear-outward}
 use Rattle.levels.proofs.level.backjump_level.Given as goal
 
 -- the levels from `level` on were tested, and falsify the constraint

@@ -1,10 +1,6 @@
 -- `levels::mirror::mirror` meets its contract. Assumes nothing.
-use Prim.Native.Nat.{ℕ, ◌+◌, ◌-◌, ◌≤◌, ◌<◌}
 use native.Mathlib.Omega.{arith}
 use mathlib.Core.Path.{◌≡◌, sym}
-use borrow.Author.Rules.{rules}
-use Rattle.model_problems.specs.Ranges.{max_variables}
-use Rattle.levels.specs.Mirror.{Mirrored}
 use Rattle.levels.proofs.Mirroring.{mirrored-none, mirrored-more}
 use Rattle.levels.proofs.mirror.mirror.Goals as goal
 

@@ -1,11 +1,7 @@
 -- `levels::mirror::mirror` meets its contract. Assumes nothing.
-use Prim.Native.Nat.{ℕ, ◌+◌, ◌-◌, ◌≤◌, ◌<◌}
-use native.Mathlib.Omega.{arith}
-use mathlib.Core.Path.{◌≡◌, sym}
-use borrow.Author.Rules.{rules}
+use Prim.Native.Nat.{ℕ, ◌-◌, ◌≤◌}
 use Rattle.model_problems.specs.Ranges.{max_variables}
 use Rattle.levels.specs.Mirror.{Mirrored}
-use Rattle.levels.proofs.Mirroring.{mirrored-none, mirrored-more}
 use Rattle.levels.proofs.mirror.mirror.Given as goal
 
 abbrev pub invariant-loop-t : goal.invariant-loop-t

@@ -1,5 +1,4 @@
 -- `linear::activity::further` meets its contract. Assumes nothing.
-use borrow.Author.Rules.{rules}
 use lib.Dec.{lit<}
 use lib.Signed.{◌≤ℤ◌, ◌<ℤ◌, ≤ℤ_refl}
 use mathlib.Core.Path.{◌≡◌}

@@ -1,6 +1,5 @@
 -- `linear::activity::is_falsified` meets its contract. Assumes nothing.
 use mathlib.Core.Path.{ap}
-use borrow.Author.Rules.{rules}
 use lib.Dec.{lit<}
 use lib.IntN.{pos}
 use lib.Signed.{lt_z}

@@ -1,5 +1,5 @@
 -- `linear::activity::min_activity` meets its contract: the sum, and what the variables left add, is the activity. Assumes nothing.
-use Prim.Native.Nat.{ℕ, ◌+◌, ◌≤◌, ◌<◌, ◌-◌, ◌*◌}
+use Prim.Native.Nat.{ℕ, ◌+◌, ◌≤◌, ◌<◌, ◌*◌}
 use native.Mathlib.Omega.{arith}
 use mathlib.Core.List.{List}
 use mathlib.Core.Path.{◌≡◌, ap, sym, ◌∙◌}
@@ -10,9 +10,9 @@ use mir.Syntax.{w64}
 use mir.Val.{SFits, to_z, of_z}
 use mir.Facts.{to_z-of_z}
 use Rattle.model_problems.specs.Ranges.{max_coefficient, max_variables}
-use Rattle.model_problems.specs.Constraint.{term, activity}
+use Rattle.model_problems.specs.Constraint.{term}
 use Rattle.integer.specs.Size.{Within, weaken, fits, add-within}
-use Rattle.layout.specs.Rows.{number_in, cell, constraint_at, bounds_at, box_of}
+use Rattle.layout.specs.Rows.{number_in, cell, bounds_at}
 use Rattle.linear.specs.Ranges.{BoxFits, widest_bound, widest_term}
 use Rattle.linear.proofs.Ranges.{term_fits, change-fits, constant-back, coefficient-back, lower-back, upper-back}
 use Rattle.linear.proofs.Terms.{rest, rest-start, rest-step, rest_end}

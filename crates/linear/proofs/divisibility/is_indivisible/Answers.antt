@@ -1,9 +1,8 @@
 -- `linear::divisibility::is_indivisible` meets its contract: g and sum are the divisor and the rest's value of the variables from i on. Assumes nothing.
-use Prim.Native.Nat.{ℕ, ◌+◌, ◌≤◌, ◌<◌, ◌-◌, ◌*◌}
+use Prim.Native.Nat.{ℕ, ◌+◌, ◌<◌, ◌-◌, ◌*◌}
 use native.Mathlib.Omega.{arith}
 use mathlib.Core.List.{List}
-use mathlib.Core.Path.{◌≡◌, ap, sym, ◌∙◌}
-use borrow.Author.Rules.{rules}
+use mathlib.Core.Path.{◌≡◌, ◌∙◌}
 use mir.Syntax.{w64}
 use mir.Val.{to_z}
 use mir.Facts.{to_z-of_z}
@@ -15,7 +14,7 @@ use Rattle.layout.specs.Rows.{number_in, cell}
 use Rattle.linear.proofs.Ranges.{constant-back, coefficient-back, lower-back, upper-back}
 use Rattle.integer.specs.Size.{Within, weaken, fits, add-within, mul-within}
 use Rattle.linear.specs.Ranges.{RowFits, BoxFits, widest_term, widest_activity}
-use Rattle.linear.proofs.Dividing.{open_from, fixed_from, open_none, fixed-none, open_more, fixed_same, open-same, fixed_more, indivisible-one, indivisible-end}
+use Rattle.linear.proofs.Dividing.{open_from, open_none, fixed-none, open_more, fixed_same, open-same, fixed_more, indivisible-one, indivisible-end}
 use Rattle.linear.proofs.divisibility.is_indivisible.Goals as goal
 
 pub loop-i-init : goal.loop-i-init

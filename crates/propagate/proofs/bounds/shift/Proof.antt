@@ -1,16 +1,16 @@
 -- `propagate::bounds::shift` meets its contract: the activities passed are changed and not above 0, and the others are as they were. Assumes nothing.
-use Prim.Native.Nat.{ℕ, ◌≤◌, ◌<◌, ◌-◌, ◌*◌, ◌+◌}
+use Prim.Native.Nat.{ℕ, ◌≤◌, ◌<◌, ◌-◌, ◌*◌}
 use native.Mathlib.Nat.{eq-or-lt_of_le}
 use native.Mathlib.Omega.{arith}
 use mathlib.Core.Logic.{⊎_elim}
 use mathlib.Core.Path.{◌≡◌, refl, sym, ap₂, subst, ◌∙◌}
 use lib.Dec.{lit<}
-use lib.IntN.{ℤ, pos, ◌+ℤ◌}
+use lib.IntN.{pos, ◌+ℤ◌}
 use lib.ListN.{length, set, length-set}
 use lib.Signed.{◌≤ℤ◌, ◌<ℤ◌}
 use mir.Syntax.{w64}
 use mir.Val.{to_z, of_z}
-use Rattle.model_problems.specs.Constraint.{Bounds, term}
+use Rattle.model_problems.specs.Constraint.{term}
 use Rattle.integer.specs.Size.{Within}
 use Rattle.integer.specs.Tests.{back, lt_z-true, lt_z-false}
 use Rattle.integer.specs.Automatic.{exps, fits!, eq! }
@@ -21,9 +21,6 @@ use Rattle.propagate.proofs.Tracking.{number_same, number-other}
 use borrow.Author.Rules.{rules}
 use Rattle.propagate.proofs.bounds.shift.Statement.{statement}
 use Rattle.propagate.proofs.bounds.shift.Tie as tie
-use Rattle.propagate.proofs.bounds.shift.Reads as reads
-use Rattle.propagate.proofs.bounds.shift.Lts as lts
-use Rattle.linear.proofs.activity.term.Reads as term-reads
 
 abbrev invariant-loop : tie.invariant-loop-j
 invariant-loop rows i rise fall kept activities₀ j₀ activities j =

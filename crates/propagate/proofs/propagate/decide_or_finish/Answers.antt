@@ -1,6 +1,5 @@
 -- `propagate::propagate::decide_or_finish` meets its contract. Assumes nothing.
-use mathlib.Core.Path.{◌≡◌, refl, ap, sym, ◌∙◌}
-use borrow.Author.Rules.{rules}
+use mathlib.Core.Path.{sym}
 use borrow.Author.Tests.{lt-ltb, le-ltb}
 use Rattle.model_problems.specs.Lists.{with_default}
 use Rattle.propagate.specs.Moves.{stop_of, hit_at}

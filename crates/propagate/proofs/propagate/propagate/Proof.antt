@@ -29,14 +29,6 @@ use Rattle.propagate.specs.Tracked.{Tracked}
 use Rattle.state.specs.Change.{held, raised, lowered}
 use Rattle.propagate.proofs.propagate.propagate.Statement.{statement}
 use Rattle.propagate.proofs.propagate.propagate.Tie as tie
-use Rattle.propagate.proofs.propagate.propagate.Reads as reads
-use Rattle.propagate.proofs.propagate.propagate.Lts as lts
-use Rattle.propagate.proofs.bounds.lower_upper.Reads as lower-upper-reads
-use Rattle.propagate.proofs.bounds.raise_lower.Reads as raise-lower-reads
-use Rattle.bits.proofs.divided.first_indivisible.Reads as first-indivisible-reads
-use Rattle.bits.proofs.masks.open_mask.Reads as open-mask-reads
-use Rattle.propagate.proofs.propagate.decide_or_finish.Reads as decide-or-finish-reads
-use Rattle.propagate.proofs.scan.first_improvement.Reads as first-improvement-reads
 
 abbrev invariant-loop : tie.invariant-loop-falsified
 invariant-loop rows lines divisors columns n m made inputs cuts thresholds told earlier lower₀ upper₀ below₀ above₀ activities₀ reaches₀ kept «open» falsified₀ count₀ lower upper below above activities reaches falsified count =

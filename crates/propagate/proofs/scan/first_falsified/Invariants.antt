@@ -1,15 +1,8 @@
 -- `propagate::scan::first_falsified` meets its contract: no number passed is above 0. Assumes nothing.
 use Prim.Native.Nat.{ℕ, ◌≤◌, ◌<◌, ◌-◌}
-use native.Mathlib.Nat.{eq-or-lt_of_le}
-use native.Mathlib.Omega.{arith}
-use mathlib.Core.Logic.{⊎_elim}
-use mathlib.Core.Path.{◌≡◌, sym, subst}
-use lib.Dec.{lit<}
 use lib.IntN.{pos}
 use lib.Signed.{◌≤ℤ◌}
-use Rattle.integer.specs.Tests.{back, lt_z-true, lt_z-false}
 use Rattle.layout.specs.Rows.{number_in}
-use borrow.Author.Rules.{rules}
 use Rattle.propagate.proofs.scan.first_falsified.Given as goal
 
 abbrev pub invariant-loop-j : goal.invariant-loop-j

@@ -1,6 +1,6 @@
 -- `propagate::scan::first_improvement` meets its contract: what is left to scan gives the whole scan's answer, nothing was found yet, and of the
 -- constraint at hand the variables that are not left have been passed. Assumes nothing.
-use Prim.Native.Nat.{◌≤◌, ◌<◌, ◌-◌, ◌+◌, ◌*◌}
+use Prim.Native.Nat.{◌≤◌, ◌<◌, ◌-◌, ◌*◌}
 use native.Mathlib.Omega.{arith}
 use mathlib.Core.Option.{none, some}
 use mathlib.Core.Path.{◌≡◌, refl, ap, sym, ◌∙◌}

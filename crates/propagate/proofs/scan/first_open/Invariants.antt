@@ -1,11 +1,9 @@
 -- `propagate::scan::first_open` meets its contract: what is left to scan gives the whole scan's answer. Assumes nothing.
 use Prim.Native.Nat.{◌≤◌, ◌-◌}
 use mathlib.Core.Path.{◌≡◌}
-use borrow.Author.Rules.{rules, sfits_of}
-use mir.Facts.{to_z-of_z}
 use Rattle.model_walk.specs.Move.{first_open}
-use Rattle.layout.specs.Rows.{number_in, box_of}
-use Rattle.propagate.proofs.Scans.{open_from, open-start, open-hit, open-miss, open-end}
+use Rattle.layout.specs.Rows.{box_of}
+use Rattle.propagate.proofs.Scans.{open_from}
 use Rattle.propagate.proofs.scan.first_open.Given as goal
 
 abbrev pub invariant-loop-i : goal.invariant-loop-i

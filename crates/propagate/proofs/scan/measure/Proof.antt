@@ -1,5 +1,5 @@
 -- `propagate::scan::measure` meets its contract: the constraints passed are tracked. Assumes nothing.
-use Prim.Native.Nat.{◌≤◌, ◌<◌, ◌-◌, ◌*◌, ◌+◌}
+use Prim.Native.Nat.{◌≤◌, ◌-◌, ◌*◌}
 use native.Mathlib.Omega.{arith}
 use mathlib.Core.Path.{◌≡◌}
 use lib.Dec.{lit<}
@@ -12,9 +12,6 @@ use Rattle.propagate.proofs.Tracking.{scan-row, scan-box, tracked-more, tracked-
 use borrow.Author.Rules.{rules}
 use Rattle.propagate.proofs.scan.measure.Statement.{statement}
 use Rattle.propagate.proofs.scan.measure.Tie as tie
-use Rattle.propagate.proofs.scan.measure.Reads as reads
-use Rattle.propagate.proofs.scan.measure.Lts as lts
-use Rattle.linear.proofs.activity.min_activity.Reads as min-activity-reads
 
 abbrev invariant-loop : tie.invariant-loop-j
 invariant-loop rows lower upper n from kept activities₀ reaches₀ j₀ activities reaches j =

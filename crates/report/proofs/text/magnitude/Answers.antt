@@ -1,4 +1,3 @@
-use borrow.Author.Rules.{rules}
 use Rattle.report.proofs.Magnitude.{natural-cast, opposite-fits, opposite-cast, one_more}
 use Rattle.report.proofs.text.magnitude.Goals as goal
 

@@ -1,9 +1,7 @@
-use borrow.Author.Rules.{rules}
 use Prim.Native.Nat.{◌<◌, ◌^◌}
 use mathlib.Core.Path.{◌≡◌}
 use lib.ListN.{length}
 use Rattle.report.specs.Room.{longest_number}
-use Rattle.report.proofs.Digits.{some_left, one_fewer}
 use Rattle.report.proofs.text.put_number.Given as goal
 
 abbrev pub invariant-loop-rest : goal.invariant-loop-rest

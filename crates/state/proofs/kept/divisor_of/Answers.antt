@@ -1,5 +1,4 @@
 -- `state::kept::divisor_of` meets its contract. Assumes nothing.
-use borrow.Author.Rules.{rules}
 use borrow.Author.Tests.{lt-ltb, le-ltb}
 use Rattle.layout.proofs.Elements.{number_read}
 use Rattle.state.specs.View.{divisor_for}

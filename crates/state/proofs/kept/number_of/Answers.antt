@@ -1,6 +1,5 @@
 -- `state::kept::number_of` meets its contract. Assumes nothing.
 use native.Mathlib.Omega.{arith}
-use borrow.Author.Rules.{rules}
 use borrow.Author.Tests.{lt-ltb, le-ltb}
 use Rattle.state.specs.View.{number_for}
 use Rattle.state.proofs.kept.number_of.Goals as goal

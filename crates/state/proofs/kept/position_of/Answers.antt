@@ -1,7 +1,6 @@
 -- `state::kept::position_of` meets its contract: no number, an input's, a dropped cut's, a kept cut's, one not given yet. Assumes nothing.
 use native.Mathlib.Omega.{arith}
 use mathlib.Core.Path.{◌≡◌}
-use borrow.Author.Rules.{rules}
 use Rattle.state.proofs.Positions.{position-zero, position-input, position-dropped, position-cut, position-beyond}
 use Rattle.state.proofs.kept.position_of.Goals as goal
 

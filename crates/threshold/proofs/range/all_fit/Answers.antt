@@ -1,11 +1,5 @@
 -- `threshold::range::all_fit` meets its contract: the variables below i have passed. Assumes nothing.
-use Prim.Native.Nat.{◌-◌, ◌≤◌}
-use mathlib.Core.Bool.{true}
-use mathlib.Core.Path.{◌≡◌}
 use borrow.Author.Rules.{rules}
-use Rattle.model_problems.specs.Lists.{all_pairs}
-use Rattle.model_problems.specs.Threshold.{threshold_fits}
-use Rattle.layout.specs.Rows.{box_of, thresholds_of}
 use Rattle.threshold.proofs.Loops.{beside_none, beside-more, beside_end, beside-fails}
 use Rattle.threshold.proofs.range.all_fit.Goals as goal
 

@@ -2,11 +2,9 @@
 use Prim.Native.Nat.{◌-◌, ◌≤◌}
 use mathlib.Core.Bool.{true}
 use mathlib.Core.Path.{◌≡◌}
-use borrow.Author.Rules.{rules}
 use Rattle.model_problems.specs.Lists.{all_pairs}
 use Rattle.model_problems.specs.Threshold.{outside_gap}
 use Rattle.layout.specs.Rows.{box_of, thresholds_of}
-use Rattle.threshold.proofs.Loops.{beside_none, beside-more, beside_end, beside-fails}
 use Rattle.threshold.proofs.range.are_outside.Given as goal
 
 abbrev pub invariant-loop-i : goal.invariant-loop-i

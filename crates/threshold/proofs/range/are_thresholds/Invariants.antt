@@ -2,11 +2,9 @@
 use Prim.Native.Nat.{◌-◌, ◌≤◌}
 use mathlib.Core.Bool.{true}
 use mathlib.Core.Path.{◌≡◌}
-use borrow.Author.Rules.{rules}
 use Rattle.model_problems.specs.Lists.{all_of}
 use Rattle.model_problems.specs.Threshold.{is_threshold}
 use Rattle.layout.specs.Rows.{thresholds_of}
-use Rattle.threshold.proofs.Loops.{each_none, each_more, each-end, each-fails}
 use Rattle.threshold.proofs.range.are_thresholds.Given as goal
 
 abbrev pub invariant-loop-i : goal.invariant-loop-i
