@@ -40,23 +40,7 @@ pub padding_zero-requires : goal.padding_zero-requires
 padding_zero-requires c = blocks _ (said-yes c.sizes_match.ensures c.if-not-sizes_match.false)
 
 pub returns-then-not-padding_zero : goal.returns-then-not-padding_zero
-returns-then-not-padding_zero c =
-    nonzero-padding _
-    (said-yes c.sizes_match.ensures c.if-not-sizes_match.false)
-    _
-    c.problem_in-found.ensures.0
-    (said-yes c.is_whole.ensures c.if-not-is_whole.false)
-    (said-yes c.checks_match.ensures c.if-not-checks_match.false)
-    (said-yes c.magic_matches.ensures c.if-not-magic_matches.false)
-    (said-yes c.domain_in_range.ensures c.if-not-domain_in_range.false)
-    (said-yes c.thresholds_in_range.ensures c.if-not-thresholds_in_range.false)
-    (said-yes c.constraints_in_range.ensures c.if-not-constraints_in_range.false)
-    (said-yes c.divisors_in_range.ensures c.if-not-divisors_in_range.false)
-    _
-    _
-    c.padding_zero.ensures
-    c.if-not-padding_zero.true
-    c.refused-then-not-padding_zero.ensures
+returns-then-not-padding_zero c = search (nonzero-padding, said-yes)
 
 pub returns : goal.returns
 returns c =
