@@ -20,7 +20,7 @@ use Rattle.acceptance.proofs.Acceptance.{tested, sizes-of, opens-given, file-acc
 use Rattle.format.proofs.AcceptedShape as Small
 use Rattle.lists.proofs.Bools.{true_of, T_of, lt-or-le}
 use Rattle.soundness.proofs.Sizes.{points-every, points-once}
-use Rattle.validity.proofs.States.{Every, Sizes, fits-shaped, fits-valid, sizes-fit}
+use Rattle.validity.proofs.States.{Every, fits-shaped, fits-valid, sizes-fit}
 use Rattle.validity.specs.Valid.{Valid}
 use Rattle.soundness.proofs.Opened.{meets-inequalities}
 use Rattle.soundness.proofs.Runs.{ProblemFits, opened-fits, opened-open}

@@ -18,7 +18,7 @@ use Rattle.model_problems.specs.Threshold.{threshold_at, allowed}
 use Rattle.model_problems.specs.Points.{Point, Inside, Allowed, dot, value, Meets, MeetsAll, Solution, FirstOf}
 use Rattle.model_walk.specs.Step.{lowers}
 use Rattle.validity.proofs.Boxes.{Fixed, Ordered, Nested, nested-refl, nested-inside, set-lower-nested, set-upper-nested, set-lower-inside, set-upper-inside, lowers-inside, lowers-allowed, fixed-only}
-use Rattle.validity.proofs.Thresholds.{lifts, sinks, Outside, outside-at, allowed_at}
+use Rattle.validity.proofs.Thresholds.{lifts, sinks, Outside, allowed_at}
 use Rattle.soundness.proofs.Sizes.{size-nested}
 use Rattle.validity.proofs.Constraints.{Inequality, rounded-meets, fixed-meets}
 use Rattle.validity.proofs.Moves.{Clear, Falsifies, Finishes, Raises, Lowers, Decides}

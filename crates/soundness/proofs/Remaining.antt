@@ -7,8 +7,8 @@ use mathlib.Core.Logic.{◌⊎◌, inl, inr}
 use mathlib.Core.Path.{◌≡◌, refl, sym, subst}
 use lib.Dec.{T}
 use lib.ListN.{drop}
-use Rattle.model_problems.specs.Constraint.{Constraint, Box, falsified}
-use Rattle.model_problems.specs.Threshold.{threshold_at, allowed}
+use Rattle.model_problems.specs.Constraint.{Constraint, falsified}
+use Rattle.model_problems.specs.Threshold.{threshold_at}
 use Rattle.model_problems.specs.Problem.{Problem}
 use Rattle.model_walk.specs.Search.{Level, hold_lower, decide_at, flip_at}
 use Rattle.model_problems.specs.Points.{Point, Inside, Allowed, Meets, Before}
