@@ -1,30 +1,26 @@
 -- What is saved of the constraints, as the search goes on.
-use Prim.Native.Nat.{ℕ, suc, ◌+◌, ◌-◌, ◌*◌, ◌≤◌, ◌<◌}
+use Prim.Native.Nat.{ℕ, ◌+◌, ◌-◌, ◌*◌, ◌≤◌, ◌<◌}
 use native.Mathlib.Nat.{eq-or-lt_of_le}
 use native.Mathlib.Omega.{arith}
-use native.Mathlib.Numerals.{add-one}
-use mathlib.Core.Bool.{cond}
 use mathlib.Core.List.{List}
 use mathlib.Core.Logic.{⊎_elim}
-use mathlib.Core.Path.{◌≡◌, refl, sym, ap, subst, ◌∙◌}
-use borrow.Author.Tests.{lt-ltb, le-ltb}
-use lib.IntN.{ℤ, pos}
-use lib.ListN.{get_or, set, length, replicate, length-set}
+use mathlib.Core.Path.{◌≡◌, sym, ap, subst, ◌∙◌}
+use lib.IntN.{ℤ}
+use lib.ListN.{get_or, set, length, replicate}
 use lib.Seq.{get_or-set_same, get_or-set_other}
 use lib.Signed.{◌≤ℤ◌}
-use Rattle.model_problems.specs.Ranges.{max_constraints, max_cuts}
+use Rattle.model_problems.specs.Ranges.{max_constraints}
 use Rattle.model_problems.specs.Constraint.{Constraint, activity, coefficient_at}
 use Rattle.lists.proofs.Bools.{lt-or-le}
 use Rattle.lists.proofs.Tab.{get_d-const}
-use Rattle.linear.specs.Reach.{Reaches, span_of}
-use Rattle.layout.specs.Rows.{row_length, number_in, cell, row_at, bounds_at, box_of}
+use Rattle.linear.specs.Reach.{span_of}
+use Rattle.layout.specs.Rows.{row_length, number_in, row_at, bounds_at, box_of}
 use Rattle.layout.proofs.Rows.{coefficient-at}
 use Rattle.state.specs.View.{kept_cuts, no_level, dropped_cuts}
 use Rattle.state.specs.Moved.{place_of, RowsMoved}
 use Rattle.state.specs.declared.Level.{Level}
 use Rattle.state.proofs.Moved.{place-less, place-more, place-again, place_none}
 use Rattle.propagate.specs.Tracked.{Known, Tracked}
-use Rattle.propagate.proofs.Tracking.{number_same, number-other}
 use Rattle.levels.specs.Copied.{Copied}
 use Rattle.backtrack.specs.Saved.{saved_room, SavedAt, Saved}
 

@@ -1,13 +1,13 @@
 -- Bits of masks: how a mask is built, from the highest variable down, and how it is walked.
 use Prim.Native.Nat.{ℕ, zero, suc, ◌+◌, ◌-◌, ◌*◌, ◌/◌, ◌%◌, ◌^◌, ◌≤◌, ◌<◌, min}
-use native.Mathlib.Nat.{div-one, div-div-eq-div-mul, pow-suc, pow-succ', div-eq_of_lt, lt_of_lt_of_le, eq-or-lt_of_le, add-zero, sub-zero}
+use native.Mathlib.Nat.{div-one, div-div-eq-div-mul, pow-suc, pow-succ', div-eq_of_lt, lt_of_lt_of_le, eq-or-lt_of_le, add-zero}
 use native.Mathlib.Omega.{arith}
 use mathlib.Core.Logic.{◌⊎◌, inl, inr, ⊎_elim}
 use mathlib.Core.Path.{◌≡◌, refl, sym, ap, subst, ◌∙◌}
 use lib.Bits.{bit_and, and_step, and_self, and_shr, and_le_r}
 use lib.Count.{count_trailing_zeros, under}
 use lib.Dec.{lit<}
-use lib.Pow.{pow_mono, pow_pos}
+use lib.Pow.{pow_mono}
 use Rattle.lists.proofs.Bools.{lt-or-le}
 use Rattle.bits.specs.Masks.{bit}
 use Rattle.bits.specs.Walk.{First, Rest}
@@ -40,19 +40,7 @@ pub record Covers (P : ℕ → Type 0) (n i mask : ℕ) : Type 0 where
   pub rest : (k : ℕ) → i ≤ k → k < n → bit mask (k - i) ≡ 0 → P k
 
 module _ (P : ℕ → Type 0) (n : ℕ) where
-  pub covers-none : Covers P n n 0
-  covers-none = record { few = pow_pos (n - n); rest = λ k l h. absurd (omega arith) }
-
   module _ (i mask : ℕ) (c : Covers P n i mask) where
-    pub covers-small : (b : ℕ) → n - i ≤ b → mask < 2 ^ b
-    covers-small b h = lt_of_lt_of_le c.few (pow_mono h)
-
-    pub covers-all : i ≤ 0 → (mask < 2 ^ n) × ((k : ℕ) → k < n → bit mask k ≡ 0 → P k)
-    covers-all h =
-        let e : i ≡ 0 = omega arith in
-        let c : Covers P n 0 mask = subst (λ (x : ℕ). Covers P n x mask) e c in
-        (rw sub-zero at c.few, λ k l z. c.rest k (omega arith) l (rw sub-zero z))
-
     -- one variable more, with its digit d
     covers_more : (d : ℕ) → d < 2 → (d ≡ 0 → P (i - 1)) → 0 < i → i ≤ n → Covers P n (i - 1) (2 * mask + d)
     covers_more d h p l m = record { few = few; rest = rest }

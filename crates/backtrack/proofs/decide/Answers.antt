@@ -13,25 +13,15 @@ use Rattle.lists.proofs.Bools.{true_of}
 use Rattle.linear.proofs.Ranges.{lower-within}
 use Rattle.layout.specs.Rows.{number_in}
 use Rattle.state.specs.View.{kept_cuts}
-use Rattle.propagate.specs.Tracked.{Shiftable}
+use Rattle.propagate.specs.Tracked.{ScanFits, Shiftable}
 use Rattle.propagate.proofs.Tracking.{shiftable, told-set, lowered-closes}
 use Rattle.backtrack.proofs.Moving.{decided-below, decided-fits, decided-settable}
 use Rattle.backtrack.proofs.Saving.{saved-decided}
-use borrow.Author.Rules.{rules}
 use Rattle.backtrack.proofs.decide.Goals as goal
 
 -- the lower bound as it is read
-pub copy_to-requires : goal.copy_to-requires
-unfolding kept_cuts
-copy_to-requires c =
-    let p = c.requires in
-    (omega (arith, c.kept_count-count.ensures, p.inputs, p.tracked.room), omega (arith, c.kept_count-count.ensures, p.inputs, p.deep, p.room.olds_long))
-
-pub copy_to-requires-2 : goal.copy_to-requires-2
-unfolding kept_cuts
-copy_to-requires-2 c =
-    let p = c.requires in
-    (omega (arith, c.kept_count-count.ensures, p.inputs, p.tracked.reach_room), omega (arith, c.kept_count-count.ensures, p.inputs, p.deep, p.room.limits_long))
+value : {n kept : ℕ} {rows lower upper : List ℤ} (i : ℕ) → ScanFits n kept rows lower upper → i < n → to_z w64 (of_z w64 (number_in lower i)) ≡ number_in lower i
+value i f h = back (lit< tt) (lower-within _ _ _ (true_of _ f.bounds) i h)
 
 -- what holds of all kept constraints holds of fewer
 fewer : {k kept i : ℕ} {rise fall : ℤ} {rows activities : List ℤ} → k ≤ kept → Shiftable kept i rise fall rows activities → Shiftable k i rise fall rows activities
@@ -49,38 +39,44 @@ fewer h s =
 pub lower_upper-requires : goal.lower_upper-requires
 unfolding number_in kept_cuts
 lower_upper-requires c =
-    let s = c in
-    let p = s.requires in
-    rw ((let it : to_z w64 (of_z w64 (number_in c.args.lower.now c.args.i)) ≡ number_in c.args.lower.now c.args.i = back (lit< tt) (lower-within _ c.args.lower.now c.args.upper.now (true_of _ c.requires.fits.bounds) c.args.i c.requires.variable) in it)) (
+    let p = c.requires in
+    rw (value c.args.i p.fits p.variable) (
       decided-settable _ _ _ _ _ _ _ p.fits p.variable p.uppers,
       fewer (omega (arith, c.kept_count-count.ensures))
-          (shiftable _ _ _ _ _ _ _ _ _ _ p.fits p.tracked p.variable (record { within = omega arith }) (decided-settable _ _ _ _ _ s.args.above.now _ p.fits p.variable p.uppers).change),
+          (shiftable _ _ _ _ _ _ _ _ _ _ p.fits p.tracked p.variable (record { within = omega arith }) (decided-settable _ _ _ _ _ c.args.above.now _ p.fits p.variable p.uppers).change),
     )
 
-pub returns : goal.returns
+pub returns-clause-decided : goal.returns-clause-decided
 unfolding number_in
-returns c =
-    let s = c in
-    let a = s.args in
-    let p = s.requires in
+returns-clause-decided c =
+    let a = c.args in
+    let p = c.requires in
+    let v = value a.i p.fits p.variable in
+    let set = rw v at c.lower_upper.ensures.0 in
+    let t = rw (v, c.kept_count-count.ensures) at c.lower_upper.ensures.1 in
+    record {
+      bound = set.bound;
+      why = set.why;
+      told = rw set.bound (told-set _ _ _ _ _ _ _ _ _ _ _ _ _ _ p.tracked (decided-fits _ _ _ _ _ a.above.now _ p.fits p.variable p.uppers) p.lowers (length-set a.upper.now _ _ ∙ p.uppers)
+          (lowered-closes _ _ _ _ a.i _ p.variable (omega (arith, p.fits.few, p.uppers)) (decided-below _ _ _ _ _ a.above.now _ p.fits p.variable)) t);
+    }
+
+pub returns-clause-level_saved : goal.returns-clause-level_saved
+returns-clause-level_saved c =
+    let a = c.args in
+    let p = c.requires in
     let k = c.kept_count-count.ensures in
     let x = rw k at c.copy_to.ensures in
     let y = rw k at c.copy_to-2.ensures in
-    let set = rw ((let it : to_z w64 (of_z w64 (number_in c.args.lower.now c.args.i)) ≡ number_in c.args.lower.now c.args.i = back (lit< tt) (lower-within _ c.args.lower.now c.args.upper.now (true_of _ c.requires.fits.bounds) c.args.i c.requires.variable) in it)) at c.lower_upper.ensures.0 in
-    let t = rw ((let it : to_z w64 (of_z w64 (number_in c.args.lower.now c.args.i)) ≡ number_in c.args.lower.now c.args.i = back (lit< tt) (lower-within _ c.args.lower.now c.args.upper.now (true_of _ c.requires.fits.bounds) c.args.i c.requires.variable) in it), k) at c.lower_upper.ensures.1 in record { decided = record {
-        bound = set.bound;
-        why = set.why;
-        told = rw set.bound (told-set _ _ _ _ _ _ _ _ _ _ _ _ _ _ p.tracked (decided-fits _ _ _ _ _ a.above.now _ p.fits p.variable p.uppers) p.lowers (length-set a.upper.now _ _ ∙ p.uppers)
-            (lowered-closes _ _ _ _ a.i _ p.variable (omega (arith, p.fits.few, p.uppers)) (decided-below _ _ _ _ _ a.above.now _ p.fits p.variable)) t);
-      }; level_saved = record {
-        room =
-            record {
-              olds_long = x.size ∙ p.room.olds_long;
-              limits_long = y.size ∙ p.room.limits_long;
-              gones_long = length-set a.gones.now _ _ ∙ p.room.gones_long;
-              counts_long = length-set a.counts.now _ _ ∙ p.room.counts_long;
-            };
-        saved = λ levels here l u h v.
-            rw (k, c.dropped.ensures)
-            (saved-decided _ _ _ _ levels here _ _ _ _ _ _ _ _ _ p.inputs h (omega (arith, p.room.gones_long, p.deep)) (omega (arith, p.room.counts_long, p.deep)) (rw (l, u) p.tracked) x y v);
-      } }
+    record {
+      room =
+          record {
+            olds_long = x.size ∙ p.room.olds_long;
+            limits_long = y.size ∙ p.room.limits_long;
+            gones_long = length-set a.gones.now _ _ ∙ p.room.gones_long;
+            counts_long = length-set a.counts.now _ _ ∙ p.room.counts_long;
+          };
+      saved = λ levels here l u h v.
+          rw (k, c.dropped.ensures)
+          (saved-decided _ _ _ _ levels here _ _ _ _ _ _ _ _ _ p.inputs h (omega (arith, p.room.gones_long, p.deep)) (omega (arith, p.room.counts_long, p.deep)) (rw (l, u) p.tracked) x y v);
+    }

@@ -1,7 +1,6 @@
 -- `backtrack::place` meets its contract. Assumes nothing.
 use mathlib.Core.Path.{sym}
 use Rattle.state.proofs.Moved.{place-less, place-more}
-use borrow.Author.Rules.{rules}
 use Rattle.backtrack.proofs.place.Goals as goal
 
 pub returns-then-j-m : goal.returns-then-j-m

@@ -1,17 +1,7 @@
 -- `backtrack::take_back` meets its contract: the constraints passed are tracked. Assumes nothing.
-use Prim.Native.Nat.{◌≤◌, ◌<◌, ◌-◌, ◌+◌, ◌*◌}
-use native.Mathlib.Omega.{arith}
-use mathlib.Core.Path.{◌≡◌}
-use lib.Dec.{lit<}
-use lib.IntN.{pos}
-use lib.ListN.{get_or}
-use Rattle.integer.specs.Tests.{back}
-use Rattle.layout.specs.Rows.{number_in}
-use Rattle.state.specs.View.{kept_cuts, dropped_cuts}
-use Rattle.propagate.specs.Tracked.{Known, Tracked}
-use Rattle.propagate.proofs.Tracking.{tracked-more, tracked-some}
-use Rattle.state.specs.Moved.{place_of}
-use borrow.Author.Rules.{rules}
+use Prim.Native.Nat.{◌≤◌, ◌-◌, ◌+◌}
+use Rattle.state.specs.View.{kept_cuts}
+use Rattle.propagate.specs.Tracked.{Tracked}
 use Rattle.backtrack.proofs.take_back.Given as goal
 
 abbrev pub invariant-loop-j : goal.invariant-loop-j

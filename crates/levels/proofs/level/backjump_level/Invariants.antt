@@ -27,5 +27,3 @@ decreases-loop-level l = l.level
 -- the part of an array from a place on
 pub whole_part : (xs : List ℤ) (k : ℕ) → take (length xs - k) (drop k xs) ≡ drop k xs
 whole_part xs k = take_all (length xs - k) (drop k xs) (omega (arith, length-drop k xs))
-
--- what the test of the level told
