@@ -23,9 +23,9 @@ from compare_told import compare
 from implementation import ROOT, expected, expected_listing
 from script import Script
 from script_changes import write_changes
-from script_files import sample_files, write_files
-from script_lines import write_lines
-from script_plans import write_plans
+from script_files import check_problems, sample_files, write_files
+from script_lines import write_change_lines, write_lines
+from script_plans import begin_plans, write_plans
 from script_states import write_states
 from vector_files import PLAN_A
 
@@ -52,9 +52,12 @@ def write_script(names):
     script = Script(DATA)
     write_lines(script)
     read = write_files(script)
-    write_changes(script)
     write_states(script)
     told = write_plans(script, names)
+    write_change_lines(script)
+    check_problems(script)
+    write_changes(script)
+    begin_plans(script, names)
     text, output = script.text(), script.output()
     if len(text) > LONGEST_STDIN or len(output) > LONGEST_STDOUT:
         sys.exit("too long: %d and %d bytes" % (len(text), len(output)))

@@ -22,14 +22,18 @@ def start_of(n, m):
     return max(1, min(n, 32)), min(m, 64)
 
 
-def write_problem(script, case):
-    """Checks, opens and writes the problem of a case: that of a sample file, with its sizes and the case's numbers set."""
+def set_problem(script, case):
+    """The problem of a case: that of a sample file, with its sizes and the case's numbers set."""
     n, m = start_of(case.n, case.m)
     script.do("load %s.plan" % sample_name(n, m), "read")
     sizes = [("n", case.n)] * (n != case.n) + [("m", case.m)] * (m != case.m)
     for numbers in sizes + [numbers for edit in case.edits for numbers in edit.sets]:
         script.do(" ".join(["set"] + [str(z) for z in numbers]))
-    script.do("check", "begin", "write %d" % case.write)
+
+
+def write_problem(script, case):
+    set_problem(script, case)
+    script.do("write %d" % case.write)
 
 
 def read_file(script, case):
@@ -65,3 +69,14 @@ def write_files(script):
             if case.read is not None:
                 told.append((case.name, *read_file(script, case)))
     return told
+
+
+def check_problems(script):
+    """The problems of all cases that are written: checked and opened."""
+    for group in CASES + ERRORS:
+        script.part("problems in hand: " + group.__name__.replace("_", " "))
+        for case in group():
+            if case.write is not None:
+                script.say(case.name)
+                set_problem(script, case)
+                script.do("check", "begin")

@@ -21,8 +21,7 @@ NUMBERS = [
     "put status x", "put status 0 0", "put threshold 5", "put threshold 0 0 0", "put divisor 0", "put number 0", "put row 0 0", "put row 0",
     "put row 0 0 0 0", "put row 128 x 0", "put lower 0 0", "put lower 0 0 x", "put lower 0 0 0 0", "put upper 33 0", "put below 0 0", "put above 0 0",
     "put decided 0", "put decided 0 0 0", "set n", "set n 5 6", "set budget x", "set lower 5", "set upper 5", "set threshold 5", "set divisor 5",
-    "set row 0 0", "set row 64 0", "set row 0 0 0 0", "check 1", "check ", "begin 5", "append", "append x", "append 0 0", "replace 0", "replace 0 0 0",
-    "replace 64 x", "choose", "choose 1 1", "close", "close 0 0",
+    "set row 0 0", "set row 64 0", "set row 0 0 0 0",
 ]
 
 OUT_OF_RANGE = [
@@ -34,8 +33,13 @@ OUT_OF_RANGE = [
     "put row 0 33 0", "put row -1 0 0", "put row 0 -1 0", "put row 127 33 0", "put lower 33 0 0", "put lower 0 32 0", "put lower 32 32 0", "put upper 33 0 0",
     "put upper 0 32 0", "put below 33 0 0", "put below 0 32 0", "put above 33 0 0", "put above 0 32 0", "put decided 33 0", "put decided -1 0",
     "set lower 32 0", "set lower -1 0", "set upper 32 0", "set threshold 32 0", "set divisor 64 0", "set row 64 0 0", "set row 0 33 0", "set row 63 33 0",
-    "append 64", "append -1", "replace 64 0", "replace 0 64", "replace -1 0", "close 32", "close -1", "close 2",
 ]
+
+# The same of the commands on a problem in hand.
+CHANGE_NUMBERS = ["check 1", "check ", "begin 5", "append", "append x", "append 0 0", "replace 0", "replace 0 0 0", "replace 64 x", "choose", "choose 1 1",
+                  "close", "close 0 0"]
+
+CHANGES_OUT_OF_RANGE = ["append 64", "append -1", "replace 64 0", "replace 0 64", "replace -1 0", "close 32", "close -1", "close 2"]
 
 # Just in range: each is played, and what it changed is shown.
 IN_RANGE = [
@@ -110,3 +114,9 @@ def write_lines(script):
     for lines in IN_RANGE:
         script.do("load plan-a.plan", "read", *lines)
     write_words(script)
+
+
+def write_change_lines(script):
+    """Lines of the commands on a problem in hand that cannot be played."""
+    for reason, lines in [("number", CHANGE_NUMBERS), ("out of range", CHANGES_OUT_OF_RANGE)]:
+        write_reason(script, reason + ", of a problem in hand", lines)

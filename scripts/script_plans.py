@@ -1,5 +1,4 @@
-"""Scripts of plan files: what the programs print for each, and every call from the opened state to the verdict, in several ways. The state is opened from the
-file, and again from the problem that is read in it."""
+"""Scripts of plan files: what the programs print for each, and every call from the opened state to the verdict, in several ways."""
 from dataclasses import dataclass
 
 from files import BLOCK, MAX_VARIABLES
@@ -26,7 +25,7 @@ def write_plan(script, name, turn):
     script.say(name)
     script.do("load %s.plan" % name)
     told = Told(script.player.content(), joined(script.do("verdict")))
-    script.do("read", "open", "begin")
+    script.do("read", "open")
     n, m = script.player.problem.get("n"), script.player.problem.get("m")
     script.do("write %d" % (BLOCK * (1 + m) + 1 - turn % 3))
     if n == 0:
@@ -50,3 +49,11 @@ def write_plans(script, names):
         script.part("plan %s" % name)
         told[name] = write_plan(script, name, turn)
     return told
+
+
+def begin_plans(script, names):
+    """All files of these names: the state opened from the problem that is read in each, and run."""
+    script.part("problems in hand: plan files")
+    for name in names:
+        script.say(name)
+        script.do("load %s.plan" % name, "read", "begin", "run")
