@@ -1,27 +1,41 @@
 // The bytes of a file.
-ghost use Rattle.io.specs.Counts.{IsPrefixLen};
+ghost use Rattle.std.specs.Prelude.{IfOk};
+ghost use Rattle.filling.specs.Counts.{IsPrefixLen};
 
 use crate::told::tell_file;
+use filling::read_full;
+use std::fs::File;
+use std::io::{Error, ErrorKind, Print, Result};
+use std::rt::Files;
+use std::str;
 
-// Reads a file to its end, or until the buffer is full, and returns how many bytes that gave. A failure is told and remembered. At the end a further read
-// gives no byte; where it does anything else, reading stopped too early.
-pub fn read_file(name: &[u8], file: &mut [u8], failed: &mut bool) -> usize
+// Reads from the start of a file. std takes no name that is not UTF-8.
+fn read_named(rt: &impl Files, name: &[u8], file: &mut [u8]) -> Result<usize>
+    ensures { IfOk result (λ n. IsPrefixLen n file.new) }
+{
+    let Ok(path) = str::from_utf8(name) else {
+        return Err(Error::from(ErrorKind::InvalidFilename));
+    };
+    let mut opened = File::open(rt, path)?;
+    read_full(&mut opened, file)
+}
+
+// Reads a file to its end, or until the buffer is full, and returns how many bytes that gave. A failure is told and remembered, and gives none.
+pub fn read_file(
+    rt: &impl Files,
+    stderr: &impl Print,
+    name: &[u8],
+    file: &mut [u8],
+    failed: &mut bool,
+) -> usize
     ensures { IsPrefixLen result file.new }
 {
-    let descriptor = os::open_read(name);
-    if descriptor < 0 {
-        tell_file(name);
-        *failed = true;
-        return 0;
-    }
-    let read = io::read_full(descriptor, file);
-    if read < file.len() {
-        let mut byte = [0u8; 1];
-        if libc::read(descriptor, &mut byte) != 0 {
-            tell_file(name);
+    match read_named(rt, name, file) {
+        Ok(length) => length,
+        Err(error) => {
+            tell_file(stderr, name, error);
             *failed = true;
+            0
         }
     }
-    libc::close(descriptor);
-    read
 }

@@ -3,78 +3,64 @@
 
 ghost use Rattle.std.specs.Prelude.{◌≤◌, length};
 
-use libc::STDOUT_FILENO;
-
-fn print(text: &[u8]) {
-    io::write_all(STDOUT_FILENO, text);
-}
+use std::env::Env;
+use std::io;
+use std::rt::Files;
 
 // Prints the first bytes of a buffer.
-fn print_start(out: &[u8], end: usize)
+fn print_start(rt: &impl Print, out: &[u8], end: usize) -> io::Result<()>
     requires { end ≤ length out.now }
 {
-    print(&out[..end]);
+    rt.write_all(&out[..end])
 }
 
-// Prints a number with a word before it.
-fn print_field(word: &[u8], v: u64) {
-    print(word);
-    io::print_decimal(STDOUT_FILENO, v);
-}
-
-fn print_number(i: usize) {
+fn print_number(rt: &(impl Env + Print), stderr: &impl Print, i: usize) -> io::Result<()> {
     let mut failed = false;
-    let number = arguments::number_at(i, &mut failed);
+    let number = arguments::number_at(rt, stderr, i, &mut failed);
     if failed {
-        print(b" no number");
-        return;
+        return print!(rt; " no number");
     }
     let mut out = [0u8; 21];
     let end = report::put_signed(&mut out, 0, number);
-    print(b" number ");
-    print_start(&out, end);
+    print!(rt; " number ")?;
+    print_start(rt, &out, end)
 }
 
-fn print_date(i: usize) {
+fn print_date(rt: &(impl Env + Print), stderr: &impl Print, i: usize) -> io::Result<()> {
     let mut failed = false;
-    let date = arguments::date_at(i, &mut failed);
+    let date = arguments::date_at(rt, stderr, i, &mut failed);
     if failed {
-        print(b", no date");
-        return;
+        return print!(rt; ", no date");
     }
-    print_field(b", date ", date.year as u64);
-    print_field(b" ", date.month as u64);
-    print_field(b" ", date.day as u64);
+    print!(rt; ", date {} {} {}", date.year, date.month, date.day)
 }
 
-fn print_file(i: usize) {
+fn print_file(rt: &(impl Env + Files + Print), stderr: &impl Print, i: usize) -> io::Result<()> {
     let mut file = [0u8; 8];
     let mut failed = false;
-    let read = arguments::file_at(i, &mut file, &mut failed);
+    let read = arguments::file_at(rt, stderr, i, &mut file, &mut failed);
     if failed {
-        print(b", no file");
-        return;
+        return print!(rt; ", no file");
     }
-    print_field(b", file ", read as u64);
+    print!(rt; ", file {read}")
 }
 
 // Prints the line of an argument.
-fn print_line(i: usize) {
-    io::print_decimal(STDOUT_FILENO, i as u64);
-    print_number(i);
-    print_date(i);
-    print_file(i);
-    print(b"\n");
+fn print_line(rt: &(impl Env + Files + Print), stderr: &impl Print, i: usize) -> io::Result<()> {
+    print!(rt; "{i}")?;
+    print_number(rt, stderr, i)?;
+    print_date(rt, stderr, i)?;
+    print_file(rt, stderr, i)?;
+    println!(rt)
 }
 
-fn main() {
-    if !arguments::takes(1, 99, b"use: arguments_lines WORD ..\n") {
-        return;
+fn main(rt: HostRuntime) -> io::Result<()> {
+    let stderr = rt.stderr();
+    if !arguments::takes(&rt, &stderr, 1, 99, b"use: arguments_lines WORD ..\n") {
+        return Ok(());
     }
-    let count = arguments::count();
-    let mut i: usize = 0;
-    while i < count {
-        i += 1;
-        print_line(i);
+    for i in 0..arguments::count(&rt) {
+        print_line(&rt, &stderr, i + 1)?;
     }
+    Ok(())
 }

@@ -5,6 +5,7 @@ use crate::points::Enumerated;
 use crate::print::disagreement;
 use answers::{Ran, Verdict};
 use problem::Problem;
+use std::io;
 
 // The state of a problem, written with a budget and opened. No call takes the state of a file that is refused.
 fn open(p: Problem, budget: usize) -> state::Search {
@@ -84,7 +85,7 @@ fn is_listed(p: Problem, e: Enumerated, l: answers::Listed, buffer: &[i64; 768])
 
 // Checks problem k of a family, and prints what is wrong. What it showed goes to the sums: wrong, solvable, its conflicts, its solutions listed, the bounds
 // set up to the first verdict, and those set by the listing.
-pub fn check(p: Problem, k: usize, sums: &mut [usize; 6]) {
+pub fn check(rt: &impl Print, p: Problem, k: usize, sums: &mut [usize; 6]) -> io::Result<()> {
     let e = points::enumerate(p);
     let s = open(p, e.points);
     let first = search::run(s);
@@ -95,13 +96,13 @@ pub fn check(p: Problem, k: usize, sums: &mut [usize; 6]) {
     let solvable = if 0 < e.found { 1 } else { 0 };
     let mut wrong: usize = 0;
     if !are_runs_right(p, e, first, plus(first.count, solvable)) {
-        wrong = disagreement(k, b": run\n");
+        wrong = disagreement(rt, k, "run")?;
     }
     if t.blocks != first.count || !are_cuts_right(p, e.found, &journal, t.blocks) {
-        wrong = disagreement(k, b": cut\n");
+        wrong = disagreement(rt, k, "cut")?;
     }
     if !is_listed(p, e, l, &buffer) || !is_bounded(p, e, plus(l.count, e.found), l.propagations) {
-        wrong = disagreement(k, b": listing\n");
+        wrong = disagreement(rt, k, "listing")?;
     }
     sums[0] = plus(sums[0], wrong);
     sums[1] = plus(sums[1], solvable);
@@ -109,4 +110,5 @@ pub fn check(p: Problem, k: usize, sums: &mut [usize; 6]) {
     sums[3] = plus(sums[3], e.found);
     sums[4] = plus(sums[4], first.propagations);
     sums[5] = plus(sums[5], l.propagations);
+    Ok(())
 }

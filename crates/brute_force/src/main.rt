@@ -7,17 +7,20 @@ mod number;
 mod points;
 mod print;
 
+use std::io;
+use std::io::Input;
+
 // Tries the problems of a family and prints what they showed; the number of disagreements.
-fn try_family(f: [usize; 11]) -> usize {
+fn try_family(rt: &impl Print, f: [usize; 11]) -> io::Result<usize> {
     let mut sums = [0usize; 6];
     let mut i: usize = 0;
     while i < f[10] % 65536 {
         let k = family::number_of(f, i);
-        agree::check(family::problem_of(f, k), k, &mut sums);
+        agree::check(rt, family::problem_of(f, k), k, &mut sums)?;
         i += 1;
     }
-    print::family(f, sums);
-    sums[0]
+    print::family(rt, f, sums)?;
+    Ok(sums[0])
 }
 
 // Puts a further digit to the number in a column.
@@ -27,7 +30,7 @@ fn put_digit(f: &mut [usize; 11], column: usize, byte: u8) {
 }
 
 // Tries the families of a text; the number of disagreements.
-fn try_families(text: &[u8]) -> usize {
+fn try_families(rt: &impl Print, text: &[u8]) -> io::Result<usize> {
     let mut f = [0usize; 11];
     let mut column: usize = 0;
     let mut wrong: usize = 0;
@@ -35,7 +38,7 @@ fn try_families(text: &[u8]) -> usize {
     while i < text.len() {
         let byte = text[i];
         if byte == b'\n' {
-            wrong = number::plus(wrong, try_family(f));
+            wrong = number::plus(wrong, try_family(rt, f)?);
             f = [0; 11];
             column = 0;
         } else if byte == b' ' {
@@ -45,15 +48,15 @@ fn try_families(text: &[u8]) -> usize {
         }
         i += 1;
     }
-    wrong
+    Ok(wrong)
 }
 
-fn main() {
-    print::text(
-        b"variables constraints equations divided gaps boxes far coefficient constant random problems solvable conflicts listed\n",
-    );
-    let mut families = io::buffer();
-    let end = io::read_full(0, &mut families);
-    print::number(try_families(&families[0..end]));
-    print::text(b" disagreements\n");
+fn main(rt: HostRuntime) -> io::Result<()> {
+    println!(rt;
+        "variables constraints equations divided gaps boxes far coefficient constant random problems solvable conflicts listed"
+    )?;
+    let mut families = [0u8; 4096];
+    let end = filling::read_full(&mut rt.reader(), &mut families)?;
+    let wrong = try_families(&rt, &families[0..end])?;
+    println!(rt; "{wrong} disagreements")
 }

@@ -1,11 +1,14 @@
 // What the programs do with the bytes of a problem file: print its verdict, write its journal, or print its solutions.
 #![tactic(auto)]
 
-ghost use Rattle.io.specs.Counts.{IsPrefixLen};
+ghost use Rattle.std.specs.Prelude.{◌≤◌, length};
+ghost use Rattle.filling.specs.Counts.{IsPrefixLen};
+ghost use Rattle.report.specs.Room.{longest_line};
 
-use answers::Verdict;
-use libc::STDOUT_FILENO;
+use answers::{Traced, Verdict};
 use state::Search;
+use std::io::{IsTerminal, Print};
+use std::time::Clock;
 
 mod input;
 mod listing;
@@ -48,9 +51,38 @@ fn blocks_end(buffer: &[u8], blocks: usize) -> usize
     blocks * block::LENGTH
 }
 
+// Ends the text of a search that has a verdict. Tells whether anything of the text could not be written.
+fn finish_search(
+    rt: &impl Print,
+    stderr: &impl Print,
+    out: &mut [u8],
+    at: usize,
+    traced: &Traced,
+    n: usize,
+    mut failed: bool,
+)
+    requires { (at ≤ length out.old) × (longest_line ≤ length out.old) }
+{
+    let values = &traced.values;
+    let count = traced.count;
+    let set = traced.propagations;
+    text::finish(
+        rt,
+        out,
+        at,
+        traced.verdict,
+        values,
+        n,
+        count,
+        set,
+        &mut failed,
+    );
+    told::tell_output(stderr, failed);
+}
+
 // Runs an opened search to its verdict and prints it, with a line for each conflict on the way. About once a second it tells, where somebody looks, how
 // many conflicts are counted.
-fn print_search(opened: Search) {
+fn print_search(rt: &(impl Clock + Print), stderr: &(impl IsTerminal + Print), opened: Search) {
     let n = opened.n;
     let m = opened.m;
     let budget = opened.budget;
@@ -59,28 +91,23 @@ fn print_search(opened: Search) {
     let mut out = [0u8; TEXT_LENGTH];
     let mut at = report::plan_line(&mut out, 0, n, m, budget);
     let mut failed = false;
-    let watched = told::is_watched();
-    let mut last = told::seconds();
+    let watched = told::is_watched(stderr);
+    let mut last = told::seconds(rt);
     let mut calls: usize = 0;
     while calls < MAX_TURNS {
         let traced = search::trace(s, &mut blocks);
         let end = blocks_end(&blocks, traced.blocks);
-        at = text::put_ends(&mut out, at, &blocks[..end], &mut failed);
-        let verdict = traced.verdict;
-        if !goes_on(verdict) {
-            let values = traced.values;
-            let count = traced.count;
-            let set = traced.propagations;
-            text::finish(&mut out, at, verdict, &values, n, count, set, &mut failed);
-            told::tell_output(failed);
+        at = text::put_ends(rt, &mut out, at, &blocks[..end], &mut failed);
+        if !goes_on(traced.verdict) {
+            finish_search(rt, stderr, &mut out, at, &traced, n, failed);
             return;
         }
         if failed {
-            told::tell_output(failed);
+            told::tell_output(stderr, failed);
             return;
         }
         if watched {
-            last = told::progress(last, traced.count, budget);
+            last = told::progress(rt, stderr, last, traced.count, budget);
         }
         s = traced.state;
         calls += 1;
@@ -88,18 +115,18 @@ fn print_search(opened: Search) {
 }
 
 // Prints the verdict of a file, document 01's 'Writer and program'.
-pub fn print_verdict(file: &[u8]) {
+pub fn print_verdict(rt: &(impl Clock + Print), stderr: &(impl IsTerminal + Print), file: &[u8]) {
     let opened = search::open(file);
     let answer = opened.answer;
-    if text::print_refused(answer) {
+    if text::print_refused(rt, stderr, answer) {
         return;
     }
     let state = opened.state;
-    print_search(state);
+    print_search(rt, stderr, state);
 }
 
 // Writes the journal of a file to standard output; that of a file with an error is empty.
-pub fn write_journal(file: &[u8]) {
+pub fn write_journal(rt: &impl Print, stderr: &impl Print, file: &[u8]) {
     let opened = search::open(file);
     let answer = opened.answer;
     if problem::error_number(answer) != 0 {
@@ -111,12 +138,11 @@ pub fn write_journal(file: &[u8]) {
     while calls < MAX_TURNS {
         let traced = search::trace(s, &mut blocks);
         let end = blocks_end(&blocks, traced.blocks);
-        if !io::write_all(STDOUT_FILENO, &blocks[..end]) {
-            told::tell_output(true);
+        if rt.write_all(&blocks[..end]).is_err() {
+            told::tell_output(stderr, true);
             return;
         }
-        let verdict = traced.verdict;
-        if !goes_on(verdict) {
+        if !goes_on(traced.verdict) {
             return;
         }
         s = traced.state;

@@ -1,23 +1,21 @@
 // The commands that check, open and change the problem in hand.
 use crate::script::Outcome;
 use crate::{plan, print, script, state_words, words};
+use std::io;
 
 // check
-fn check(list: &[usize; 2275]) {
+fn check(rt: &impl Print, list: &[usize; 2275]) -> io::Result<()> {
     let answer = problem::check(plan::problem_of(list));
-    print::field(b"check ", problem::error_number(answer));
-    print::text(b"\n");
+    println!(rt; "check {}", problem::error_number(answer))
 }
 
 // begin
-fn begin(list: &[usize; 2275], state: &mut [usize; 8649]) {
+fn begin(rt: &impl Print, list: &[usize; 2275], state: &mut [usize; 8649]) -> io::Result<()> {
     let opened = search::open_problem(plan::problem_of(list));
-    let answer = opened.answer;
-    let found = opened.state;
-    state_words::put_search(state, found);
-    print::field(b"begin ", problem::error_number(answer));
-    print::digest(state_words::add_read(0, state));
-    print::text(b"\n");
+    state_words::put_search(state, opened.state);
+    print!(rt; "begin {}", problem::error_number(opened.answer))?;
+    print::digest(rt, state_words::add_read(0, state))?;
+    println!(rt)
 }
 
 // The numbers in row j of the arrays.
@@ -106,22 +104,22 @@ fn close(list: &mut [usize; 2275], i: usize) -> Outcome {
 }
 
 pub(crate) fn play(
+    rt: &impl Print,
     command: &[u8],
     rest: &[u8],
     list: &mut [usize; 2275],
     state: &mut [usize; 8649],
-) -> Outcome {
+) -> io::Result<Outcome> {
     let signatures = b"check,begin,append 63,replace 63 63,choose -1,close 31";
     let line = script::parse(signatures, command, rest, Outcome::NoCommand);
-    let k = line.k;
-    match k {
-        0 => check(list),
-        1 => begin(list, state),
-        2 => return append(list, line.value),
-        3 => return replace(list, line.i, line.value),
-        4 => return choose(list, line.value),
-        5 => return close(list, line.value),
+    match line.k {
+        0 => check(rt, list)?,
+        1 => begin(rt, list, state)?,
+        2 => return Ok(append(list, line.value)),
+        3 => return Ok(replace(list, line.i, line.value)),
+        4 => return Ok(choose(list, line.value)),
+        5 => return Ok(close(list, line.value)),
         _ => {}
     }
-    line.outcome
+    Ok(line.outcome)
 }

@@ -2,8 +2,12 @@
 // a function; each module plays those of its subject and leaves the others to the next.
 #![tactic(auto)]
 
-use libc::STDIN_FILENO;
+use filling::read_full;
 use script::Outcome;
+use std::io;
+use std::io::{Input, IsTerminal};
+use std::rt::Files;
+use std::time::Clock;
 
 mod changes;
 mod digest;
@@ -28,61 +32,63 @@ fn is_known(outcome: Outcome) -> bool {
 }
 
 // Prints why a line is not played.
-fn complain(number: usize, outcome: Outcome) {
+fn complain(rt: &impl Print, number: usize, outcome: Outcome) -> io::Result<()> {
     match outcome {
-        Outcome::Played => {}
-        Outcome::NoCommand => print::fault(number, b"no such command"),
-        Outcome::NoField => print::fault(number, b"no such field"),
-        Outcome::NoFile => print::fault(number, b"no such file"),
-        Outcome::Number => print::fault(number, b"number"),
-        Outcome::Range => print::fault(number, b"out of range"),
+        Outcome::Played => Ok(()),
+        Outcome::NoCommand => print::fault(rt, number, "no such command"),
+        Outcome::NoField => print::fault(rt, number, "no such field"),
+        Outcome::NoFile => print::fault(rt, number, "no such file"),
+        Outcome::Number => print::fault(rt, number, "number"),
+        Outcome::Range => print::fault(rt, number, "out of range"),
     }
 }
 
 // say TEXT
-fn say(rest: &[u8]) -> Outcome {
+fn say(rt: &impl Print, rest: &[u8]) -> io::Result<Outcome> {
     let start = script::word_start(rest);
-    print::text(&rest[start..]);
-    print::text(b"\n");
-    Outcome::Played
+    rt.write_all(&rest[start..])?;
+    println!(rt)?;
+    Ok(Outcome::Played)
 }
 
 // Plays a line by the first module that knows its command.
 fn play_line(
+    rt: &(impl Clock + Files + Print),
+    stderr: &(impl IsTerminal + Print),
     line: &[u8],
     file: &mut [u8; 65537],
     length: &mut usize,
     problem: &mut [usize; 2275],
     state: &mut [usize; 8649],
     kept: &mut [usize; 8649],
-) -> Outcome {
+) -> io::Result<Outcome> {
     let end = script::find(line, 0, b' ');
     let command = &line[0..end];
     let rest = &line[end..];
     if script::is_same(command, b"say") {
-        return say(rest);
+        return say(rt, rest);
     }
-    let by_file = file::play(command, rest, file, length, problem, state);
+    let by_file = file::play(rt, stderr, command, rest, file, length, problem, state)?;
     if is_known(by_file) {
-        return by_file;
+        return Ok(by_file);
     }
-    let by_plan = plan::play(command, rest, problem);
+    let by_plan = plan::play(rt, command, rest, problem)?;
     if is_known(by_plan) {
-        return by_plan;
+        return Ok(by_plan);
     }
-    let by_changes = changes::play(command, rest, problem, state);
+    let by_changes = changes::play(rt, command, rest, problem, state)?;
     if is_known(by_changes) {
-        return by_changes;
+        return Ok(by_changes);
     }
-    let by_states = states::play(command, rest, state, kept);
+    let by_states = states::play(rt, command, rest, state, kept)?;
     if is_known(by_states) {
-        return by_states;
+        return Ok(by_states);
     }
-    let by_calls = one_call::play(command, rest, state);
+    let by_calls = one_call::play(rt, command, rest, state)?;
     if is_known(by_calls) {
-        return by_calls;
+        return Ok(by_calls);
     }
-    searches::play(command, rest, state)
+    searches::play(rt, command, rest, state)
 }
 
 // Whether a line is empty or a comment.
@@ -94,7 +100,11 @@ fn is_passed_over(line: &[u8]) -> bool {
 }
 
 // Plays the lines in turn.
-fn play(text: &[u8]) {
+fn play(
+    rt: &(impl Clock + Files + Print),
+    stderr: &(impl IsTerminal + Print),
+    text: &[u8],
+) -> io::Result<()> {
     let mut file = [0u8; 65537];
     let mut length: usize = 0;
     let mut problem = [0usize; 2275];
@@ -107,38 +117,46 @@ fn play(text: &[u8]) {
         let line = &text[start..end];
         number += 1;
         if !is_passed_over(line) {
-            complain(
-                number,
-                play_line(
-                    line,
-                    &mut file,
-                    &mut length,
-                    &mut problem,
-                    &mut state,
-                    &mut kept,
-                ),
-            );
+            let outcome = play_line(
+                rt,
+                stderr,
+                line,
+                &mut file,
+                &mut length,
+                &mut problem,
+                &mut state,
+                &mut kept,
+            )?;
+            complain(rt, number, outcome)?;
         }
         start = end + 1;
     }
+    Ok(())
 }
 
 // Plays standard input, if the buffer has more room than it needs.
-fn play_input(text: &mut [u8]) {
-    let read = io::read_full(STDIN_FILENO, text);
+fn play_input(
+    rt: &(impl Clock + Files + Input + Print),
+    stderr: &(impl IsTerminal + Print),
+    text: &mut [u8],
+) -> io::Result<()> {
+    let read = read_full(&mut rt.reader(), text)?;
     if LONGEST < read {
-        print::text(b"script too long\n");
-        return;
+        return println!(rt; "script too long");
     }
-    play(&text[0..read]);
+    play(rt, stderr, &text[0..read])
 }
 
 // The same for a buffer whose length is known by its type. (A proof that lends a million numbers as a slice counts them.)
-fn play_into(text: &mut [u8; LONGEST + 1]) {
-    play_input(text);
+fn play_into(
+    rt: &(impl Clock + Files + Input + Print),
+    stderr: &(impl IsTerminal + Print),
+    text: &mut [u8; LONGEST + 1],
+) -> io::Result<()> {
+    play_input(rt, stderr, text)
 }
 
-fn main() {
+fn main(rt: HostRuntime) -> io::Result<()> {
     let mut text = [0u8; LONGEST + 1];
-    play_into(&mut text);
+    play_into(&rt, &rt.stderr(), &mut text)
 }

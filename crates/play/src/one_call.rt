@@ -7,6 +7,7 @@ use crate::{digest, print, script, state_words};
 use answers::{Traced, Verdict};
 use shown::Exclusion;
 use state::Search;
+use std::io;
 
 // The calls, by their signatures.
 pub(crate) const STEP: usize = 0;
@@ -116,26 +117,22 @@ fn add_answer(way: usize, refused: bool, c: Traced, block: &[u8; 512]) -> usize 
 }
 
 // Prints an answer that is no refusal, with as many values of a solution as there are variables.
-pub(crate) fn show_answer(c: Traced) {
-    let verdict = c.verdict;
-    let values = c.values;
-    let state = c.state;
-    match verdict {
-        Verdict::GoOn => print::text(b" go on"),
-        Verdict::NoSolution => print::text(b" none"),
-        Verdict::OutOfBudget => print::text(b" spent"),
-        _ => print::solution(first(&values, state.n)),
+pub(crate) fn show_answer(rt: &impl Print, c: Traced) -> io::Result<()> {
+    match c.verdict {
+        Verdict::GoOn => print!(rt; " go on")?,
+        Verdict::NoSolution => print!(rt; " none")?,
+        Verdict::OutOfBudget => print!(rt; " spent")?,
+        _ => print::solution(rt, first(&c.values, c.state.n))?,
     }
-    print::field(b" ends ", c.count);
-    print::field(b" set ", c.propagations);
+    print!(rt; " ends {} set {}", c.count, c.propagations)
 }
 
 // Prints whether a call left the state as it was, what is not read with it.
-fn show_kept(before: &[usize; 8649], after: &[usize; 8649]) {
+fn show_kept(rt: &impl Print, before: &[usize; 8649], after: &[usize; 8649]) -> io::Result<()> {
     if state_words::is_same(before, after) {
-        print::text(b" same");
+        print!(rt; " same")
     } else {
-        print::text(b" changed");
+        print!(rt; " changed")
     }
 }
 
@@ -151,108 +148,131 @@ fn room(is_used: bool, length: usize, most: usize) -> usize
 
 // Makes a call and prints its line.
 fn call_with(
+    rt: &impl Print,
     word: &[u8],
     way: usize,
     bytes: &mut [u8],
     numbers: &mut [i64],
     state: &mut [usize; 8649],
-) {
+) -> io::Result<()> {
     let mut block = [0u8; 512];
     let s = state_words::search_of(state);
     let c = call(way, s, &mut block, bytes, numbers);
-    let verdict = c.verdict;
-    let refused = is_refused(verdict);
+    let refused = is_refused(c.verdict);
     let answered = add_answer(way, refused, c, &block);
     let sum = digest::add_numbers(digest::add_bytes(answered, bytes), numbers);
-    print::text(word);
-    finish(way, refused, c, sum, state);
+    rt.write_all(word)?;
+    finish(rt, way, refused, c, sum, state)
 }
 
 // step, run, trace L, list L
-fn play_call(word: &[u8], way: usize, length: usize, state: &mut [usize; 8649]) {
+fn play_call(
+    rt: &impl Print,
+    word: &[u8],
+    way: usize,
+    length: usize,
+    state: &mut [usize; 8649],
+) -> io::Result<()> {
     let mut bytes = [238u8; 65536];
     let mut numbers = [NUMBER; 8192];
     let bytes_end = room(way == TRACE, length, 65536);
     let numbers_end = room(way == LIST, length, 8192);
     call_with(
+        rt,
         word,
         way,
         &mut bytes[0..bytes_end],
         &mut numbers[0..numbers_end],
         state,
-    );
+    )
 }
 
 // Ends the line of a call and takes its state.
-fn finish(way: usize, refused: bool, c: Traced, sum: usize, state: &mut [usize; 8649]) {
+fn finish(
+    rt: &impl Print,
+    way: usize,
+    refused: bool,
+    c: Traced,
+    sum: usize,
+    state: &mut [usize; 8649],
+) -> io::Result<()> {
     let mut after = [0usize; 8649];
     state_words::put_search(&mut after, c.state);
     if refused {
-        print::text(b" refused 9");
-        show_kept(state, &after);
-        print::digest(sum);
+        print!(rt; " refused 9")?;
+        show_kept(rt, state, &after)?;
+        print::digest(rt, sum)?;
     } else {
-        show_answer(c);
+        show_answer(rt, c)?;
         match way {
-            TRACE => print::field(b" blocks ", c.blocks),
-            LIST => print::field(b" struck ", c.blocks),
+            TRACE => print!(rt; " blocks {}", c.blocks)?,
+            LIST => print!(rt; " struck {}", c.blocks)?,
             _ => {}
         }
-        print::digest(state_words::add_read(sum, &after));
+        print::digest(rt, state_words::add_read(sum, &after))?;
     }
-    print::text(b"\n");
     *state = after;
+    println!(rt)
 }
 
 // exclude
-fn exclude(state: &mut [usize; 8649]) {
+fn exclude(rt: &impl Print, state: &mut [usize; 8649]) -> io::Result<()> {
     let r = search::exclude(state_words::search_of(state));
-    let answer = r.answer;
-    let found = r.state;
     let mut after = [0usize; 8649];
-    state_words::put_search(&mut after, found);
-    match answer {
+    state_words::put_search(&mut after, r.state);
+    match r.answer {
         Exclusion::Struck => {
-            print::text(b"exclude struck");
-            print::digest(state_words::add_read(0, &after));
+            print!(rt; "exclude struck")?;
+            print::digest(rt, state_words::add_read(0, &after))?;
         }
-        Exclusion::Ended => show_unstruck(b"exclude ended", state, &after),
-        Exclusion::Unsolved => show_unstruck(b"exclude no form", state, &after),
-        Exclusion::Invalid => show_unstruck(b"exclude refused 9", state, &after),
+        Exclusion::Ended => show_unstruck(rt, "ended", state, &after)?,
+        Exclusion::Unsolved => show_unstruck(rt, "no form", state, &after)?,
+        Exclusion::Invalid => show_unstruck(rt, "refused 9", state, &after)?,
     }
-    print::text(b"\n");
     *state = after;
+    println!(rt)
 }
 
-fn show_unstruck(answer: &[u8], before: &[usize; 8649], after: &[usize; 8649]) {
-    print::text(answer);
-    show_kept(before, after);
+fn show_unstruck(
+    rt: &impl Print,
+    answer: &str,
+    before: &[usize; 8649],
+    after: &[usize; 8649],
+) -> io::Result<()> {
+    print!(rt; "exclude {answer}")?;
+    show_kept(rt, before, after)
 }
 
 // each L K
-fn each(length: usize, count: usize, state: &mut [usize; 8649]) {
+fn each(rt: &impl Print, length: usize, count: usize, state: &mut [usize; 8649]) -> io::Result<()> {
     let present = *state;
-    play_call(b"step", STEP, 0, state);
+    play_call(rt, b"step", STEP, 0, state)?;
     *state = present;
-    play_call(b"run", RUN, 0, state);
+    play_call(rt, b"run", RUN, 0, state)?;
     *state = present;
-    play_call(b"trace", TRACE, length, state);
+    play_call(rt, b"trace", TRACE, length, state)?;
     *state = present;
-    exclude(state);
+    exclude(rt, state)?;
     *state = present;
-    play_call(b"list", LIST, count, state);
+    play_call(rt, b"list", LIST, count, state)?;
     *state = present;
+    Ok(())
 }
 
-pub(crate) fn play(command: &[u8], rest: &[u8], state: &mut [usize; 8649]) -> Outcome {
+pub(crate) fn play(
+    rt: &impl Print,
+    command: &[u8],
+    rest: &[u8],
+    state: &mut [usize; 8649],
+) -> io::Result<Outcome> {
     let signatures = b"step,run,trace 65536,list 8192,exclude,each 65536 8192";
     let line = script::parse(signatures, command, rest, Outcome::NoCommand);
     let k = line.k;
     match k {
-        0..=3 => play_call(command, k, line.value, state),
-        4 => exclude(state),
-        5 => each(line.i, line.value, state),
+        0..=3 => play_call(rt, command, k, line.value, state)?,
+        4 => exclude(rt, state)?,
+        5 => each(rt, line.i, line.value, state)?,
         _ => {}
     }
-    line.outcome
+    Ok(line.outcome)
 }

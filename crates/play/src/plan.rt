@@ -3,6 +3,7 @@
 use crate::script::Outcome;
 use crate::{digest, print, script, words};
 use problem::Problem;
+use std::io;
 
 const LOWER: usize = 3;
 
@@ -75,27 +76,32 @@ fn set(rest: &[u8], list: &mut [usize; 2275]) -> Outcome {
     line.outcome
 }
 
-fn write_into(list: &[usize; 2275], buffer: &mut [u8]) {
+fn write_into(rt: &impl Print, list: &[usize; 2275], buffer: &mut [u8]) -> io::Result<()> {
     let answer = writing::write(problem_of(list), buffer);
-    print::field(b"write ", problem::error_number(answer));
-    print::digest(digest::add_bytes(0, buffer));
-    print::text(b"\n");
+    print!(rt; "write {}", problem::error_number(answer))?;
+    print::digest(rt, digest::add_bytes(0, buffer))?;
+    println!(rt)
 }
 
 // write L
-fn write(list: &[usize; 2275], length: usize) {
+fn write(rt: &impl Print, list: &[usize; 2275], length: usize) -> io::Result<()> {
     let mut buffer = [238u8; 65536];
     let end = words::least(length, 65536);
-    write_into(list, &mut buffer[0..end]);
+    write_into(rt, list, &mut buffer[0..end])
 }
 
-pub(crate) fn play(command: &[u8], rest: &[u8], list: &mut [usize; 2275]) -> Outcome {
+pub(crate) fn play(
+    rt: &impl Print,
+    command: &[u8],
+    rest: &[u8],
+    list: &mut [usize; 2275],
+) -> io::Result<Outcome> {
     if script::is_same(command, b"set") {
-        return set(rest, list);
+        return Ok(set(rest, list));
     }
     let line = script::parse(b"write 65536", command, rest, Outcome::NoCommand);
     if line.k == 0 {
-        write(list, line.value);
+        write(rt, list, line.value)?;
     }
-    line.outcome
+    Ok(line.outcome)
 }

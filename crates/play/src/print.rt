@@ -1,50 +1,22 @@
-// What the program prints.
+// What the program prints in several places.
 use crate::digest;
-use libc::STDOUT_FILENO;
-
-pub(crate) fn text(s: &[u8]) {
-    io::write_all(STDOUT_FILENO, s);
-}
-
-pub(crate) fn number(k: usize) {
-    io::print_decimal(STDOUT_FILENO, k as u64);
-}
-
-// A number after a word.
-pub(crate) fn field(word: &[u8], k: usize) {
-    text(word);
-    number(k);
-}
+use std::io;
 
 // A sum's digest.
-pub(crate) fn digest(sum: usize) {
-    field(b" digest ", digest::value(sum));
-}
-
-// A number with its sign.
-fn signed(z: i64) {
-    let size = integer::magnitude(z) as usize;
-    if z < 0 {
-        field(b" -", size);
-    } else {
-        field(b" ", size);
-    }
+pub(crate) fn digest(rt: &impl Print, sum: usize) -> io::Result<()> {
+    print!(rt; " digest {}", digest::value(sum))
 }
 
 // The values of a solution.
-pub(crate) fn solution(values: &[i64]) {
-    text(b" solution");
-    let mut i: usize = 0;
-    while i < values.len() {
-        signed(values[i]);
-        i += 1;
+pub(crate) fn solution(rt: &impl Print, values: &[i64]) -> io::Result<()> {
+    print!(rt; " solution")?;
+    for value in values {
+        print!(rt; " {value}")?;
     }
+    Ok(())
 }
 
 // Why a line is not played.
-pub(crate) fn fault(line: usize, reason: &[u8]) {
-    field(b"line ", line);
-    text(b": ");
-    text(reason);
-    text(b"\n");
+pub(crate) fn fault(rt: &impl Print, line: usize, reason: &str) -> io::Result<()> {
+    println!(rt; "line {line}: {reason}")
 }

@@ -7,6 +7,7 @@ use crate::{digest, one_call, print, script, state_words};
 use answers::{Traced, Verdict};
 use shown::Exclusion;
 use state::Search;
+use std::io;
 
 // Where the calls have come: what the last gave, the digest of the blocks or the solutions, how many solutions were shown, whether to go on, and whether the
 // last strike said 'ended'.
@@ -132,47 +133,55 @@ fn search(way: usize, length: usize, s: Search) -> Searched {
 }
 
 // steps, traces L, lists L: the last answer and the digest, with the count of solutions before it for a listing.
-fn play_search(command: &[u8], way: usize, length: usize, state: &mut [usize; 8649]) {
+fn play_search(
+    rt: &impl Print,
+    command: &[u8],
+    way: usize,
+    length: usize,
+    state: &mut [usize; 8649],
+) -> io::Result<()> {
     let found = search(way, length, state_words::search_of(state));
     let last = found.last;
     state_words::put_search(state, last.state);
-    print::text(command);
-    let verdict = last.verdict;
-    if one_call::is_refused(verdict) {
-        print::text(b" refused 9\n");
-        return;
+    rt.write_all(command)?;
+    if one_call::is_refused(last.verdict) {
+        return println!(rt; " refused 9");
     }
     if way == one_call::LIST {
-        print::field(b" ", found.shown);
+        print!(rt; " {}", found.shown)?;
     }
-    one_call::show_answer(last);
-    print::digest(found.sum);
+    one_call::show_answer(rt, last)?;
+    print::digest(rt, found.sum)?;
     if found.is_ended {
-        print::text(b" ended");
+        print!(rt; " ended")?;
     }
-    print::text(b"\n");
+    println!(rt)
 }
 
-pub(crate) fn play(command: &[u8], rest: &[u8], state: &mut [usize; 8649]) -> Outcome {
+pub(crate) fn play(
+    rt: &impl Print,
+    command: &[u8],
+    rest: &[u8],
+    state: &mut [usize; 8649],
+) -> io::Result<Outcome> {
     let signatures = b"steps,traces 65536,lists 8192";
     let line = script::parse(signatures, command, rest, Outcome::NoCommand);
     let length = line.value;
-    let k = line.k;
-    match k {
-        0 => play_search(command, one_call::STEP, 0, state),
+    match line.k {
+        0 => play_search(rt, command, one_call::STEP, 0, state)?,
         1 => {
             if length < 512 {
-                return Outcome::Range;
+                return Ok(Outcome::Range);
             }
-            play_search(command, one_call::TRACE, length, state);
+            play_search(rt, command, one_call::TRACE, length, state)?;
         }
         2 => {
             if length == 0 {
-                return Outcome::Range;
+                return Ok(Outcome::Range);
             }
-            play_search(command, one_call::LIST, length, state);
+            play_search(rt, command, one_call::LIST, length, state)?;
         }
         _ => {}
     }
-    line.outcome
+    Ok(line.outcome)
 }

@@ -3,8 +3,9 @@
 ghost use Rattle.std.specs.Prelude.{◌+◌, ◌≤◌};
 
 use crate::script::{Line, Outcome};
-use crate::{digest, print, script, words};
+use crate::{digest, script, words};
 use state::{Level, Search, Status};
+use std::io;
 
 const MADE: usize = 5;
 
@@ -224,15 +225,16 @@ pub(crate) fn add_read(sum: usize, list: &[usize; 8649]) -> usize {
 }
 
 // Prints the words that are read, with a space before each.
-pub(crate) fn show_read(list: &[usize; 8649]) {
+pub(crate) fn show_read(rt: &impl Print, list: &[usize; 8649]) -> io::Result<()> {
     let end = read_end(list);
     let mut place: usize = 0;
     while place < end {
         if is_read(list, place) {
-            print::field(b" ", list[place]);
+            print!(rt; " {}", list[place])?;
         }
         place += 1;
     }
+    Ok(())
 }
 
 // Sets every word that is not read.

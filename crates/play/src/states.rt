@@ -1,6 +1,7 @@
 // The commands that change and print the state.
 use crate::script::Outcome;
-use crate::{digest, print, script, state_words};
+use crate::{digest, script, state_words};
+use std::io;
 
 // put FIELD [D or J [I]] Z
 fn put(rest: &[u8], state: &mut [usize; 8649]) -> Outcome {
@@ -21,37 +22,36 @@ fn copy(from: &[usize; 8649], to: &mut [usize; 8649]) {
 }
 
 // state
-fn show(state: &[usize; 8649]) {
-    print::text(b"state");
-    state_words::show_read(state);
-    print::text(b"\n");
+fn show(rt: &impl Print, state: &[usize; 8649]) -> io::Result<()> {
+    print!(rt; "state")?;
+    state_words::show_read(rt, state)?;
+    println!(rt)
 }
 
 // digest
-fn show_digest(state: &[usize; 8649]) {
-    print::field(b"digest ", digest::value(state_words::add_read(0, state)));
-    print::text(b"\n");
+fn show_digest(rt: &impl Print, state: &[usize; 8649]) -> io::Result<()> {
+    println!(rt; "digest {}", digest::value(state_words::add_read(0, state)))
 }
 
 pub(crate) fn play(
+    rt: &impl Print,
     command: &[u8],
     rest: &[u8],
     state: &mut [usize; 8649],
     kept: &mut [usize; 8649],
-) -> Outcome {
+) -> io::Result<Outcome> {
     if script::is_same(command, b"put") {
-        return put(rest, state);
+        return Ok(put(rest, state));
     }
     let signatures = b"litter -1,keep,back,state,digest";
     let line = script::parse(signatures, command, rest, Outcome::NoCommand);
-    let k = line.k;
-    match k {
+    match line.k {
         0 => state_words::litter(state, line.value),
         1 => copy(state, kept),
         2 => copy(kept, state),
-        3 => show(state),
-        4 => show_digest(state),
+        3 => show(rt, state)?,
+        4 => show_digest(rt, state)?,
         _ => {}
     }
-    line.outcome
+    Ok(line.outcome)
 }

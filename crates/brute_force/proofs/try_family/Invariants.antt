@@ -3,7 +3,7 @@ use Rattle.std.proofs.Common.{◌-◌, ◌%◌, ◌≤◌, get_or, rules}
 use Rattle.brute_force.proofs.try_family.Given as goal
 
 abbrev pub invariant-loop-i : goal.invariant-loop-i
-invariant-loop-i l = l.i ≤ get_or l.f 10 0 % 65536
+invariant-loop-i g l = l.i ≤ get_or l.f 10 0 % 65536
 
 abbrev pub decreases-loop-i : goal.decreases-loop-i
-decreases-loop-i l = get_or l.f 10 0 % 65536 - l.i
+decreases-loop-i g l = get_or l.f 10 0 % 65536 - l.i

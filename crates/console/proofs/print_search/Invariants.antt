@@ -1,14 +1,13 @@
 -- `console::print_search` meets its contract. Assumes nothing.
-use borrow.Author.Rules.{rules}
 use Prim.Native.Nat.{◌≤◌, ◌-◌}
 use lib.ListN.{length}
 use mathlib.Core.Path.{◌≡◌}
 use Rattle.console.proofs.print_search.Given as goal
 
 abbrev pub invariant-loop-calls : goal.invariant-loop-calls
-invariant-loop-calls l =
+invariant-loop-calls g l =
     (l.calls ≤ 2000000000) × (length l.blocks ≡ 65536) × (length l.out ≡ 16384) × (l.at ≤ 16384)
 
 abbrev pub decreases-loop-calls : goal.decreases-loop-calls
-decreases-loop-calls l =
+decreases-loop-calls g l =
     2000000000 - l.calls

@@ -1,5 +1,4 @@
--- `play::changes::bits` is safe and ends. Assumes nothing.
-use Rattle.std.proofs.Common.{◌-◌, ◌≤◌, rules}
+use Rattle.std.proofs.Common.{◌-◌, ◌≤◌}
 use Rattle.play.proofs.changes.bits.Given as goal
 
 abbrev pub invariant-loop-j : goal.invariant-loop-j

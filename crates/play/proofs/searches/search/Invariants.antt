@@ -1,4 +1,4 @@
-use Rattle.std.proofs.Common.{◌-◌, ◌≤◌, rules}
+use Rattle.std.proofs.Common.{◌-◌, ◌≤◌}
 use Rattle.play.proofs.searches.search.Given as goal
 
 abbrev pub invariant-loop-turns : goal.invariant-loop-turns

@@ -1,4 +1,4 @@
-use Rattle.std.proofs.Common.{◌-◌, ◌≤◌, rules}
+use Rattle.std.proofs.Common.{◌-◌, ◌≤◌}
 use Rattle.play.proofs.state_words.add_read.Given as goal
 
 abbrev pub invariant-loop-place : goal.invariant-loop-place

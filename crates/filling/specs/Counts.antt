@@ -1,0 +1,6 @@
+-- How many of a list's first elements a call tells of.
+use Rattle.std.specs.Prelude.{◌≡◌, ℕ, ◌≤◌, List, length, take}
+
+-- the list has n elements or more: `&xs[..n]` is in bounds and has n. The second part follows from the first, and spares a caller's `&buf[..n]` a proof file.
+abbrev pub IsPrefixLen : ℕ → List ℕ → Type 0
+IsPrefixLen n xs = (n ≤ length xs) × (n ≡ length (take n xs))
