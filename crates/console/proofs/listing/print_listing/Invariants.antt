@@ -1,10 +1,7 @@
 -- `console::listing::print_listing` meets its contract. Assumes nothing.
-use borrow.Author.Rules.{rules}
-use native.Mathlib.Omega.{arith}
 use Prim.Native.Nat.{◌≤◌, ◌-◌}
 use lib.ListN.{length}
 use mathlib.Core.Path.{◌≡◌}
-use mathlib.Core.Logic.{⊎_elim}
 use Rattle.console.proofs.listing.print_listing.Given as goal
 
 abbrev pub invariant-loop-struck : goal.invariant-loop-struck
