@@ -1,5 +1,5 @@
 -- `brute_force::try_families` meets its contract. Assumes nothing.
-use Rattle.std.proofs.Common.{◌-◌, ◌≤◌, length, rules}
+use Rattle.std.proofs.Common.{◌-◌, ◌≤◌, length}
 use Rattle.brute_force.proofs.try_families.Given as goal
 
 abbrev pub invariant-loop-i : goal.invariant-loop-i

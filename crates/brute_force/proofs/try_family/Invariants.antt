@@ -1,5 +1,5 @@
 -- `brute_force::try_family` meets its contract. Assumes nothing.
-use Rattle.std.proofs.Common.{◌-◌, ◌%◌, ◌≤◌, get_or, rules}
+use Rattle.std.proofs.Common.{◌-◌, ◌%◌, ◌≤◌, get_or}
 use Rattle.brute_force.proofs.try_family.Given as goal
 
 abbrev pub invariant-loop-i : goal.invariant-loop-i

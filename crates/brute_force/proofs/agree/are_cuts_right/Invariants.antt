@@ -1,5 +1,5 @@
 -- `brute_force::agree::are_cuts_right` meets its contract. Assumes nothing.
-use Rattle.std.proofs.Common.{◌-◌, ◌≤◌, rules}
+use Rattle.std.proofs.Common.{◌-◌, ◌≤◌}
 use Rattle.brute_force.proofs.agree.are_cuts_right.Given as goal
 
 abbrev pub invariant-loop-c : goal.invariant-loop-c

@@ -1,5 +1,5 @@
 -- `brute_force::number::added` meets its contract. Assumes nothing.
-use Rattle.std.proofs.Common.{ℕ, suc, ◌/◌, ◌%◌, ◌<◌, ◌≤◌, ℤ, pos, negsuc, ◌*ℤ◌, nat_abs, mod-lt, mul-le-mul_left, div-mul-le_self, arith, to_z-of_z, w64, SFits, to_z, of_z, rules}
+use Rattle.std.proofs.Common.{ℕ, suc, ◌/◌, ◌%◌, ◌<◌, ◌≤◌, ℤ, pos, negsuc, ◌*ℤ◌, nat_abs, mod-lt, mul-le-mul_left, div-mul-le_self, arith, to_z-of_z, w64, SFits, to_z, of_z}
 use lib.Signed.{rem_z, quot_z, mag}
 use Rattle.integer.specs.Size.{Within, abs_neg, mag-abs}
 use Rattle.integer.specs.Truncating.{quot-abs}

@@ -1,5 +1,5 @@
 -- `brute_force::points::is_solution` meets its contract. Assumes nothing.
-use Rattle.std.proofs.Common.{◌-◌, ◌≤◌, rules}
+use Rattle.std.proofs.Common.{◌-◌, ◌≤◌}
 use Rattle.brute_force.proofs.points.is_solution.Given as goal
 
 abbrev pub invariant-loop-j : goal.invariant-loop-j

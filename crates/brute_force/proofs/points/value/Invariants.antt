@@ -1,5 +1,5 @@
 -- `brute_force::points::value` meets its contract. Assumes nothing.
-use Rattle.std.proofs.Common.{◌-◌, ◌≤◌, rules}
+use Rattle.std.proofs.Common.{◌-◌, ◌≤◌}
 use Rattle.brute_force.proofs.points.value.Given as goal
 
 abbrev pub invariant-loop-i : goal.invariant-loop-i
