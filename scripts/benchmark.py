@@ -3,10 +3,10 @@
 
     scripts/benchmark.py VERDICT COMMAND PLAN ..
 
-VERDICT is target/bin/verdict; COMMAND is the other program with its arguments, in one word, as "reference verdict --fast". Both read the plan from
-standard input. A time is user and system time, start of the process included: the mean of 400 runs where a first run takes under 5 ms, of 40 where it
-takes under 50 ms, else of 8. The runs of the two programs alternate, so that other work on the machine slows both. The ratio is VERDICT's time over the
-other's.
+VERDICT is the program `verdict` (scripts/programs.py says where it lies); COMMAND is the other program with its arguments, in one word, as
+"reference verdict --fast". Both read the plan from standard input. A time is user and system time, start of the process included: the mean of 400 runs
+where a first run takes under 5 ms, of 40 where it takes under 50 ms, else of 8. The runs of the two programs alternate, so that other work on the machine
+slows both. The ratio is VERDICT's time over the other's.
 """
 import math
 import resource

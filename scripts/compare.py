@@ -5,8 +5,8 @@
                        [--generator PROGRAM [--kinds KIND,KIND,..]] [--verdict COMMAND] [--journal COMMAND] [--solutions COMMAND] [--python]
 
 The other implementation is reference/ of this repository, or a PROGRAM (scripts/implementation.py says how it is called). Compared with it are COMMANDs,
-each with its arguments in one word: target/bin/verdict, target/bin/journal and target/bin/solutions unless others are named; with --python reference/ itself
-in their place.
+each with its arguments in one word: the built programs (scripts/programs.py says where they lie) unless others are named; with --python reference/ itself in
+their place.
 In each round one file of each kind, or with --only of each of these, is made (reference/generate.py; with --generator those of FAMILIES there come from
 `PROGRAM gen SEED KIND BUDGET`, and further KINDs that it has from `PROGRAM gen SEED KIND`) and compared: the text of `verdict`, every byte of the journal,
 and the first L lines of the listing (300 where none is given), unless a PROGRAM takes too long over it. FILEs are compared first. B is the largest budget,
@@ -23,9 +23,10 @@ import sys
 from collections import Counter
 from pathlib import Path
 
-from implementation import ROOT, expected, expected_listing, first_lines, run, solve
+from implementation import expected, expected_listing, first_lines, run, solve
 from files import BLOCK
 from generate import BUDGETS, DAMAGE, FAMILIES, PROBLEMS, generate
+from programs import built
 
 
 def answer(command, file, lines=None):
@@ -147,9 +148,9 @@ def options_given():
     parser.add_argument("--generator")
     parser.add_argument("--kinds")
     parser.add_argument("--python", action="store_true")
-    parser.add_argument("--verdict", default=str(ROOT / "target/bin/verdict"))
-    parser.add_argument("--journal", default=str(ROOT / "target/bin/journal"))
-    parser.add_argument("--solutions", default=str(ROOT / "target/bin/solutions"))
+    parser.add_argument("--verdict", default=str(built("verdict")))
+    parser.add_argument("--journal", default=str(built("journal")))
+    parser.add_argument("--solutions", default=str(built("solutions")))
     parser.add_argument("files", nargs="*")
     return parser.parse_intermixed_args()
 
@@ -158,7 +159,7 @@ def main():
     options = options_given()
     for command in [] if options.python else [options.verdict, options.journal, options.solutions]:
         if shutil.which(shlex.split(command)[0]) is None:
-            sys.exit("there is no program %s: `rt check verdict journal solutions` builds ours" % command)
+            sys.exit("there is no program %s: `rt run -- --version` in crates/verdict builds ours, and likewise the others" % command)
     comparison = Comparison(options)
     for path in options.files:
         comparison.compare("given", Path(path).stem, Path(path).read_bytes())

@@ -30,7 +30,7 @@ HEAD = """# Wrong variants that the prover must refuse
 
 A must-fail edit is a file `crates/CRATE/must-fail/NAME.edit`. It turns a few tokens of the crate's code or definitions
 into something wrong. `rt ci` applies each to a copy of its crate, and fails where the prover accepts one;
-`rt must-fail CRATE` tries those of a crate and of what it stands on. There are %d, in %d crates.
+`rt must-fail CRATE` tries those of one crate. There are %d, in %d crates.
 
 The last column says which fact the variant leaves without a proof. An edit of the definitions is refused because a table
 that the prover computes from them comes out false; a case that does is named.

@@ -3,10 +3,10 @@
 
     scripts/growth.py VERDICT COMMAND MOVES
 
-VERDICT is target/bin/verdict, COMMAND the other program, and MOVES one whose last line is `set k`, the bounds that constraints set, each in one word. The
-plans are the script's own: n variables from 0 to 9, an equation (two inequalities) whose weights are even but for one, and m - 2 light inequalities, half
-of whose coefficients are 0, under a budget of 3,000 conflicts; three for each n and m. A time is user and system time less that of a plan without
-constraints, so that the start of the process does not count.
+VERDICT is the program `verdict` (scripts/programs.py says where it lies), COMMAND the other program, and MOVES one whose last line is `set k`, the bounds
+that constraints set, each in one word. The plans are the script's own: n variables from 0 to 9, an equation (two inequalities) whose weights are even but
+for one, and m - 2 light inequalities, half of whose coefficients are 0, under a budget of 3,000 conflicts; three for each n and m. A time is user and system
+time less that of a plan without constraints, so that the start of the process does not count.
 """
 import random
 import shlex

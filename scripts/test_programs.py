@@ -3,17 +3,16 @@
 
     scripts/test_programs.py
 
-It needs the programs in target/bin: rt check verdict journal solutions arguments_lines.
+It needs the programs verdict, journal, solutions and arguments_lines, built (scripts/programs.py says how).
 """
 import os
 import random
 import re
 import subprocess
 import tempfile
-from pathlib import Path
 
-ROOT = Path(__file__).resolve().parent.parent
-BIN = ROOT / "target/bin"
+from programs import ROOT, built
+
 PLAN = ROOT / "examples/plan-a.plan"
 SECONDS = 10
 VERSION = b"nefrwgall 1.0\n"
@@ -45,7 +44,7 @@ def run(program, words, **given):
     """What a program writes to standard output and standard error; its input is a pipe that nobody writes to or closes."""
     reader, writer = os.pipe()
     try:
-        ended = subprocess.run([BIN / program, *words], stdin=reader, capture_output=True, check=True, timeout=SECONDS, **given)
+        ended = subprocess.run([built(program), *words], stdin=reader, capture_output=True, check=True, timeout=SECONDS, **given)
     finally:
         os.close(reader)
         os.close(writer)
@@ -64,7 +63,7 @@ def test_without_arguments(program):
     for words, word in UNKNOWN:
         assert run(program, words) == (b"", told("unknown argument", word)), (program, words)
     with open("/dev/full", "wb") as full:
-        ended = subprocess.run([BIN / program, "--help"], stdin=subprocess.DEVNULL, stdout=full, stderr=subprocess.PIPE, check=True, timeout=SECONDS)
+        ended = subprocess.run([built(program), "--help"], stdin=subprocess.DEVNULL, stdout=full, stderr=subprocess.PIPE, check=True, timeout=SECONDS)
         assert ended.stderr == b"standard output cannot be written\n", program
 
 
@@ -73,7 +72,7 @@ def test_files_as_before():
     for program in ("verdict", "journal", "solutions"):
         folder = ROOT / "crates" / program
         with open(folder / "stdin", "rb") as file:
-            ended = subprocess.run([BIN / program], stdin=file, capture_output=True, check=True, timeout=SECONDS)
+            ended = subprocess.run([built(program)], stdin=file, capture_output=True, check=True, timeout=SECONDS)
         assert (ended.stdout, ended.stderr) == ((folder / "stdout").read_bytes(), b""), program
 
 
