@@ -1,4 +1,4 @@
-"""Where the built programs of this repository lie. `rt run -- --version` in crates/NAME proves and builds the program NAME."""
+"""Where the built programs of this repository lie. `rt run < stdin` in crates/NAME proves, builds and runs the program NAME."""
 from pathlib import Path
 
 ROOT = Path(__file__).resolve().parent.parent

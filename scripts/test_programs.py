@@ -13,31 +13,14 @@ import tempfile
 
 from programs import ROOT, built
 
-PLAN = ROOT / "examples/plan-a.plan"
 SECONDS = 10
 VERSION = b"nefrwgall 1.0\n"
 LONGEST = 4096  # as much of a word as is told
 BATCHES = 25
 BATCH = 90  # random words to a call; arguments_lines takes up to 99
 
-# Arguments of a program that takes none, and the word of them that is told.
-UNKNOWN = [
-    (["--frob"], "--frob"),
-    ([""], ""),
-    (["-h"], "-h"),
-    (["--help "], "--help "),
-    (["--helpp"], "--helpp"),
-    (["--hel"], "--hel"),
-    (["--version", "x"], "x"),
-    (["--help", "--version"], "--version"),
-    (["x", "--help"], "x"),
-    (["examples/plan-a.plan"], "examples/plan-a.plan"),
-    (["one\ntwo\x1b[2J\x7f\tñ"], "one?two?[2J??ñ"),
-    (["x" * (LONGEST - 1)], "x" * (LONGEST - 1)),
-    (["x" * LONGEST], "x" * LONGEST),
-    (["x" * (LONGEST + 1)], "x" * LONGEST),
-    (["x" * 100000, "y"], "x" * LONGEST),
-]
+# Arguments of a program that looks at none.
+IGNORED = [[], ["--help"], ["--version"], ["x", "--help"], ["examples/plan-a.plan"]]
 
 
 def run(program, words, **given):
@@ -55,25 +38,26 @@ def told(what, word):
     return ("%s: %s (try --help)\n" % (what, word)).encode()
 
 
-def test_without_arguments(program):
-    text, said = run(program, ["--help"])
-    assert text.startswith(b"use: %s < FILE\n" % program.encode()) and text.endswith(b"\n") and said == b"", program
-    assert 3 <= text.count(b"\n") <= 10 and max(map(len, text.splitlines())) <= 100, program
-    assert run(program, ["--version"]) == (VERSION, b""), program
-    for words, word in UNKNOWN:
-        assert run(program, words) == (b"", told("unknown argument", word)), (program, words)
-    with open("/dev/full", "wb") as full:
-        ended = subprocess.run([built(program), "--help"], stdin=subprocess.DEVNULL, stdout=full, stderr=subprocess.PIPE, check=True, timeout=SECONDS)
-        assert ended.stderr == b"standard output cannot be written\n", program
-
-
-def test_files_as_before():
-    """What the programs print for a file, with no argument."""
+def test_ignored():
+    """What the programs print for a file, whatever the arguments."""
     for program in ("verdict", "journal", "solutions"):
         folder = ROOT / "crates" / program
-        with open(folder / "stdin", "rb") as file:
-            ended = subprocess.run([built(program)], stdin=file, capture_output=True, check=True, timeout=SECONDS)
-        assert (ended.stdout, ended.stderr) == ((folder / "stdout").read_bytes(), b""), program
+        for words in IGNORED:
+            with open(folder / "stdin", "rb") as file:
+                ended = subprocess.run([built(program), *words], stdin=file, capture_output=True, check=True, timeout=SECONDS)
+            assert (ended.stdout, ended.stderr) == ((folder / "stdout").read_bytes(), b""), (program, words)
+
+
+def test_requests():
+    """What every program that takes arguments is asked in the same way."""
+    text, said = run("arguments_lines", ["--help"])
+    assert text.startswith(b"use: arguments_lines") and text.endswith(b"\n") and said == b""
+    assert run("arguments_lines", ["--version"]) == (VERSION, b"")
+    for words, word in [(["--version", "x"], "x"), (["--help", "--version"], "--version")]:
+        assert run("arguments_lines", words) == (b"", told("unknown argument", word)), words
+    with open("/dev/full", "wb") as full:
+        ended = subprocess.run([built("arguments_lines"), "--help"], stdin=subprocess.DEVNULL, stdout=full, stderr=subprocess.PIPE, check=True, timeout=SECONDS)
+        assert ended.stderr == b"standard output cannot be written\n"
 
 
 def number(word):
@@ -115,6 +99,8 @@ def test_told():
     with tempfile.TemporaryDirectory() as folder:
         said = run("arguments_lines", ["no"], cwd=folder)[1]
         assert said == told("not a whole number of 64 bits", "no") + told("not a date as 2026-05-31", "no") + b"no: No such file or directory\n"
+        for word, printed in [("one\ntwo\x1b[2J\x7f\tñ", "one?two?[2J??ñ"), ("x" * LONGEST, "x" * LONGEST), ("x" * (LONGEST + 1), "x" * LONGEST)]:
+            assert run("arguments_lines", [word], cwd=folder)[1].startswith(told("not a whole number of 64 bits", printed)), word
         assert run("arguments_lines", ["."], cwd=folder)[1].endswith(b".: Is a directory\n")
         assert run("arguments_lines", ["n" * 300], cwd=folder)[1].endswith(b"n: File name too long\n")
         assert run("arguments_lines", ["n" * 9000], cwd=folder)[1].endswith(b"n: File name too long\n")
@@ -123,12 +109,11 @@ def test_told():
 
 
 def main():
-    for program in ("verdict", "journal", "solutions"):
-        test_without_arguments(program)
-    test_files_as_before()
+    test_ignored()
+    test_requests()
     test_words()
     test_told()
-    print("3 programs with %d wrong lists of arguments each, %d random words: all as expected" % (len(UNKNOWN), BATCHES * BATCH))
+    print("3 programs with %d lists of arguments each, %d random words: all as expected" % (len(IGNORED), BATCHES * BATCH))
 
 
 if __name__ == "__main__":

@@ -1,4 +1,4 @@
--- OpeningFrom a file, and opening a problem in hand: the same search. In the words of the contracts of `read`, `write`, `check`, `open` and `open_problem`.
+-- Opening a file, and opening a problem in hand: the same search. In the words of the contracts of `read`, `write`, `check`, `open` and `open_problem`.
 use Rattle.std.specs.Prelude.{ℕ, ◌≤◌, List, ◌≡◌, take, length}
 use Rattle.model_files.specs.File.{read_file, file_length, write_file}
 use Rattle.model_acceptance.specs.Acceptable.{problem_error}
