@@ -8,12 +8,16 @@ use mathlib.Core.Path.{◌≡◌, refl, sym, ap, ap₂, ◌∙◌}
 use lib.Dec.{eqb, eqb→eq, eqb_refl}
 use lib.IntN.{ℤ, pos, negsuc}
 use lib.ListN.{length, take, drop}
+use mir.Syntax.{w64}
+use mir.Val.{SFits, of_z}
+use borrow.Author.Tests.{eqb-true}
 use Rattle.std.specs.Cmp.Lexicographic.{pointwise}
 use Rattle.std.specs.Ordering.{int_eq}
 use Rattle.std.proofs.lemmas.Bool.Decides.{Decides-int_eq}
 use Rattle.model_problems.specs.Ranges.{within, max_coefficient}
 use Rattle.model_problems.specs.Lists.{tab, all, all_of, all_pairs}
 use Rattle.model_problems.specs.Constraint.{in_range, equalℤ, equal}
+use Rattle.integer.specs.Tests.{same}
 use Rattle.lists.proofs.Bools.{true_of, T_of, clash, same_test}
 use Rattle.lists.proofs.Tab.{tab-of-part, tab-shift}
 use Rattle.lists.proofs.AllOf.{all_of-tab}
@@ -57,6 +61,12 @@ equal-refl (negsuc a) = true_of (eqb a a) (eqb_refl a)
 int_eq-equal : (a b : ℤ) → int_eq a b ≡ equalℤ a b
 int_eq-equal a b =
     same_test (int_eq a b) (equalℤ a b) (λ e. rw ((Decides-int_eq a b).0 e) (equal-refl b)) (λ e. (Decides-int_eq a b).1 (equal-true a b e))
+
+-- `==` at numbers compares their bits
+pub equal-bits : {a b : ℤ} → SFits w64 a → SFits w64 b → eqb (of_z w64 a) (of_z w64 b) ≡ equalℤ a b
+equal-bits {a} {b} f g =
+    same_test (eqb (of_z w64 a) (of_z w64 b)) (equalℤ a b) (λ e. rw (same f g (eqb-true _ _ e)) (equal-refl b))
+    (λ e. rw (equal-true a b e) (true_of (eqb (of_z w64 b) (of_z w64 b)) (eqb_refl (of_z w64 b))))
 
 pub parts-equal : (n : ℕ) (a : List ℤ) (at : ℕ) (b : List ℤ) (bt c d : ℕ) → at + n < length a → bt + n < length b → c ≡ n + 1 → d ≡ n + 1 →
     pointwise int_eq (take c (drop at a)) (take d (drop bt b)) ≡ equal (constraint_at n a at) (constraint_at n b bt)
