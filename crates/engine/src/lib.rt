@@ -2,3 +2,5 @@
 #![tactic(auto)]
 
 pub mod advance;
+mod given;
+mod walk;
