@@ -1,7 +1,7 @@
 -- The argument for the loop over turns.
 pub mod Beginning
-pub mod Deciding
 pub mod Going
+pub mod Deciding
 pub mod Leaving
 pub mod Returning
 pub mod Striking

@@ -1,6 +1,7 @@
 // Turns repeated in place: the loop that `step`, `run`, `trace` and `list` share.
 ghost use Rattle.state.specs.View.{view};
 ghost use Rattle.turns.specs.Advancing.{Starts, Advances};
+ghost use Rattle.engine.specs.Walk.{Runnable, Runs};
 
 use crate::given::Given;
 use crate::walk::Walk;
@@ -13,7 +14,7 @@ use turns::{Advanced, Ending};
 // At most `limit` turns, to a verdict, the first `room` solutions struck out on the way. The block of each counted conflict goes to the buffer, if blocks
 // are kept.
 pub fn advance(
-    s: Search,
+    mut s: Search,
     buffer: &mut [u8],
     limit: usize,
     keep: bool,
@@ -23,27 +24,53 @@ pub fn advance(
     requires { Starts s limit keep room buffer.old solutions.old }
     ensures { Advances (view s) limit keep room result buffer.old buffer.new solutions.old solutions.new }
 {
-    let given = Given::new(&s);
-    let mut walk = Walk::begin(&s, &given, limit);
+    let lines = s.rows;
+    let given = Given::new(&s, &lines);
+    let mut walk = Walk::new(&s, limit);
+    walk.begin(&given, &mut s);
+    let ending = run(&mut walk, &given, &mut s, buffer, keep, room, solutions);
+    walk.end(&given, &mut s);
+    Advanced {
+        ending,
+        struck: walk.struck,
+        blocks: walk.done,
+        state: s,
+    }
+}
+
+// The turns that are left, or up to a verdict.
+fn run(
+    walk: &mut Walk,
+    given: &Given,
+    s: &mut Search,
+    buffer: &mut [u8],
+    keep: bool,
+    room: usize,
+    solutions: &mut [i64],
+) -> Ending
+    requires { Runnable given.now s.old walk.old keep room buffer.old solutions.old }
+    ensures { Runs given.now s.old walk.old keep room buffer.old solutions.old s.new walk.new buffer.new solutions.new result }
+{
     while walk.done < walk.left {
-        match walk.propagate(&given) {
-            Found::Decide(i) => walk.decide(&given, i),
+        match walk.propagate(given, s) {
+            Found::Decide(i) => walk.decide(given, s, i),
             Found::Finish => {
-                if is_last(walk.depth, walk.struck, room, walk.propagations) {
-                    walk.start_turn();
-                    return walk.end(&given, Ending::Solution, Status::Solved);
+                if is_last(s.depth, walk.struck, room, s.propagations) {
+                    s.status = Status::Solved;
+                    walk.start_turn(s);
+                    return Ending::Solution;
                 }
-                walk.strike_out(&given, solutions);
+                walk.strike_out(given, s, solutions);
             }
             Found::Conflict(j) => {
-                if is_spent(walk.conflicts, given.budget) {
-                    return walk.end(&given, Ending::OutOfBudget, Status::Undecided);
+                if is_spent(s.conflicts, given.budget) {
+                    return Ending::OutOfBudget;
                 }
-                if !walk.count_conflict(&given, j, keep, buffer) {
-                    return walk.end(&given, Ending::NoSolution, Status::Infeasible);
+                if !walk.count_conflict(given, s, j, keep, buffer) {
+                    return Ending::NoSolution;
                 }
             }
         }
     }
-    walk.end(&given, Ending::GoOn, Status::Undecided)
+    Ending::GoOn
 }

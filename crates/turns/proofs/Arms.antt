@@ -11,10 +11,11 @@ use Rattle.model_walk.specs.Search as model
 use Rattle.model_walk.specs.Move.{conflict, finish, follow, descend, propagations_by}
 use Rattle.model_walk.specs.Step.{Outcome, block_in, propagated, solved_by, budget_spent}
 use Rattle.model_walk.specs.Trace.{with_blocks, last_step, advance}
+use Rattle.validity.proofs.Steps.{impossible}
 use Rattle.state.specs.declared.Level.{Level}
 use Rattle.turns.specs.Advancing.{verdict_of, Buffered}
 use Rattle.turns.specs.declared.Ending.{Ending}
-use Rattle.turns.specs.declared.Ending.TheVariants.{GoOn, OutOfBudget, Solution}
+use Rattle.turns.specs.declared.Ending.TheVariants.{GoOn, NoSolution, OutOfBudget, Solution}
 use Rattle.turns.proofs.OneStep.{advance-finishes, advance-spent}
 use Rattle.turns.proofs.Running.{Running, Propagates, step_start, core_here, ends-tally}
 
@@ -84,3 +85,16 @@ module _ {s : model.Search} {old : List ℕ} {limit : ℕ} {keep : Bool} {thresh
         trace = sym (rw z at a ∙ rw append-nil);
         buffer = r.buffer;
       }
+
+-- every other ending is final
+abbrev pub Unsolved : Ending → Type 0
+Unsolved GoOn = Unit {0}
+Unsolved NoSolution = Unit {0}
+Unsolved OutOfBudget = Unit {0}
+Unsolved Solution = ⊥
+
+pub unsolved : {A : Type 0} (e : Ending) → Unsolved e → e ≡ Solution → A
+unsolved GoOn u f = impossible (cc)
+unsolved NoSolution u f = impossible (cc)
+unsolved OutOfBudget u f = impossible (cc)
+unsolved Solution u f = absurd u

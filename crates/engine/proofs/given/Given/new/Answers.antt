@@ -12,11 +12,7 @@ columns-mentions-requires c = (c.requires.few, (c.requires.most, (search rules, 
 pub returns : goal.returns
 returns c =
     record {
-      variables = refl;
-      inputs = refl;
-      budget = refl;
-      thresholds = refl;
-      lines = refl;
-      divisors = refl;
+      of_state = record { variables = refl; inputs = refl; budget = refl; thresholds = refl; divisors = refl };
+      rows = refl;
       sorted = record { every = c.divided_mask-divided.ensures; columns = c.columns-mentions.ensures };
     }

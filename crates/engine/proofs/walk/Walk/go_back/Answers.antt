@@ -4,27 +4,42 @@ use native.Mathlib.Omega.{arith}
 use mathlib.Core.Path.{◌≡◌, refl, sym, ap, subst}
 use Rattle.state.specs.declared.Level.{Level}
 use Rattle.engine.specs.Walk.{GoneBack, stored}
-use Rattle.engine.proofs.Returning.{returnable, flipped-is, carried-back}
+use Rattle.engine.specs.declared.walk.Walk.{Walk}
+use Rattle.engine.proofs.Returning.{inside, flippable, lengths, flipped-is, testable-back, carried-back}
 use Rattle.engine.proofs.walk.Walk.go_back.Goals as goal
 
-pub go_back-self-requires : goal.go_back-self-requires
-go_back-self-requires c =
+pub backjump-first-requires : goal.backjump-first-requires
+backjump-first-requires c =
     let o = c.whole-self in
-    returnable c.requires o.result c.whole-flipped.result.decided o.ensures.0 (ap (λ (l : Level). l.decided) c.whole-flipped.ensures.0) o.ensures.1
+    let f = ap (λ (l : Level). l.decided) c.whole-i.ensures.0 in
+    (flippable c.requires o.result c.whole-i.result.decided o.ensures.0 f o.ensures.1, lengths c.requires o.result c.whole-i.result.decided o.ensures.0 f o.ensures.1)
+
+pub due-due-requires : goal.due-due-requires
+due-due-requires c =
+    let o = c.whole-self in
+    inside c.requires o.result c.whole-i.result.decided o.ensures.0 (ap (λ (l : Level). l.decided) c.whole-i.ensures.0) o.ensures.1
+
+pub first_divided-self-requires : goal.first_divided-self-requires
+first_divided-self-requires c =
+    let o = c.whole-self in
+    let d = c.due-due.ensures in
+    testable-back c.requires o.result c.whole-i.result.decided o.ensures.0 (ap (λ (l : Level). l.decided) c.whole-i.ensures.0) o.ensures.1 c.backjump-first.ensures d.all d.mentioned
 
 pub returns : goal.returns
 returns c =
-    let g = c.args.given.now in
     let v = c.args.self.now in
-    let back = c.args.back in
+    let s = c.args.s.now in
     let o = c.whole-self in
-    let r = c.go_back-self in
-    let i = c.whole-flipped.result.decided in
-    let f = ap (λ (l : Level). l.decided) c.whole-flipped.ensures.0 in
-    subst (GoneBack g v back) (sym c.start_turn.ensures)
+    let i = c.whole-i.result.decided in
+    let f = ap (λ (l : Level). l.decided) c.whole-i.ensures.0 in
+    let r = c.backjump-first in
+    let d = c.due-due.ensures in
+    let at = record s { levels = stored s v; depth = c.args.back - 1 } in
+    subst (GoneBack c.args.given.now s v c.args.back at) (sym c.start_turn.ensures)
     (record {
       whole = o.ensures.1;
-      is = ap (λ (l : Level). record v { levels = stored v; depth = back - 1; level = l; turn = record { before = l; start = back - 1; earlier = v.propagations }; low = c.min-self.result; tracked = record { activities = r.new.activities; reaches = r.new.reaches; told = r.result } })
-          (flipped-is c.requires o.result i o.ensures.0 f o.ensures.1 r.ensures);
-      carried = carried-back c.requires o.result i o.ensures.0 f o.ensures.1 r.ensures (λ h. omega (arith, c.min-self.ensures)) (λ h. omega (arith, c.min-self.ensures));
+      state = refl;
+      is = ap (λ (l : Level). record v { level = l; low = c.min-self.result; turn = record { before = l; start = c.args.back - 1; earlier = s.propagations }; tracked = record { activities = r.new.activities; reaches = r.new.reaches; told = c.first_divided-self.result } })
+      (flipped-is c.requires o.result i o.ensures.0 f o.ensures.1 r.ensures);
+      carried = carried-back c.requires o.result i o.ensures.0 f o.ensures.1 r.ensures d.all d.mentioned c.first_divided-self.ensures (λ h. omega (arith, c.min-self.ensures)) (λ h. omega (arith, c.min-self.ensures));
     })

@@ -1,8 +1,7 @@
 -- `engine::walk::Walk::propagate` meets its contract. Assumes nothing.
 use native.Mathlib.Omega.{arith}
 use mathlib.Core.Path.{refl}
-use Rattle.turns.proofs.Looping.{ready_with}
-use Rattle.turns.proofs.Rounds.{ready, gap-free, countable}
+use Rattle.turns.proofs.Rounds.{ready_with, ready, gap-free, countable}
 use Rattle.engine.proofs.walk.Walk.propagate.Goals as goal
 
 pub propagate-stopped-requires : goal.propagate-stopped-requires
@@ -12,15 +11,16 @@ propagate-stopped-requires c =
     record {
       ready = (ready_with 0 (ready r), gap-free r);
       warned = (u.carried.falsified, u.carried.masks);
-      apart = (r.apart, u.sorted.columns);
+      apart = (r.apart, u.fixed.sorted.columns);
       upper_bound = countable r;
     }
 
 pub returns : goal.returns
 returns c = λ base old keep now u.
     let e = c.propagate-stopped.ensures in
+    let f = u.fixed.of_state in
     record {
-      sorted = u.sorted;
+      fixed = record { of_state = record { variables = f.variables; inputs = f.inputs; budget = f.budget; thresholds = f.thresholds; divisors = f.divisors }; sorted = u.fixed.sorted; unmarked = u.fixed.unmarked };
       running = u.running;
       carried = u.carried;
       answered = e.by_index c.args.self.now.level.decided;
