@@ -15,7 +15,7 @@ use Rattle.integer.specs.Expression.{Rep, rep, var, nat, of_le, of_lt}
 use Rattle.integer.specs.Order.{≤-or-<}
 use Rattle.integer.specs.Rounding.{floor-max, floor-only, ceil-min, ceil-only}
 use Rattle.integer.specs.Tests.{lt-lt_z, le-lt_z}
-use Rattle.linear.specs.Improvement.{move_of, implied_of, Improves}
+use Rattle.linear.specs.Improvement.{move_at, move_of, implied_of, Improves}
 use Rattle.linear.specs.Reach.{span_of}
 
 -- ---- the test without division. w is the activity, −w the slack; the implied bound is better than the one held exactly when −w < |a| · (u − l),
@@ -91,7 +91,7 @@ module _ (w l u : ℤ) where
   pub improved : (a : ℤ) → w ≤ℤ pos 0 → (pos 0 -ℤ w) <ℤ span_of a (bounds_of l u) →
       ((j i : ℕ) → move_of j i (Some (implied_of (w -ℤ term a (bounds_of l u)) a)) ≡ improvement_at j i (w -ℤ term a (bounds_of l u)) a (bounds_of l u)) ×
       Improves l u (implied_of (w -ℤ term a (bounds_of l u)) a)
-  unfolding move_of implied_of improvement_at term span_of
+  unfolding move_of move_at implied_of improvement_at term span_of
   improved (pos zero) h t = absurd (improved-nonzero (pos zero) h t refl)
   improved (pos (suc k)) h t = ((λ j i. rw (lt-lt_z (upper-better w l u k t))), (upper-inside w l u k h, upper-better w l u k t))
   improved (negsuc k) h t = ((λ j i. rw (lt-lt_z (lower-better w l u k t))), (lower-better w l u k t, lower-inside w l u k h))

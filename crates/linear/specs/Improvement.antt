@@ -11,10 +11,14 @@ unfoldable pub implied_of : ℤ → ℤ → Bound
 implied_of p (pos a) = Upper (implied_upper p a)
 implied_of p (negsuc a) = Lower (implied_lower p (suc a))
 
+-- the move of constraint j that sets this bound of variable i
+unfoldable pub move_at : ℕ → ℕ → Bound → Move
+move_at j i (Lower v) = new_lower j i v
+move_at j i (Upper v) = new_upper j i v
+
 -- the move that constraint j makes at variable i
 unfoldable pub move_of : ℕ → ℕ → Option Bound → math.Option Move
-move_of j i (Some (Lower v)) = math.some (new_lower j i v)
-move_of j i (Some (Upper v)) = math.some (new_upper j i v)
+move_of j i (Some b) = math.some (move_at j i b)
 move_of j i None = math.none
 
 -- the new bound is strictly better, and does not cross the other one
