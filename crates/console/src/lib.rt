@@ -33,17 +33,20 @@ pub fn goes_on(verdict: Verdict) -> bool {
     matches!(verdict, Verdict::GoOn)
 }
 
-// Opens a file. Why one is refused is printed.
-fn open(rt: &impl Print, stderr: &impl Print, file: &[u8]) -> Option<Search> {
+// Opens a file, or says the number of its error.
+fn open(file: &[u8]) -> Result<Search, usize> {
     let opened = search::open(file);
-    let error = problem::error_number(opened.answer);
-    if error == 0 {
-        return Some(opened.state);
+    match problem::error_number(opened.answer) {
+        0 => Ok(opened.state),
+        error => Err(error),
     }
+}
+
+// Prints why a file is refused.
+fn print_refused(rt: &impl Print, stderr: &impl Print, error: usize) {
     let mut output = Output::new(rt);
     output.put(Line::Refused(error));
     output.finish(stderr);
-    None
 }
 
 // Runs an opened search to its verdict and prints it, with a line for each conflict on the way. About once a second it tells, where somebody looks, how
@@ -85,18 +88,17 @@ fn print_search(rt: &(impl Clock + Print), stderr: &(impl IsTerminal + Print), o
 
 // Prints the verdict of a file, document 01's 'Writer and program'.
 pub fn print_verdict(rt: &(impl Clock + Print), stderr: &(impl IsTerminal + Print), file: &[u8]) {
-    if let Some(opened) = open(rt, stderr, file) {
-        print_search(rt, stderr, opened);
+    match open(file) {
+        Ok(opened) => print_search(rt, stderr, opened),
+        Err(error) => print_refused(rt, stderr, error),
     }
 }
 
 // Writes the journal of a file to standard output; that of a file with an error is empty.
 pub fn write_journal(rt: &impl Print, stderr: &impl Print, file: &[u8]) {
-    let opened = search::open(file);
-    if problem::error_number(opened.answer) != 0 {
+    let Ok(mut s) = open(file) else {
         return;
-    }
-    let mut s = opened.state;
+    };
     let mut blocks = [0u8; BLOCKS_LENGTH];
     for _ in 0..MAX_TURNS {
         let traced = search::trace(s, &mut blocks);

@@ -1,7 +1,7 @@
 // Every solution of a problem, in dictionary order.
 use crate::output::Output;
 use crate::told::Watch;
-use crate::{open, told};
+use crate::{open, print_refused, told};
 use answers::Verdict;
 use report::Line;
 use shown::Exclusion;
@@ -84,7 +84,8 @@ fn print_listing(rt: &(impl Clock + Print), stderr: &(impl IsTerminal + Print), 
 
 // Prints the solutions of a file.
 pub fn print_solutions(rt: &(impl Clock + Print), stderr: &(impl IsTerminal + Print), file: &[u8]) {
-    if let Some(opened) = open(rt, stderr, file) {
-        print_listing(rt, stderr, opened);
+    match open(file) {
+        Ok(opened) => print_listing(rt, stderr, opened),
+        Err(error) => print_refused(rt, stderr, error),
     }
 }

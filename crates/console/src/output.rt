@@ -58,7 +58,7 @@ impl<'a, P: Print> Output<'a, P> {
     // Puts a verdict's line, a solution with its first n values. 'Go on' is no verdict, and an opened search is never invalid: they have none.
     pub(crate) fn put_verdict(&mut self, verdict: Verdict, values: &[i64; 32], n: usize) {
         match verdict {
-            Verdict::Solution => self.put(Line::Solution(&values[..n.min(32)])),
+            Verdict::Solution => self.put(Line::Solution(&values[..n.min(values.len())])),
             Verdict::NoSolution => self.put(Line::None),
             Verdict::OutOfBudget => self.put(Line::Spent),
             Verdict::GoOn | Verdict::Invalid => {}
