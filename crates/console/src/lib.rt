@@ -14,11 +14,11 @@ mod listing;
 mod output;
 mod told;
 
-pub use input::read_input;
+pub use input::on_input;
 pub use listing::print_solutions;
 
 // One byte more than the longest input. Of a longer one this many bytes are read, which is no whole number of blocks: so it counts as truncated.
-pub const INPUT_LENGTH: usize = 65537;
+const INPUT_LENGTH: usize = 65537;
 
 // More turns than any budget has conflicts: a turn that does not end the search counts one.
 pub const MAX_TURNS: usize = 2_000_000_000;

@@ -3,8 +3,9 @@
 
 fn main(rt: HostRuntime) {
     let stderr = rt.stderr();
-    let mut file = [0u8; console::INPUT_LENGTH];
-    if let Some(read) = console::read_input(&rt, &stderr, &mut file) {
-        console::print_solutions(&rt, &stderr, &file[..read]);
-    }
+    console::on_input(
+        &rt,
+        &stderr,
+        |file| console::print_solutions(&rt, &stderr, file),
+    );
 }
