@@ -1,13 +1,12 @@
--- `layout::range::bounds_in_range` meets its contract. Assumes nothing.
-use borrow.Author.Rules.{rules}
-use Rattle.layout.proofs.Ranges.{lower-beyond, upper-beyond, in_order}
+use Rattle.std.proofs.Common.{rules}
+use Rattle.model_problems.specs.Lists.{all}
+use Rattle.model_problems.specs.Problem.{bounds_in_range}
 use Rattle.layout.proofs.range.bounds_in_range.Goals as goal
 
-pub returns-then-not-is_within : goal.returns-then-not-is_within
-returns-then-not-is_within c = search (rules, lower-beyond)
+pub returns-then-is_within-2 : goal.returns-then-is_within-2
+unfolding bounds_in_range all
+returns-then-is_within-2 c = search rules
 
-pub returns-then-not-is_within-2 : goal.returns-then-not-is_within-2
-returns-then-not-is_within-2 c = search (rules, upper-beyond)
-
-pub returns : goal.returns
-returns c = search (rules, in_order)
+pub returns-else-is_within-2 : goal.returns-else-is_within-2
+unfolding bounds_in_range all
+returns-else-is_within-2 c = search rules
