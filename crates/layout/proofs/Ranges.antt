@@ -1,6 +1,5 @@
 -- Ranges: loops that go up while the bounds of a box are in range, where the premises of a law are the facts that stand where the code goes on or returns; and the divisors of inputs.
 use Prim.Native.Nat.{ℕ, ◌+◌, ◌<◌, ◌≤◌}
-use native.Mathlib.Omega.{arith}
 use mathlib.Core.Bool.{Bool, true, false}
 use mathlib.Core.List.{List}
 use mathlib.Core.Path.{◌≡◌, sym, ap, ◌∙◌}
@@ -12,7 +11,7 @@ use mir.Facts.{to_z-of_z}
 use Rattle.model_problems.specs.Lists.{tab, all_of}
 use Rattle.model_problems.specs.Constraint.{in_range, is_divisor, divisor_in_range}
 use Rattle.model_problems.specs.Problem.{bounds_in_range}
-use Rattle.lists.proofs.Tab.{tab-of-part}
+use Rattle.lists.proofs.Tab.{tab-front}
 use Rattle.lists.proofs.AllOf.{all_of-tab}
 use Rattle.lists.proofs.Bools.{said-no, said-yes}
 use Rattle.lists.proofs.Loops.{every-none, every_more, every-end, every-fails}
@@ -52,5 +51,5 @@ module _ (n : ℕ) (rows divisors : List ℤ) where
   pub divisors-range : (m : ℕ) → m ≤ length divisors → all_of is_divisor (take m divisors) ≡ all_of divisor_in_range (tab (input_at n rows divisors) 0 m)
   unfolding divisor_in_range input_at divided_at number_in
   divisors-range m h =
-      ap (all_of is_divisor) (sym (tab-of-part divisors (pos 0) 0 m (omega arith))) ∙ all_of-tab is_divisor (number_in divisors) 0 m ∙
+      ap (all_of is_divisor) (tab-front divisors (pos 0) m h) ∙ all_of-tab is_divisor (number_in divisors) 0 m ∙
       sym (all_of-tab divisor_in_range (input_at n rows divisors) 0 m)

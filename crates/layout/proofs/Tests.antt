@@ -2,7 +2,7 @@
 use Prim.Native.Nat.{ℕ, suc, ◌+◌, ◌<◌}
 use native.Mathlib.Omega.{arith}
 use native.Mathlib.Numerals.{add-one}
-use mathlib.Core.Bool.{Bool, true, false, ◌&&◌}
+use mathlib.Core.Bool.{Bool, true, ◌&&◌}
 use mathlib.Core.List.{List, ◌∷◌}
 use mathlib.Core.Path.{◌≡◌, refl, sym, ap, ap₂, ◌∙◌}
 use lib.Dec.{eqb, eqb→eq, eqb_refl}
@@ -48,20 +48,13 @@ equal-true (pos a) (negsuc b) e = clash e refl
 equal-true (negsuc a) (pos b) e = clash e refl
 equal-true (negsuc a) (negsuc b) e = ap negsuc (eqb→eq a b (T_of e))
 
-pub equal-refl : (a : ℤ) → equalℤ a a ≡ true
+equal-refl : (a : ℤ) → equalℤ a a ≡ true
 unfolding equalℤ
 equal-refl (pos a) = true_of (eqb a a) (eqb_refl a)
 equal-refl (negsuc a) = true_of (eqb a a) (eqb_refl a)
 
-pub equal-not : (a b : ℤ) → (a ≡ b → ⊥) → equalℤ a b ≡ false
-equal-not a b h = go (equalℤ a b) refl
-  where
-    go : (t : Bool) → equalℤ a b ≡ t → equalℤ a b ≡ false
-    go true e = absurd (h (equal-true a b e))
-    go false e = e
-
 -- std's test of equal numbers is the model's
-pub int_eq-equal : (a b : ℤ) → int_eq a b ≡ equalℤ a b
+int_eq-equal : (a b : ℤ) → int_eq a b ≡ equalℤ a b
 int_eq-equal a b =
     same_test (int_eq a b) (equalℤ a b) (λ e. rw ((Decides-int_eq a b).0 e) (equal-refl b)) (λ e. (Decides-int_eq a b).1 (equal-true a b e))
 

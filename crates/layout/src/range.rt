@@ -12,6 +12,7 @@ use crate::{
 };
 
 // Whether n, m and the budget are within their limits.
+#[tactic(auto, unfolding(crate::specs::Sizes::sizes_fit, model_problems::specs::Lists::all))]
 pub fn sizes_in_range(n: usize, m: usize, budget: usize) -> bool
     ensures { result ≡ sizes_fit n m budget }
 {
@@ -19,6 +20,7 @@ pub fn sizes_in_range(n: usize, m: usize, budget: usize) -> bool
 }
 
 // Whether a number is from −limit to limit.
+#[tactic(auto, using(std::proofs::lemmas::Int::ints), unfolding(model_problems::specs::Ranges::within))]
 fn is_within(limit: u32, number: i64) -> bool
     ensures { result ≡ within limit number }
 {
@@ -26,6 +28,7 @@ fn is_within(limit: u32, number: i64) -> bool
 }
 
 // Whether the bounds of a variable are in range, the lower not above the upper.
+#[tactic(auto, unfolding(model_problems::specs::Lists::all, model_problems::specs::Problem::bounds_in_range))]
 pub fn bounds_in_range(lower: i64, upper: i64) -> bool
     ensures { result ≡ bounds_in_range (record { lower = lower; upper = upper }) }
 {
@@ -66,6 +69,7 @@ pub fn is_none_or_from_two(limit: i64, q: i64) -> bool
 }
 
 // Whether a constraint's divisor is in range: none, or 2 to 2^20.
+#[tactic(auto, unfolding(model_problems::specs::Constraint::is_divisor))]
 pub fn is_divisor_in_range(q: i64) -> bool
     ensures { result ≡ is_divisor q }
 {

@@ -1,5 +1,5 @@
 -- What `all` and `any` answer, over a range and over a slice, and `==` of slices, in the model's tests of lists.
-use Prim.Native.Nat.{ℕ, zero, suc, ◌+◌, ◌≤◌}
+use Prim.Native.Nat.{ℕ, zero, suc}
 use native.Mathlib.Omega.{arith}
 use native.Mathlib.Numerals.{add-one}
 use mathlib.Core.Bool.{Bool, ◌&&◌, ◌||◌}
