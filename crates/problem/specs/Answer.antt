@@ -1,11 +1,10 @@
--- Document 01's table of errors with document 02's, the number of each answer; and what writing shows.
-use Rattle.std.specs.Prelude.{ℕ, List}
+-- Document 01's table of errors with document 02's, the number of each refusal; and what a result says of it.
+use Rattle.std.specs.Prelude.{ℕ, List, Result, Ok, Err}
 use Rattle.model_files.specs.File.{Written}
-use Rattle.problem.specs.declared.Answer.{Answer}
-use Rattle.problem.specs.declared.Answer.TheVariants.{Done, Truncated, BadChecksum, BadMagic, SizeRange, DomainRange, CoefficientRange, NonzeroPadding, ShortBuffer, InvalidSearch, DivisorRange, ThresholdRange}
+use Rattle.problem.specs.declared.Refusal.{Refusal}
+use Rattle.problem.specs.declared.Refusal.TheVariants.{Truncated, BadChecksum, BadMagic, SizeRange, DomainRange, CoefficientRange, NonzeroPadding, ShortBuffer, InvalidSearch, DivisorRange, ThresholdRange}
 
-unfoldable pub number : Answer → ℕ
-number Done = 0
+unfoldable pub number : Refusal → ℕ
 number Truncated = 1
 number BadChecksum = 2
 number BadMagic = 3
@@ -18,6 +17,11 @@ number InvalidSearch = 9
 number DivisorRange = 10
 number ThresholdRange = 13
 
--- what writing shows: its answer's number, and the lent buffer's bytes
-unfoldable pub written : Answer → List ℕ → Written
-written answer buffer = record { number = number answer; buffer = buffer }
+-- a result's number: 0 where nothing is refused
+unfoldable pub number_of : {A : Type 0} → Result A Refusal → ℕ
+number_of (Ok x) = 0
+number_of (Err e) = number e
+
+-- what writing shows: its result's number, and the lent buffer's bytes
+unfoldable pub written : Result (Unit {0}) Refusal → List ℕ → Written
+written r buffer = record { number = number_of r; buffer = buffer }
