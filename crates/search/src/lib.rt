@@ -6,32 +6,30 @@ ghost use Rattle.std.specs.Prelude.{◌≡◌};
 ghost use Rattle.model_walk.specs.Search.{open_file};
 ghost use Rattle.model_acceptance.specs.Acceptable.{open_given};
 ghost use Rattle.problem.specs.View.{problem_of};
-ghost use Rattle.shown.specs.Opening.{seen_opened, opening};
+ghost use Rattle.shown.specs.Opening.{seen_opened};
 ghost use Rattle.shown.specs.Excluding.{seen_excluded, exclude_seen};
 ghost use Rattle.shown.specs.Listing.{seen_listed, list_seen};
 ghost use Rattle.shown.specs.Seen.{seen_stepped, seen_ran, seen_traced, step_seen, run_seen, trace_seen};
 
 use answers::{Listed, Ran, Traced};
-use problem::{Problem, check};
-use shown::{Excluded, Exclusion, Opened, Stepped};
+use problem::{Problem, Refusal, check};
+use shown::{Excluded, Exclusion, Stepped};
 use state::{Search, Status};
 
 // Opens the problem file in these bytes.
-pub fn open(file: &[u8]) -> Opened
-    ensures { seen_opened result ≡ opening (open_file file.now) }
+pub fn open(file: &[u8]) -> Result<Search, Refusal>
+    ensures { seen_opened result ≡ open_file file.now }
 {
-    let reading = reading::read(file);
-    let answer = reading.answer;
-    let problem = reading.problem;
-    fresh::begin(answer, problem)
+    let found = reading::read(file);
+    fresh::begin(found)
 }
 
 // Opens a problem in hand, which need not be written to a file and read again.
-pub fn open_problem(problem: Problem) -> Opened
-    ensures { seen_opened result ≡ opening (open_given (problem_of problem)) }
+pub fn open_problem(problem: Problem) -> Result<Search, Refusal>
+    ensures { seen_opened result ≡ open_given (problem_of problem) }
 {
-    let answer = check(problem);
-    fresh::begin(answer, problem)
+    check(problem)?;
+    fresh::begin(Ok(problem))
 }
 
 // Turns repeated, to a verdict or until the buffer has no room for another block.

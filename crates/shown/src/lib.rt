@@ -2,15 +2,7 @@
 #![tactic(auto)]
 
 use answers::Verdict;
-use problem::Answer;
 use state::Search;
-
-// What opening gives: the search state, or an error and a blank state, which is not valid.
-#[derive(Clone, Copy)]
-pub struct Opened {
-    pub answer: Answer,
-    pub state: Search,
-}
 
 // What a turn gives. `values` are the solution's, zeros past them or where there is none; `block` is the journal block if a conflict was counted
 // (`recorded`), else zeros; an error gives back the state whole.

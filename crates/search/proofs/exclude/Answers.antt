@@ -1,11 +1,7 @@
 -- `search::exclude` meets its contract. Assumes nothing.
 use native.Mathlib.Omega.{arith}
-use mathlib.Core.Bool.{true}
-use mathlib.Core.Path.{◌≡◌}
 use borrow.Author.Rules.{rules}
-use Rattle.model_walk.specs.Validity.{admitted}
 use Rattle.lists.proofs.Bools.{said-no, said-yes}
-use Rattle.state.specs.View.{view}
 use Rattle.shown.proofs.Showing.{valid-view}
 use Rattle.shown.proofs.Excluding.{exclude-refused, exclude-unsolved, exclude-ended, exclude-struck}
 use Rattle.search.proofs.exclude.Goals as goal

@@ -1,11 +1,7 @@
 -- `search::run` meets its contract. Assumes nothing.
-use borrow.Author.Rules.{rules}
 use native.Mathlib.Omega.{arith}
-use mathlib.Core.Bool.{true}
-use mathlib.Core.Path.{◌≡◌, refl}
-use Rattle.model_walk.specs.Validity.{admitted}
+use mathlib.Core.Path.{refl}
 use Rattle.lists.proofs.Bools.{clash, said-no, said-yes}
-use Rattle.state.specs.View.{view}
 use Rattle.propagate.proofs.States.{sizes}
 use Rattle.answers.proofs.Proceeding.{after-sizes}
 use Rattle.shown.proofs.Showing.{valid-view, few-view, run-shown, run-refused}
