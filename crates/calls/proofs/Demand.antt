@@ -1,37 +1,33 @@
 -- Demand 3, of the calls.
 use Prim.Native.Nat.{ℕ, zero, suc, ◌+◌, ◌-◌, ◌*◌, ◌≤◌, ◌<◌}
 use native.Mathlib.Omega.{arith}
-use mathlib.Core.Bool.{cond}
 use mathlib.Core.List.{List, [], ◌∷◌, ◌++◌}
 use mathlib.Core.Logic.{◌⊎◌, inl, inr, ⊎_elim}
 use mathlib.Core.Path.{◌≡◌, refl, sym, ap, subst, ◌∙◌}
-use lib.Dec.{eqb, eqb-suc-zero}
 use lib.ListN.{length, take}
-use Rattle.model_problems.specs.Problem.{Problem, Result, ok, error}
+use Rattle.std.specs.Prelude.{Result, Ok, Err}
+use Rattle.model_problems.specs.Problem.{Problem, ok}
 use Rattle.model_walk.specs.Search as model
 use Rattle.model_walk.specs.Search.{open_problem}
 use Rattle.model_walk.specs.Move.{slack}
 use Rattle.model_walk.specs.Propagations.{bounds_set}
-use Rattle.model_problems.specs.Points.{Point, points, Solution, First}
+use Rattle.model_problems.specs.Points.{Point, points, First}
 use Rattle.model_walk.specs.Step.{Verdict as ModelVerdict, Outcome, out_of_budget, solution, step, run}
 use Rattle.model_acceptance.specs.Acceptable.{Acceptable}
 use Rattle.model_claims.specs.Demand.{state_after, journal, verdict_with, Decides, Agree, SameSolutions, Steps}
-use Rattle.problem.specs.declared.Answer.TheVariants.{Done}
-use Rattle.problem.specs.Answer.{number}
+use Rattle.problem.specs.declared.Refusal.{Refusal}
 use Rattle.problem.specs.View.{problem_of}
-use Rattle.problem.proofs.Numbers.{done}
 use Rattle.fields.specs.Fields.{zeros}
 use Rattle.lists.proofs.Bools.{lt-or-le}
 use Rattle.state.specs.View.{view}
 use Rattle.state.specs.declared.Search.{Search}
 use Rattle.validity.proofs.Steps.{impossible}
 use Rattle.soundness.proofs.Demand.{demand-of-problems, demand-3}
-use Rattle.shown.specs.Opening.{SeenOpening, seen_opened, opening}
+use Rattle.shown.specs.Opening.{seen_opened}
 use Rattle.shown.specs.Seen.{values_of}
-use Rattle.shown.specs.declared.Opened.{Opened}
 use Rattle.answers.specs.declared.Ran.{Ran}
 use Rattle.answers.specs.declared.Verdict.TheVariants as verdict
-use Rattle.calls.specs.Calls.{Source, file, value, problem_from, Fine, OpensFrom, Call, ran, Makes, told, ListFrom, state_in, journal_of, NoRun, until_run, steps_in, steps_of, SameAnswer, CallAfter, Decided, OpeningFrom, RunFrom, UnderBudget, EnoughBudget, CallsHoldFrom, WithEnoughFrom}
+use Rattle.calls.specs.Calls.{Source, file, value, problem_from, Fine, OpensFrom, Call, ran, Makes, told, ListFrom, state_in, journal_of, NoRun, until_run, steps_in, steps_of, SameAnswer, CallAfter, Decided, CallsFrom, OpeningFrom, RunFrom, UnderBudget, EnoughBudget, CallsHoldFrom, WithEnoughFrom}
 use Rattle.calls.proofs.Shown.{case_of, case-valid, case-plain}
 use Rattle.calls.proofs.Lists.{journal-end, set-end, journal-prefix, CallTells, call-tells, Follows, follows, one_more, steps-more, no_run}
 
@@ -41,17 +37,15 @@ pub record RunTells (q : Ran) (o : Outcome) : Type 0 where
   pub values : q.values ≡ values_of o.verdict
 
 -- ---- an opening that is not refused
-pub record Fresh (o : Opened) (m : model.Search) : Type 0 where
-  pub done : o.answer ≡ Done
-  pub start : view o.state ≡ m
+pub record Fresh (o : Result Search Refusal) (m : model.Search) : Type 0 where
+  pub state : Search
+  pub done : o ≡ Ok state
+  pub start : view state ≡ m
 
-opened-by : (o : Opened) (m : model.Search) (k : ℕ) → number o.answer ≡ k → cond (eqb k 0) (ok (view o.state)) (error k) ≡ ok m → Fresh o m
-opened-by o m zero n e = record { done = done o.answer n; start = cc }
-opened-by o m (suc k) n e = let f : ◌≡◌ {A = Result model.Search} (error (suc k)) (ok m) = rw (eqb-suc-zero k) at e in impossible (cc)
-
-pub opened-as : (o : Opened) (m : model.Search) → seen_opened o ≡ opening (ok m) → Fresh o m
-unfolding seen_opened opening
-opened-as o m e = opened-by o m (number o.answer) refl (ap (λ (x : SeenOpening). x.answer) e)
+pub opened-as : (o : Result Search Refusal) (m : model.Search) → seen_opened o ≡ ok m → Fresh o m
+unfolding seen_opened
+opened-as (Ok s) m e = record { state = s; done = refl; start = cc }
+opened-as (Err d) m e = impossible (cc)
 
 -- the problem that a search starts from is acceptable
 pub fine-source : (s : Source) → Fine s → Acceptable (problem_from s)
@@ -60,13 +54,17 @@ fine-source (file f) a = demand-3.acceptable f a
 fine-source (value p) a = a
 
 -- and both calls open it
-opens-source : (s : Source) → Fine s → (o : Opened) → OpensFrom s o → seen_opened o ≡ opening (ok (open_problem (problem_from s)))
+opens-source : (s : Source) → Fine s → (o : Result Search Refusal) → OpensFrom s o → seen_opened o ≡ ok (open_problem (problem_from s))
 unfolding problem_from
-opens-source (file f) a o e = e ∙ ap opening (demand-3.opens f a)
-opens-source (value p) a o e = e ∙ ap opening (demand-of-problems.opens (problem_of p) a)
+opens-source (file f) a o e = e ∙ demand-3.opens f a
+opens-source (value p) a o e = e ∙ demand-of-problems.opens (problem_of p) a
 
-pub fresh : (s : Source) → Fine s → (o : Opened) → OpensFrom s o → Fresh o (open_problem (problem_from s))
+pub fresh : (s : Source) → Fine s → (o : Result Search Refusal) → OpensFrom s o → Fresh o (open_problem (problem_from s))
 fresh s a o e = opened-as o (open_problem (problem_from s)) (opens-source s a o e)
+
+pub start-of : (s : Source) → Fine s → (x : Search) → OpensFrom s (Ok x) → view x ≡ open_problem (problem_from s)
+unfolding seen_opened
+start-of s a x e = let h = opens-source s a (Ok x) e in cc
 
 -- ---- 'none' exactly when there is no solution, else the first
 decided : (p : Problem) (q : Ran) (v : ModelVerdict) → q.verdict ≡ case_of v → q.values ≡ values_of v → Decides p v → Decided p q
@@ -80,7 +78,7 @@ decided p q v e u d =
     first (x, h, l) = (e ∙ ap case_of h ∙ (unfold case_of in refl), x, u ∙ ap values_of h ∙ (unfold values_of in refl), l)
 
 -- ---- the calls and the run from one opening
-module _ (s : Source) (a : Fine s) (o : Opened) (h : OpensFrom s o) (q : Ran) (g : Makes o.state (ran q)) where
+module _ (s : Source) (a : Fine s) (o : Search) (h : OpensFrom s (Ok o)) (q : Ran) (g : Makes o (ran q)) where
   abbrev p : Problem
   p = problem_from s
 
@@ -90,9 +88,9 @@ module _ (s : Source) (a : Fine s) (o : Opened) (h : OpensFrom s o) (q : Ran) (g
   abbrev t : Steps (problem_from s) (open_problem (problem_from s))
   t = demand-of-problems.steps (problem_from s) (fine-source s a)
 
-  start : view o.state ≡ state_after 0 (open_problem (problem_from s))
+  start : view o ≡ state_after 0 (open_problem (problem_from s))
   unfolding state_after
-  start = (fresh s a o h).start
+  start = start-of s a o h
 
   -- the run's answer is that of the model's run, which gives the first verdict
   first : (run m).verdict ≡ (step (state_after t.last m)).verdict
@@ -100,7 +98,7 @@ module _ (s : Source) (a : Fine s) (o : Opened) (h : OpensFrom s o) (q : Ran) (g
   first = (t.ran 0).0
 
   run_call_lem : CallTells p m t 0 (ran q)
-  run_call_lem = call-tells p m t 0 o.state (ran q) start g
+  run_call_lem = call-tells p m t 0 o (ran q) start g
 
   pub run_is : RunTells q (run (open_problem (problem_from s)))
   unfolding told steps_in
@@ -119,7 +117,7 @@ module _ (s : Source) (a : Fine s) (o : Opened) (h : OpensFrom s o) (q : Ran) (g
   run-set = let z : 0 + suc t.last ≡ suc t.last = omega arith in run_call_lem.propagations ∙ ap (λ (i : ℕ). bounds_set i m) z
 
   -- the calls cs, and c after them
-  module _ (cs : List Call) (c : Call) (l : ListFrom o.state cs) (e : Makes (state_in o.state cs) c) where
+  module _ (cs : List Call) (c : Call) (l : ListFrom o cs) (e : Makes (state_in o cs) c) where
     abbrev k : ℕ
     k = steps_of t.last cs
 
@@ -127,10 +125,10 @@ module _ (s : Source) (a : Fine s) (o : Opened) (h : OpensFrom s o) (q : Ran) (g
     n = steps_in t.last c
 
     x : CallTells p m t (steps_of t.last cs) c
-    x = call-tells p m t (steps_of t.last cs) (state_in o.state cs) c (let z : 0 + steps_of t.last cs ≡ steps_of t.last cs = omega arith in rw z at (follows p m t cs 0 o.state start l).state) e
+    x = call-tells p m t (steps_of t.last cs) (state_in o cs) c (let z : 0 + steps_of t.last cs ≡ steps_of t.last cs = omega arith in rw z at (follows p m t cs 0 o start l).state) e
 
-    all : Follows p m t 0 o.state (cs ++ (c ∷ []))
-    all = follows p m t (cs ++ (c ∷ [])) 0 o.state start (one_more cs o.state c l e)
+    all : Follows p m t 0 o (cs ++ (c ∷ []))
+    all = follows p m t (cs ++ (c ∷ [])) 0 o start (one_more cs o c l e)
 
     -- without a run these are the blocks of as many turns
     blocks : NoRun (cs ++ (c ∷ [])) → journal_of (cs ++ (c ∷ [])) ≡ journal (k + n) m
@@ -188,10 +186,9 @@ module _ (s : Source) (a : Fine s) (o : Opened) (h : OpensFrom s o) (q : Ran) (g
   enough : points p ≤ p.budget → Decided p q
   enough e = decided p q (run m).verdict run_is.verdict run_is.values (t.decides e)
 
-  pub opening-holds : OpeningFrom (problem_from s) o q
-  opening-holds =
+  pub calls-from : CallsFrom (problem_from s) o q
+  calls-from =
       record {
-        accepted = (fresh s a o h).done;
         last = t.last;
         blocks = journal (suc t.last) m;
         whole = sym run-count;
@@ -200,6 +197,12 @@ module _ (s : Source) (a : Fine s) (o : Opened) (h : OpensFrom s o) (q : Ran) (g
         decides = enough;
         or-spent = ⊎_elim (λ (e : points p < p.budget). inl (enough (omega arith))) (λ (e : p.budget ≤ points p). or-spent (t.smaller p.budget (points p) e)) (lt-or-le (points p) p.budget);
       }
+
+opening-holds : (s : Source) → Fine s → (o : Result Search Refusal) → OpensFrom s o → OpeningFrom (problem_from s) o
+opening-holds s a o h =
+    let x = fresh s a o h in
+    let k = subst (OpensFrom s) x.done h in
+    record { state = x.state; accepted = x.done; calls = λ q g. calls-from s a x.state k q g }
 
 -- ---- two openings
 run_of : (s : Source) (q : Ran) → RunFrom s q → RunTells q (run (open_problem (problem_from s)))
@@ -256,7 +259,7 @@ calls-hold-from =
 -- ---- with budgets of at least the points neither answer is 'spent'
 not-spent : (s : Source) (q : Ran) → RunFrom s q → EnoughBudget s → ¬ (q.verdict ≡ verdict.OutOfBudget)
 not-spent s q r n e =
-    let d = (calls-hold-from.opening s r.fine r.opened r.opens q r.runs).decides n in
+    let d = (calls-from s r.fine r.opened r.opens q r.runs).decides n in
     let z = (d.else-first (λ h. impossible (cc))).0 in
     impossible (cc)
 

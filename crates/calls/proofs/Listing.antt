@@ -327,5 +327,9 @@ module _ (p : Problem) (s : Search) (m : model.Search) (start : view s ≡ m) (z
 pub listings-hold-from : ListingsHoldFrom
 listings-hold-from =
     record {
-      opening = λ s a o h. let p = problem_from s in let f = fine-source s a in listing-of p o.state (open_problem p) (fresh s a o h).start (listings-of-problems.lists p f) (place.listed p f);
+      opening = λ s a o h.
+          let p = problem_from s in
+          let f = fine-source s a in
+          let x = fresh s a o h in
+          record { state = x.state; accepted = x.done; listing = listing-of p x.state (open_problem p) x.start (listings-of-problems.lists p f) (place.listed p f) };
     }

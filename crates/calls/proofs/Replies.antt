@@ -1,7 +1,7 @@
 -- N4, of one call: what it says is the model's reply, and what a list shows of it.
 use Prim.Native.Nat.{ℕ, zero, suc, ◌+◌, ◌/◌}
 use native.Mathlib.Omega.{arith}
-use mathlib.Core.Bool.{Bool, true, false, cond}
+use mathlib.Core.Bool.{Bool, true, false}
 use mathlib.Core.List.{List, [], ◌++◌, map, map-append}
 use mathlib.Core.Logic.{inl, inr}
 use mathlib.Core.Option.{none}

@@ -1,6 +1,6 @@
 -- Demand 3 of whoever calls `open` on an accepted file, or `open_problem` on an acceptable problem, and then `step`, `trace` and `run` in any mixture, each on the
 -- state that the call before returned.
-use Rattle.std.specs.Prelude.{ℕ, zero, suc, ◌+◌, ◌-◌, ◌*◌, ◌/◌, ◌≤◌, ◌<◌, cond, List, [], ◌∷◌, ◌++◌, ◌⊎◌, ◌↔◌, ◌≡◌, length, take, drop}
+use Rattle.std.specs.Prelude.{ℕ, zero, suc, ◌+◌, ◌-◌, ◌*◌, ◌/◌, ◌≤◌, ◌<◌, cond, List, [], ◌∷◌, ◌++◌, ◌⊎◌, ◌↔◌, ◌≡◌, Result, Ok, length, take, drop}
 use Rattle.model_files.specs.Bytes.{block_length}
 use Rattle.model_problems.specs.Problem as model
 use Rattle.model_problems.specs.Problem.{variables}
@@ -12,13 +12,12 @@ use Rattle.model_problems.specs.Points.{Point, points, Solution, First}
 use Rattle.model_acceptance.specs.Acceptable.{Acceptable, open_given}
 use Rattle.model_claims.specs.Demand.{Accepted, SameSolutions, MeetsCuts, with_budget}
 use Rattle.fields.specs.Fields.{room, zeros}
-use Rattle.problem.specs.declared.Answer.TheVariants.{Done}
+use Rattle.problem.specs.declared.Refusal.{Refusal}
 use Rattle.problem.specs.declared.Problem.{Problem}
 use Rattle.problem.specs.View.{problem_of}
 use Rattle.state.specs.declared.Search.{Search}
-use Rattle.shown.specs.Opening.{seen_opened, opening}
+use Rattle.shown.specs.Opening.{seen_opened}
 use Rattle.shown.specs.Seen.{seen_stepped, seen_ran, seen_traced, step_seen, run_seen, trace_seen}
-use Rattle.shown.specs.declared.Opened.{Opened}
 use Rattle.shown.specs.declared.Stepped.{Stepped}
 use Rattle.answers.specs.declared.Ran.{Ran}
 use Rattle.answers.specs.declared.Traced.{Traced}
@@ -40,9 +39,9 @@ Fine (file f) = Accepted f
 Fine (value p) = Acceptable (problem_of p)
 
 -- ---- the calls: what their contracts say of an answer
-abbrev pub OpensFrom : Source → Opened → Type 0
-OpensFrom (file f) o = seen_opened o ≡ opening (open_file f)
-OpensFrom (value p) o = seen_opened o ≡ opening (open_given (problem_of p))
+abbrev pub OpensFrom : Source → Result Search Refusal → Type 0
+OpensFrom (file f) o = seen_opened o ≡ open_file f
+OpensFrom (value p) o = seen_opened o ≡ open_given (problem_of p)
 
 -- a call on a search with its answer; of a trace the buffer's bytes too, before and after
 pub data Call : Type 0 where
@@ -149,25 +148,30 @@ pub record Decided (p : model.Problem) (q : Ran) : Type 0 where
   pub none-iff : (q.verdict ≡ verdict.NoSolution) ↔ ((x : Point) → Solution p x → ⊥)
   pub else-first : ¬ (q.verdict ≡ verdict.NoSolution) → (q.verdict ≡ verdict.Solution) × (x : Point) × (q.values ≡ x ++ zeros (room - length x)) × First p x
 
--- of all lists of calls from one opening of p, and the run q from there
-pub record OpeningFrom (p : model.Problem) (o : Opened) (q : Ran) : Type 0 where
-  pub accepted : o.answer ≡ Done
+-- of all lists of calls from the state s of one opening of p, and the run q from there
+pub record CallsFrom (p : model.Problem) (s : Search) (q : Ran) : Type 0 where
   pub last : ℕ
   pub blocks : List (List ℕ)
   pub whole : length blocks ≡ q.count
-  pub call : (cs : List Call) (c : Call) → ListFrom o.state cs → Makes (state_in o.state cs) c → CallAfter p q last blocks cs c
+  pub call : (cs : List Call) (c : Call) → ListFrom s cs → Makes (state_in s cs) c → CallAfter p q last blocks cs c
   -- the run ends with a verdict
   pub ended : ¬ (q.verdict ≡ verdict.GoOn) × ¬ (q.verdict ≡ verdict.Invalid)
   -- with a budget of at least the points it decides; under every budget it decides or says 'spent'
   pub decides : points p ≤ p.budget → Decided p q
   pub or-spent : Decided p q ⊎ (q.verdict ≡ verdict.OutOfBudget)
 
+-- of one opening of p: it is not refused
+pub record OpeningFrom (p : model.Problem) (o : Result Search Refusal) : Type 0 where
+  pub state : Search
+  pub accepted : o ≡ Ok state
+  pub calls : (q : Ran) → Makes state (ran q) → CallsFrom p state q
+
 -- a run after an opening
 pub record RunFrom (s : Source) (q : Ran) : Type 0 where
   pub fine : Fine s
-  pub opened : Opened
-  pub opens : OpensFrom s opened
-  pub runs : Makes opened.state (ran q)
+  pub opened : Search
+  pub opens : OpensFrom s (Ok opened)
+  pub runs : Makes opened (ran q)
 
 -- of one and the same problem under two budgets
 abbrev pub UnderBudget : Source → Source → Type 0
@@ -177,7 +181,7 @@ abbrev pub EnoughBudget : Source → Type 0
 EnoughBudget s = points (problem_from s) ≤ (problem_from s).budget
 
 pub record CallsHoldFrom : Type 0 where
-  pub opening : (s : Source) → Fine s → (o : Opened) → OpensFrom s o → (q : Ran) → Makes o.state (ran q) → OpeningFrom (problem_from s) o q
+  pub opening : (s : Source) → Fine s → (o : Result Search Refusal) → OpensFrom s o → OpeningFrom (problem_from s) o
   -- a smaller budget: the same answer, or 'spent', whatever the number of points
   pub smaller : (s t : Source) (q u : Ran) → RunFrom s q → RunFrom t u → UnderBudget s t → (problem_from t).budget ≤ (problem_from s).budget →
       SameAnswer u q ⊎ (u.verdict ≡ verdict.OutOfBudget)

@@ -1,5 +1,5 @@
 -- N4 of whoever calls `open` on an accepted file, and then `step`, `trace`, `run`, `exclude` and `list` in any order, each on the state that the call before returned.
-use Rattle.std.specs.Prelude.{ℕ, zero, suc, ◌+◌, ◌-◌, ◌*◌, ◌/◌, ◌≤◌, ◌<◌, Bool, true, false, cond, List, [], ◌∷◌, ◌++◌, map, ◌⊎◌, ◌↔◌, ◌≡◌, ℤ, length, take, drop}
+use Rattle.std.specs.Prelude.{ℕ, zero, suc, ◌+◌, ◌-◌, ◌*◌, ◌/◌, ◌≤◌, ◌<◌, Bool, true, false, cond, List, [], ◌∷◌, ◌++◌, map, ◌⊎◌, ◌↔◌, ◌≡◌, Result, Ok, ℤ, length, take, drop}
 use Rattle.std.proofs.Math.Option.{some}
 use Rattle.std.proofs.Math.ListN.{get_elem?}
 use Rattle.model_files.specs.Bytes.{block_length}
@@ -18,7 +18,7 @@ use Rattle.state.specs.View.{view}
 use Rattle.state.specs.declared.Search.{Search}
 use Rattle.shown.specs.Excluding.{seen_excluded, exclude_seen}
 use Rattle.shown.specs.Listing.{seen_listed, list_seen}
-use Rattle.shown.specs.declared.Opened.{Opened}
+use Rattle.problem.specs.declared.Refusal.{Refusal}
 use Rattle.answers.specs.declared.Ran.{Ran}
 use Rattle.shown.specs.declared.Excluded.{Excluded}
 use Rattle.shown.specs.declared.Exclusion.{Exclusion}
@@ -271,12 +271,18 @@ pub record StrikeAfter (p : Problem) (x : Search) (acts : List Action) (e : Excl
   pub no-form : Within x → stands acts ≡ false → e.answer ≡ exclusion.Unsolved
   pub complete : e.answer ≡ exclusion.Ended → shown (excluded e ∷ acts) ≡ map padded (all_solutions p)
 
--- of all lists of calls from one opening
+-- of all lists of calls from the state of one opening
 pub record ListingOf (p : Problem) (s : Search) : Type 0 where
   pub lists : (acts : List Action) → DoneFrom s acts → Lists p s acts
   pub turn : (acts : List Action) (c : Call) → DoneFrom s (called c ∷ acts) → TurnAfter p (state_after s acts) acts (called c) (told c)
   pub strike : (acts : List Action) (e : Excluded) → DoneFrom s (excluded e ∷ acts) → StrikeAfter p (state_after s acts) acts e
   pub list : (acts : List Action) (old new : List ℤ) (r : Listed) → DoneFrom s (listed old new r ∷ acts) → ListAfter p (state_after s acts) acts old new r
 
+-- of one opening: it is not refused
+pub record ListingFrom (p : Problem) (o : Result Search Refusal) : Type 0 where
+  pub state : Search
+  pub accepted : o ≡ Ok state
+  pub listing : ListingOf p state
+
 pub record ListingsHoldFrom : Type 0 where
-  pub opening : (s : Source) → Fine s → (o : Opened) → OpensFrom s o → ListingOf (problem_from s) o.state
+  pub opening : (s : Source) → Fine s → (o : Result Search Refusal) → OpensFrom s o → ListingFrom (problem_from s) o

@@ -1,8 +1,10 @@
 -- Results and document 01's numbers: a reading shows the number of the file's first error, and 0 is that of no refusal.
 use Prim.Native.Nat.{ℕ, zero, suc}
 use native.Mathlib.Omega.{arith}
-use mathlib.Core.Path.{◌≡◌, refl}
-use mathlib.Core.List.{List}
+use mathlib.Core.Bool.{cond}
+use lib.Dec.{eqb}
+use mathlib.Core.Path.{◌≡◌, refl, sym, ap, ◌∙◌}
+use mathlib.Core.List.{List, [], ◌∷◌}
 use Rattle.std.specs.Prelude.{Result, Ok, Err}
 use Rattle.model_files.specs.File.{problem_in, read_error, read_file}
 use Rattle.model_problems.specs.Problem as model
@@ -26,6 +28,31 @@ numbered ShortBuffer h = omega arith
 numbered InvalidSearch h = omega arith
 numbered DivisorRange h = omega arith
 numbered ThresholdRange h = omega arith
+
+-- no two have one number
+names : ℕ → List Refusal → Refusal
+names k [] = Truncated
+names k (e ∷ es) = cond (eqb (number e) k) e (names k es)
+
+named : ℕ → Refusal
+named k = names k (Truncated ∷ BadChecksum ∷ BadMagic ∷ SizeRange ∷ DomainRange ∷ CoefficientRange ∷ NonzeroPadding ∷ ShortBuffer ∷ InvalidSearch ∷ DivisorRange ∷ ThresholdRange ∷ [])
+
+named-number : (e : Refusal) → named (number e) ≡ e
+unfolding number named names
+named-number Truncated = refl
+named-number BadChecksum = refl
+named-number BadMagic = refl
+named-number SizeRange = refl
+named-number DomainRange = refl
+named-number CoefficientRange = refl
+named-number NonzeroPadding = refl
+named-number ShortBuffer = refl
+named-number InvalidSearch = refl
+named-number DivisorRange = refl
+named-number ThresholdRange = refl
+
+pub same-refusal : (d e : Refusal) → number d ≡ number e → d ≡ e
+same-refusal d e h = sym (named-number d) ∙ ap named h ∙ named-number e
 
 -- where the number is 0 nothing is refused
 pub taken : {A : Type 0} (r : Result A Refusal) → number_of r ≡ 0 → (x : A) × (r ≡ Ok x)
