@@ -25,14 +25,14 @@ use Rattle.model_walk.specs.Listing.{Listing, ends_with, list_from, room_at, lis
 use Rattle.model_problems.specs.Ranges.{max_propagations}
 use Rattle.model_walk.specs.Validity.{valid, within_limit, admitted}
 use Rattle.layout.specs.Rows.{number_in}
-use Rattle.lists.proofs.Bools.{T_of, and-true}
+use Rattle.lists.proofs.Bools.{T_of, said-yes, and-true}
 use Rattle.lists.proofs.Tab.{length-tab}
 use Rattle.fields.specs.Fields.{zeros, filled}
 use Rattle.state.specs.View.{no_level, level_at, core_over, core_of, status_of, view}
 use Rattle.state.specs.declared.Search.{Search}
 use Rattle.state.proofs.Shape.{view-shaped}
 use Rattle.validity.specs.Valid.{Valid}
-use Rattle.propagate.proofs.States.{sizes}
+use Rattle.propagate.proofs.States.{SizesFit, sizes}
 use Rattle.turns.proofs.Striking.{lowers-are}
 use Rattle.turns.specs.Advancing.{verdict_of as model_verdict_of, trace_of, advance_over, Advances}
 use Rattle.turns.specs.declared.Ending.{Ending}
@@ -47,16 +47,19 @@ use Rattle.shown.specs.Listing.{SeenListing, seen_list, seen_listed, shown_list,
 use Rattle.answers.proofs.Proceeding.{room-none, trace-alone}
 use Rattle.shown.proofs.Listing.{without_blocks, Lists, lists-same}
 
--- ---- a state that passed the test
-module _ (s : Search) (e : admitted (view s) ≡ true) where
-  parts : (valid (view s) ≡ true) × (within_limit (view s) ≡ true)
-  parts = and-true (valid (view s)) (within_limit (view s)) (unfold admitted in e)
+-- ---- a state that passed the test, as the code's `if` tells it
+pub record Takes (s : Search) : Type 0 where
+  pub admits : admitted (view s) ≡ true
+  pub valid : Valid (view s)
+  pub few : s.propagations ≤ max_propagations
+  pub sized : SizesFit s
 
-  pub valid-view : Valid (view s)
-  valid-view = record { shape = unfold view in view-shaped s; tests = T_of parts.0 }
-
-  pub few-view : s.propagations ≤ max_propagations
-  few-view = leb-true s.propagations max_propagations (unfold within_limit view in parts.1)
+pub takes : {s : Search} {r : Bool} → r ≡ admitted (view s) → r ≡ true → Takes s
+takes {s} e h =
+    let a = said-yes e h in
+    let parts = and-true (valid (view s)) (within_limit (view s)) (unfold admitted in a) in
+    let v : Valid (view s) = record { shape = unfold view in view-shaped s; tests = T_of parts.0 } in
+    record { admits = a; valid = v; few = leb-true s.propagations max_propagations (unfold within_limit view in parts.1); sized = sizes s v }
 
 -- ---- the values of a solution
 view-lowers : (s : Search) → lowers (view s).core.deepest.box ≡ tab (number_in (get_or s.levels s.depth no_level).lower) 0 s.n
@@ -158,7 +161,7 @@ step-by s false h t block e = absurd (let q = ap (λ (y : SeenTraced). y.answer)
 pub step-given : (s : Search) (t : Traced) (block : List ℕ) → seen_traced (Ok t) block ≡ trace_seen s no_block →
     seen_stepped (Ok (record { run = t.run; block = then_some (eqb t.blocks 1) block })) ≡ step_seen s
 unfolding trace_seen trace_call step_seen step_call
-step-given s t block e = step-by s (admitted (view s)) (λ a. (sizes s (valid-view s a)).afford) t block e
+step-given s t block e = step-by s (admitted (view s)) (λ a. (takes {s = s} {r = true} (sym a) refl).sized.afford) t block e
 
 refused-by : (s : Search) (b : Bool) (x : Refusal) (block : List ℕ) → seen_traced (Err x) block ≡ traced-seen b s → seen_stepped (Err x) ≡ shown_by shown_turn (checked b (step (view s)))
 unfolding seen_traced seen_by seen_stepped traced_by shown_by checked written
@@ -174,7 +177,7 @@ module _ (s : Search) (a : Advanced) (room : ℕ) (old now : List ℕ) (list lis
   lists : Lists (record { struck = h.struck; last = trace_of a h.blocks }) (list_from room (view s))
   lists =
       subst (λ (l : Listing Trace). Lists l (list_from room (view s))) (sym (h.trace ∙ ap (λ (k : ℕ). advance_over room k (view s)) (add-one (s.budget - s.conflicts))))
-      (unfold view in lists-same room (view s) (valid-view s v))
+      (unfold view in lists-same room (view s) (takes {s = s} {r = true} (sym v) refl).valid)
 
   ran-shown : seen (answered a) ≡ shown (list_from room (view s)).last
   unfolding shown_trace shown last_step without_blocks
