@@ -25,7 +25,7 @@ pub record RunOf (f : List ℕ) (q : Ran) : Type 0 where
   pub fine : Accepted f
   pub opened : Search
   pub opens : Opens f (Ok opened)
-  pub runs : Makes opened (ran q)
+  pub runs : Makes opened (ran (Ok q))
 
 pub record CallsHold : Type 0 where
   pub opening : (f : List ℕ) → Accepted f → (o : Result Search Refusal) → Opens f o → Opening f o

@@ -1,14 +1,14 @@
 -- What the answers show is document 01's.
 use Prim.Native.Nat.{ℕ, ◌+◌, ◌*◌, ◌-◌, ◌/◌, ◌≤◌}
 use native.Mathlib.Numerals.{add-one}
-use mathlib.Core.Bool.{Bool, true, false, cond}
+use mathlib.Core.Bool.{Bool, true, false}
 use mathlib.Core.List.{List, [], ◌++◌, append-nil}
 use mathlib.Core.Option.{Option, none, some}
 use mathlib.Core.Path.{◌≡◌, refl, sym, ap, subst, ◌∙◌}
 use borrow.Author.Tests.{leb-true}
 use lib.Dec.{eqb}
 use lib.IntN.{ℤ}
-use lib.ListN.{get_or, length, take, drop, replicate}
+use lib.ListN.{get_or, length, drop, replicate}
 use lib.Seq.{take_at}
 use Rattle.model_files.specs.Bytes.{block_length}
 use Rattle.model_problems.specs.Lists.{tab}
@@ -40,7 +40,7 @@ use Rattle.turns.specs.declared.Ending.TheVariants as ending
 use Rattle.turns.specs.declared.Advanced.{Advanced}
 use Rattle.validity.proofs.Repeating.{advance-one}
 use Rattle.answers.specs.declared.Traced.{Traced}
-use Rattle.shown.specs.Seen.{verdict_of, padded, case_of, Seen, seen, shown, seen_ran, run_seen, SeenTurn, block_of, seen_turn, shown_turn, seen_stepped, step_seen, SeenTrace, SeenTraced, seen_trace, shown_trace, seen_traced, trace_seen}
+use Rattle.shown.specs.Seen.{verdict_of, padded, case_of, Seen, seen, shown, seen_ran, run_seen, block_of, seen_turn, shown_turn, seen_stepped, step_seen, SeenTrace, SeenTraced, seen_trace, shown_trace, seen_traced, trace_seen}
 use Rattle.answers.specs.Answered.{answered}
 use Rattle.answers.specs.Answered.{case_of as case_at}
 use Rattle.shown.specs.Listing.{SeenListing, seen_list, seen_listed, shown_list, list_seen}

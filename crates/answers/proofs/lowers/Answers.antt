@@ -1,6 +1,5 @@
 -- `answers::lowers` meets its contract. Assumes nothing.
 use borrow.Author.Rules.{rules}
-use native.Mathlib.Omega.{arith}
 use Rattle.fields.specs.Fields.{zeros}
 use Rattle.answers.proofs.Answering.{copied}
 use Rattle.answers.proofs.lowers.Goals as goal
