@@ -16,6 +16,8 @@ use Rattle.model_walk.specs.Step.{Verdict as ModelVerdict, out_of_budget, soluti
 use Rattle.model_acceptance.specs.Acceptable.{Acceptable}
 use Rattle.model_claims.specs.Demand.{state_after, journal, verdict_with, Decides, Agree, SameSolutions, Steps}
 use Rattle.problem.specs.declared.Refusal.{Refusal}
+use Rattle.problem.specs.Answer.{seen_by}
+use Rattle.problem.proofs.Numbers.{taken-by}
 use Rattle.problem.specs.View.{problem_of}
 use Rattle.lists.proofs.Bools.{lt-or-le}
 use Rattle.state.specs.View.{view}
@@ -38,8 +40,7 @@ pub record Fresh (o : Result Search Refusal) (m : model.Search) : Type 0 where
 
 pub opened-as : (o : Result Search Refusal) (m : model.Search) → seen_opened o ≡ ok m → Fresh o m
 unfolding seen_opened
-opened-as (Ok s) m e = record { state = s; done = refl; start = cc }
-opened-as (Err d) m e = impossible (cc)
+opened-as o m e = let x = taken-by view o m e in record { state = x.0; done = x.1; start = x.2 }
 
 -- the problem that a search starts from is acceptable
 pub fine-source : (s : Source) → Fine s → Acceptable (problem_from s)
@@ -57,7 +58,7 @@ pub fresh : (s : Source) → Fine s → (o : Result Search Refusal) → OpensFro
 fresh s a o e = opened-as o (open_problem (problem_from s)) (opens-source s a o e)
 
 pub start-of : (s : Source) → Fine s → (x : Search) → OpensFrom s (Ok x) → view x ≡ open_problem (problem_from s)
-unfolding seen_opened
+unfolding seen_opened seen_by
 start-of s a x e = let h = opens-source s a (Ok x) e in cc
 
 -- ---- 'none' exactly when there is no solution, else the first

@@ -38,7 +38,8 @@ use Rattle.answers.specs.declared.Verdict.TheVariants as said
 use Rattle.calls.specs.Calls.{mapped, state_or, parts_at}
 use Rattle.calls.specs.Listing as own
 use Rattle.calls.specs.Listing.{Action, listed, Does, last_run, struck_of, state_of, given_by, rows_of, set_in_runs, TurnAfter, ListAfter}
-use Rattle.calls.proofs.Shown.{case-plain, case-solution, taken-by, refused-by, Tells, tells}
+use Rattle.problem.proofs.Numbers.{taken-by}
+use Rattle.calls.proofs.Shown.{case-plain, case-solution, invalid-by, Tells, tells}
 use Rattle.calls.proofs.Lists.{parts-back}
 use Rattle.calls.proofs.Replies.{ActionTells, RunSays, says-trace, says-refused}
 use Rattle.calls.proofs.Tallies.{runs-set}
@@ -97,7 +98,7 @@ module _ (p : Problem) (m : model.Search) (z : Enumerates p m) (y : (cs : List C
     unfolding rounds answered_by joined state_of given_by last_run mapped seen_listed list_seen list_call set_in set_by struck_of shown_by
     tells-refused h =
         let f : seen_listed r new ≡ record { answer = error 9; numbers = old } = e ∙ (unfold listed_by in rw (w, h) refl) in
-        let is = refused-by seen_list r (ap (λ (s : SeenListing). s.answer) f) in
+        let is = invalid-by seen_list r (ap (λ (s : SeenListing). s.answer) f) in
         let last : last_run r ≡ Err InvalidSearch = ap last_run is in
         let y = subst (λ (z : model.Search). RunSays x (last_run r) (answered_by false all_turns z)) w (says-refused x (last_run r) all_turns last) in
         let o : variables p * 0 ≡ 0 = omega arith in

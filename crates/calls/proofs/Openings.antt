@@ -20,7 +20,7 @@ use Rattle.format.proofs.WrittenIsRead.{written-is-read}
 use Rattle.problem.specs.declared.Problem.{Problem}
 use Rattle.problem.specs.declared.Refusal.{Refusal}
 use Rattle.problem.specs.declared.Refusal.TheVariants.{SizeRange}
-use Rattle.problem.specs.Answer.{number, number_of, written}
+use Rattle.problem.specs.Answer.{number, number_of, seen_by, written}
 use Rattle.problem.specs.View.{problem_of, seen_read, reading_of}
 use Rattle.problem.proofs.Numbers.{numbered, same-refusal, reading-number}
 use Rattle.layout.specs.Rows.{box_of}
@@ -39,7 +39,7 @@ same-search o u m e d =
     record { opened = x.state; again = y.state; first = x.done; second = y.done; state = x.start ∙ sym y.start }
 
 numbered-by : (o : Result Search Refusal) (k : ℕ) (p : model.Problem) → seen_opened o ≡ opened_by (result_of k p) → number_of o ≡ k
-unfolding seen_opened result_of opened_by number_of
+unfolding seen_opened seen_by result_of opened_by number_of
 numbered-by (Ok s) zero p e = refl
 numbered-by (Err d) zero p e = impossible (cc)
 numbered-by (Ok s) (suc k) p e = impossible (cc)

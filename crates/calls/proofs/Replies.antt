@@ -37,7 +37,8 @@ use Rattle.answers.specs.declared.Traced.{Traced}
 use Rattle.calls.specs.Calls.{Call, stepped, traced as tracing, ran, Makes, mapped, told, state_or, parts_at, given}
 use Rattle.calls.specs.Listing as own
 use Rattle.calls.specs.Listing.{Action, called, listed, last_run, struck_of, state_of, given_by, solution_in, solutions_in, rows_of, shown_by, stands_at, stands_with, stands_behind, stands_past, stands_after, strikes_in, strikes_by}
-use Rattle.calls.proofs.Shown.{taken-by, refused-by, Shows, run-tells, trace-tells, step-tells}
+use Rattle.problem.proofs.Numbers.{taken-by}
+use Rattle.calls.proofs.Shown.{invalid-by, Shows, run-tells, trace-tells, step-tells}
 use Rattle.calls.proofs.Lists.{parts-back}
 
 -- ---- the model's call; a listing ends with a run
@@ -179,22 +180,22 @@ module _ (s : Search) (m : model.Search) (v : view s ≡ m) where
     call-refused : (c : Call) → Makes s c → ActionTells s (called c) (answered_by false (asked (called c)) m)
     unfolding told mapped given state_of given_by seen_stepped seen_ran seen_traced step_seen run_seen trace_seen step_call run_call trace_call traced_by shows_by answered_by asked
     call-refused (stepped r) e =
-        let x = refused-by seen_turn r (e ∙ rw (v, no-checked (step m))) in
+        let x = invalid-by seen_turn r (e ∙ rw (v, no-checked (step m))) in
         let y = refused-as (told (stepped r)) one_turn (ap (mapped (λ (z : Stepped). z.run)) x) in
         record { replies = y.replies; counts = y.counts; state = y.state; blocks = ap (λ (z : Result Stepped Refusal). given (stepped z)) x }
     call-refused (ran q) e =
-        let y = refused-as q all_turns (refused-by seen q (e ∙ rw (v, no-checked (run m)))) in
+        let y = refused-as q all_turns (invalid-by seen q (e ∙ rw (v, no-checked (run m)))) in
         record { replies = y.replies; counts = y.counts; state = y.state; blocks = refl }
     call-refused (tracing old new r) e =
         let f : seen_traced r new ≡ record { answer = error 9; buffer = old } = e ∙ rw (v, t) refl in
-        let x = refused-by seen_trace r (ap (λ (z : SeenTraced). z.answer) f) in
+        let x = invalid-by seen_trace r (ap (λ (z : SeenTraced). z.answer) f) in
         let y = refused-as (told (tracing old new r)) (turns (length old / block_length)) (ap (mapped (λ (z : Traced). z.run)) x) in
         record { replies = y.replies; counts = y.counts; state = y.state; blocks = ap (λ (z : Result Traced Refusal). given (tracing old new z)) x }
 
     strike-refused : (e : Result Excluded Refusal) → seen_excluded e ≡ exclude_seen s → ActionTells s (own.excluded e) (answered_by false strike m)
     unfolding answered_by state_of given_by seen_excluded exclude_seen exclude_call shows_by
     strike-refused e h =
-        let x = refused-by seen_exclusion e (h ∙ rw (v, no-checked (exclude m))) in
+        let x = invalid-by seen_exclusion e (h ∙ rw (v, no-checked (exclude m))) in
         rw x (record { replies = refl; counts = tt; state = v; blocks = refl })
 
   -- either way it tells the model's answer

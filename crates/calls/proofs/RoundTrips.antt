@@ -25,9 +25,9 @@ use Rattle.layout.proofs.Rows.{length-box}
 use Rattle.layout.specs.Rows.{row_length, number_in, cell, divided_at, input_at, thresholds_of}
 use Rattle.problem.specs.declared.Problem.{Problem}
 use Rattle.problem.specs.declared.Refusal.{Refusal}
-use Rattle.problem.specs.Answer.{number_of, written}
+use Rattle.problem.specs.Answer.{number_of, seen_by, shown_by, written}
 use Rattle.problem.specs.View.{problem_of, packed, seen_read, reading_of}
-use Rattle.problem.proofs.Numbers.{taken, reading-number}
+use Rattle.problem.proofs.Numbers.{taken, taken-by, reading-number}
 use Rattle.problem.proofs.Views.{view-of-packed, view-of-accepted}
 use Rattle.calls.specs.RoundTrips.{RoundTrips}
 
@@ -38,7 +38,7 @@ module _ (f : List ℕ) (p : Problem) (reads : seen_read (Ok p) ≡ reading_of (
   no-error = sym (reading-number f (Ok p) reads)
 
   pub problem-read : problem_of p ≡ problem_in f
-  unfolding read_file seen_read reading_of
+  unfolding read_file seen_read seen_by reading_of shown_by
   problem-read =
       let e : ok p ≡ ok (packed (problem_in f)) = reads ∙ ap reading_of (result_ok (problem_in f) no-error) in
       let q : p ≡ packed (problem_in f) = cc in
@@ -86,15 +86,11 @@ module _ (p : Problem) (b s : List ℕ) (writes : written (Ok tt) s ≡ write_fi
       ap (take (file_length (problem_of p))) bytes-are ∙
       take_at (file_of (problem_of p)) (drop (file_length (problem_of p)) b) (file_length (problem_of p)) (length-written (problem_of p) (length b) writes-no-error)
 
-  reads-ok : (r : Result Problem Refusal) (q : Problem) → seen_read r ≡ ok q → r ≡ Ok q
-  unfolding seen_read
-  reads-ok (Ok x) q e = cc
-  reads-ok (Err x) q e = absurd (cc)
-
   problem-written-then-read : (r : Result Problem Refusal) → seen_read r ≡ reading_of (read_file (take (file_length (problem_of p)) s)) → r ≡ Ok (packed (problem_of p))
-  unfolding reading_of
+  unfolding seen_read reading_of shown_by
   problem-written-then-read r e =
-      reads-ok r (packed (problem_of p)) (e ∙ rw file-is (ap reading_of (written-is-read (problem_of p) (length b) (inputs-shaped p) writes-no-error)))
+      let x = taken-by (λ (q : Problem). q) r (packed (problem_of p)) (e ∙ rw file-is (ap reading_of (written-is-read (problem_of p) (length b) (inputs-shaped p) writes-no-error))) in
+      x.1 ∙ ap (λ (q : Problem). Ok q) x.2
 
   -- and those arrays say what the problem's said
   view-of-written : problem_of (packed (problem_of p)) ≡ problem_of p

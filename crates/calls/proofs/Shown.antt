@@ -14,7 +14,7 @@ use Rattle.model_walk.specs.Trace.{Trace, written, trace_call}
 use Rattle.problem.specs.declared.Refusal.{Refusal}
 use Rattle.problem.specs.declared.Refusal.TheVariants.{InvalidSearch}
 use Rattle.problem.specs.Answer.{number, seen_by, shown_by}
-use Rattle.problem.proofs.Numbers.{same-refusal}
+use Rattle.problem.proofs.Numbers.{taken-by, refused-by}
 use Rattle.state.specs.View.{view}
 use Rattle.state.specs.declared.Search.{Search}
 use Rattle.validity.proofs.Steps.{impossible}
@@ -54,18 +54,10 @@ case-solution no_solution values e = impossible (cc)
 case-solution out_of_budget values e = impossible (cc)
 case-solution (solution x) values e = (x, refl, cc)
 
--- ---- a result, by document 01's answer
-pub taken-by : {A B : Type 0} (f : A → B) (r : Result A Refusal) (y : B) → seen_by f r ≡ ok y → (x : A) × (r ≡ Ok x) × (f x ≡ y)
-unfolding seen_by
-taken-by f (Ok x) y h = (x, refl, cc)
-taken-by f (Err e) y h = impossible (cc)
-
-pub refused-by : {A B : Type 0} (f : A → B) (r : Result A Refusal) → seen_by f r ≡ error 9 → r ≡ Err InvalidSearch
-unfolding seen_by
-refused-by f (Ok x) h = impossible (cc)
-refused-by f (Err e) h =
-    let n : number e ≡ 9 = cc in
-    ap (λ (x : Refusal). Err x) (same-refusal e InvalidSearch (n ∙ (unfold number in refl)))
+-- ---- a result that is refused with 9
+pub invalid-by : {A B : Type 0} (f : A → B) (r : Result A Refusal) → seen_by f r ≡ error 9 → r ≡ Err InvalidSearch
+unfolding number
+invalid-by f r h = refused-by f r InvalidSearch h
 
 -- ---- what a run's answer tells
 pub record Shows (r : Ran) (x : Seen) : Type 0 where

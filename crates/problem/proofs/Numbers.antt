@@ -12,7 +12,7 @@ use Rattle.model_problems.specs.Problem.{ok, error, result_of}
 use Rattle.problem.specs.declared.Refusal.{Refusal}
 use Rattle.problem.specs.declared.Refusal.TheVariants.{Truncated, BadChecksum, BadMagic, SizeRange, DomainRange, CoefficientRange, NonzeroPadding, ShortBuffer, InvalidSearch, DivisorRange, ThresholdRange}
 use Rattle.problem.specs.declared.Problem.{Problem}
-use Rattle.problem.specs.Answer.{number, number_of}
+use Rattle.problem.specs.Answer.{number, number_of, seen_by, shown_by}
 use Rattle.problem.specs.View.{seen_read, reading_of}
 
 pub numbered : (e : Refusal) → ¬ (number e ≡ 0)
@@ -60,9 +60,20 @@ unfolding number_of
 taken (Ok x) h = (x, refl)
 taken (Err e) h = absurd (numbered e h)
 
+-- ---- a result, by document 01's answer
+pub taken-by : {A B : Type 0} (f : A → B) (r : Result A Refusal) (y : B) → seen_by f r ≡ ok y → (x : A) × (r ≡ Ok x) × (f x ≡ y)
+unfolding seen_by
+taken-by f (Ok x) y h = (x, refl, cc)
+taken-by f (Err e) y h = absurd (cc)
+
+pub refused-by : {A B : Type 0} (f : A → B) (r : Result A Refusal) (e : Refusal) → seen_by f r ≡ error (number e) → r ≡ Err e
+unfolding seen_by
+refused-by f (Ok x) e h = absurd (cc)
+refused-by f (Err d) e h = let n : number d ≡ number e = cc in ap (λ (x : Refusal). Err x) (same-refusal d e n)
+
 -- the number of a result that shows what reading shows
 number_by : (p : model.Problem) (k : ℕ) (r : Result Problem Refusal) → seen_read r ≡ reading_of (result_of k p) → number_of r ≡ k
-unfolding seen_read reading_of result_of number_of
+unfolding seen_read seen_by reading_of shown_by result_of number_of
 number_by p zero (Ok q) h = refl
 number_by p zero (Err e) h = absurd (cc)
 number_by p (suc k) (Ok q) h = absurd (cc)

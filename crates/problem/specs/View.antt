@@ -1,16 +1,16 @@
 -- What the arrays of a problem say, and the arrays of a problem: the code's `Problem` beside the model's.
-use Rattle.std.specs.Prelude.{ℕ, ◌/◌, ◌%◌, List, ℤ, get_or, length, Result, Ok, Err}
+use Rattle.std.specs.Prelude.{ℕ, ◌/◌, ◌%◌, List, ℤ, get_or, length, Result}
 use Rattle.model_problems.specs.Constraint.{Constraint, lower_at, upper_at}
 use Rattle.model_problems.specs.Threshold.{threshold_at}
 use Rattle.model_files.specs.File.{no_constraint}
 use Rattle.model_problems.specs.Lists.{tab}
 use Rattle.model_problems.specs.Problem as model
-use Rattle.model_problems.specs.Problem.{variables, ok, error}
+use Rattle.model_problems.specs.Problem.{variables}
 use Rattle.layout.specs.Rows.{row_length, input_at, box_of, thresholds_of}
 use Rattle.fields.specs.Fields.{room, cells, divisor_room, in_row}
 use Rattle.problem.specs.declared.Problem.{Problem}
 use Rattle.problem.specs.declared.Refusal.{Refusal}
-use Rattle.problem.specs.Answer.{number}
+use Rattle.problem.specs.Answer.{seen_by, shown_by}
 
 -- What a problem's arrays say. Its n and m stay visible as lengths, whatever they are.
 unfoldable pub problem_of : Problem → model.Problem
@@ -44,9 +44,7 @@ packed p =
 
 -- ---- what reading shows: the problem's arrays, or the number of the refusal
 unfoldable pub seen_read : Result Problem Refusal → model.Result Problem
-seen_read (Ok p) = ok p
-seen_read (Err e) = error (number e)
+seen_read r = seen_by (λ p. p) r
 
 unfoldable pub reading_of : model.Result model.Problem → model.Result Problem
-reading_of (ok p) = ok (packed p)
-reading_of (error e) = error e
+reading_of r = shown_by packed r

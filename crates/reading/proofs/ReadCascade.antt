@@ -17,7 +17,7 @@ use Rattle.format.proofs.AcceptedShape.{Sizes, sizes, variables-in, constraints-
 use Rattle.problem.specs.declared.Refusal.{Refusal}
 use Rattle.problem.specs.declared.Refusal.TheVariants.{Truncated, BadChecksum, BadMagic, SizeRange, NonzeroPadding}
 use Rattle.problem.specs.declared.Problem.{Problem}
-use Rattle.problem.specs.Answer.{number, number_of}
+use Rattle.problem.specs.Answer.{number, number_of, seen_by, shown_by}
 use Rattle.fields.specs.Fields.{sizes_match, Blocks}
 use Rattle.problem.specs.View.{problem_of, packed, seen_read, reading_of}
 use Rattle.problem.proofs.Numbers.{numbered}
@@ -28,7 +28,7 @@ module _ (f : List ℕ) where
   Refuses e = seen_read (Err e) ≡ reading_of (read_file f)
 
   refused : (k : ℕ) (e : Refusal) → read_error f ≡ suc k → number e ≡ suc k → Refuses e
-  unfolding read_file result_of reading_of seen_read
+  unfolding read_file result_of reading_of shown_by seen_read seen_by
   refused k e h n = rw (h, n)
 
   pub truncated : (r : Bool) → r ≡ whole_blocks f → r ≡ false → Refuses Truncated
@@ -115,5 +115,5 @@ module _ (f : List ℕ) (t₄ : sizes_match f ≡ true) where
         nonzero-padding r e h = refused f 6 NonzeroPadding (error-is ∙ rw (none, said-no e h)) refl
 
         pub accepted : (r : Bool) → r ≡ padding_zero f → r ≡ true → seen_read (Ok p) ≡ reading_of (read_file f)
-        unfolding read_file result_of reading_of seen_read
+        unfolding read_file result_of reading_of shown_by seen_read seen_by
         accepted r e h = rw (ep, error-is, none, said-yes e h)

@@ -12,7 +12,7 @@ use Rattle.lists.proofs.Bools.{T_of}
 use Rattle.acceptance.proofs.Acceptance.{tested, sizes-of}
 use Rattle.problem.specs.declared.Problem.{Problem}
 use Rattle.problem.specs.declared.Refusal.{Refusal}
-use Rattle.problem.specs.Answer.{number, number_of}
+use Rattle.problem.specs.Answer.{number, number_of, seen_by, shown_by}
 use Rattle.problem.specs.View.{problem_of, packed, seen_read, reading_of}
 use Rattle.problem.proofs.Checking.{variable-count, constraint-count}
 use Rattle.problem.proofs.Numbers.{numbered}
@@ -25,17 +25,17 @@ use Rattle.shown.specs.Opening.{found, seen_opened}
 
 -- ---- what was found is refused, or opens
 pub not_opened : (e : Refusal) → seen_opened (Err e) ≡ opened_by (found (Err e))
-unfolding seen_opened opened_by found
+unfolding seen_opened seen_by opened_by found
 not_opened e = refl
 
 pub opened : (p : Problem) (s : Search) → view s ≡ open_problem (problem_of p) → seen_opened (Ok s) ≡ opened_by (found (Ok p))
-unfolding seen_opened opened_by found
+unfolding seen_opened seen_by opened_by found
 opened p s v = rw v
 
 -- ---- a file that was read
 module _ (f : List ℕ) where
   read-by : (k : ℕ) (r : Result Problem Refusal) → read_error f ≡ k → seen_read r ≡ reading_of (result_of k (problem_in f)) → found r ≡ result_of k (problem_in f)
-  unfolding seen_read reading_of result_of found
+  unfolding seen_read seen_by reading_of shown_by result_of found
   read-by zero (Ok p) z h = let q : p ≡ packed (problem_in f) = cc in ap ok (ap problem_of q ∙ view-of-accepted f z)
   read-by zero (Err e) z h = absurd (cc)
   read-by (suc k) (Ok p) z h = absurd (cc)
@@ -46,7 +46,7 @@ module _ (f : List ℕ) where
   file-opened r h = ap opened_by (read-by (read_error f) r refl h)
 
   can-open-by : (k : ℕ) (r : Result Problem Refusal) → read_error f ≡ k → seen_read r ≡ reading_of (result_of k (problem_in f)) → IfOk r Accepted
-  unfolding seen_read reading_of result_of
+  unfolding seen_read seen_by reading_of shown_by result_of
   can-open-by zero (Ok p) z h = let q : p ≡ packed (problem_in f) = cc in rw q (accepted f z)
   can-open-by zero (Err e) z h = tt
   can-open-by (suc k) (Ok p) z h = absurd (cc)
@@ -70,11 +70,11 @@ module _ (p : Problem) where
       }
 
   pub problem-opened : number_of {A = Unit {0}} (Ok tt) ≡ problem_error (problem_of p) → opened_by (found (Ok p)) ≡ open_given (problem_of p)
-  unfolding number_of open_given result_of found
+  unfolding number_of open_given result_of found seen_by
   problem-opened z = rw (← z)
 
   refused-by : (k : ℕ) (e : Refusal) → number e ≡ k → seen_opened (Err e) ≡ opened_by (result_of k (problem_of p))
-  unfolding seen_opened opened_by result_of
+  unfolding seen_opened seen_by opened_by result_of
   refused-by zero e h = absurd (numbered e h)
   refused-by (suc k) e h = rw h
 
