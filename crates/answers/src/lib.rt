@@ -7,67 +7,43 @@ ghost use Rattle.fields.specs.Fields.{filled};
 ghost use Rattle.model_walk.specs.Listing.{room_at};
 ghost use Rattle.state.specs.View.{no_level, status_of, view};
 ghost use Rattle.turns.specs.Advancing.{Advances};
-ghost use Rattle.answers.specs.Answered.{Proceeds, answered, refusal, ran_of, listed_of};
+ghost use Rattle.answers.specs.Answered.{Proceeds, answered};
 
 use engine::advance::advance;
 use state::{Level, Search, Status};
 use turns::{Advanced, Ending};
 
-// What a turn, a run or a trace answers: 'go on', 'none', 'spent', a solution, or 9 for a state that is refused.
-#[derive(Clone, Copy)]
+// What a turn, a run or a trace comes to: 'go on', 'none', 'spent', or a solution: its values, zeros past them.
+#[derive(Clone, Copy, Debug, PartialEq, Eq)]
 pub enum Verdict {
     GoOn,
     NoSolution,
     OutOfBudget,
-    Solution,
-    Invalid,
+    Solution([i64; 32]),
 }
 
 // What a run gives.
 #[derive(Clone, Copy)]
 pub struct Ran {
     pub verdict: Verdict,
-    pub values: [i64; 32],
     pub count: usize,
     pub propagations: usize,
     pub state: Search,
 }
 
-// What a trace gives: `blocks` journal blocks stand at the buffer's start.
+// What a trace gives: what a run does, and `blocks` journal blocks stand at the buffer's start.
 #[derive(Clone, Copy)]
 pub struct Traced {
-    pub verdict: Verdict,
-    pub values: [i64; 32],
-    pub count: usize,
-    pub propagations: usize,
+    pub run: Ran,
     pub blocks: usize,
-    pub state: Search,
 }
 
-// What a listing gives: the values of the `struck` solutions that were struck out stand at the buffer's start, n for each; the rest is what the run after
+// What a listing gives: the values of the `struck` solutions that were struck out stand at the buffer's start, n for each; `last` is what the run after
 // the last of them gives.
 #[derive(Clone, Copy)]
 pub struct Listed {
     pub struck: usize,
-    pub verdict: Verdict,
-    pub values: [i64; 32],
-    pub count: usize,
-    pub propagations: usize,
-    pub state: Search,
-}
-
-// The answer to a state that is refused.
-pub fn refused(s: Search) -> Traced
-    ensures { result ≡ refusal s }
-{
-    Traced {
-        verdict: Verdict::Invalid,
-        values: [0; 32],
-        count: 0,
-        propagations: 0,
-        blocks: 0,
-        state: s,
-    }
+    pub last: Ran,
 }
 
 // The lower bounds of the first n variables, zeros past them.
@@ -76,11 +52,7 @@ fn lowers(l: Level, n: usize) -> [i64; 32]
     ensures { result ≡ filled (number_in l.lower) n 32 }
 {
     let mut values = [0i64; 32];
-    let mut i: usize = 0;
-    while i < n {
-        values[i] = l.lower[i];
-        i += 1;
-    }
+    values[..n].copy_from_slice(&l.lower[..n]);
     values
 }
 
@@ -132,70 +104,22 @@ pub fn proceed(
 }
 
 // The answer to a caller from where the turns ended.
-pub fn answer(a: Advanced) -> Traced
+#[tactic(auto, unfolding(crate::specs::Answered::answered, crate::specs::Answered::case_of))]
+pub fn answer(a: Advanced) -> Ran
     requires { (a.state.n ≤ 32) × (a.state.depth < 33) }
     ensures { result ≡ answered a }
 {
-    let blocks = a.blocks;
     let state = a.state;
-    let count = state.conflicts;
-    let propagations = state.propagations;
-    let mut verdict = Verdict::GoOn;
-    let mut values = [0i64; 32];
-    let ending = a.ending;
-    match ending {
-        Ending::GoOn => {}
-        Ending::NoSolution => {
-            verdict = Verdict::NoSolution;
-        }
-        Ending::OutOfBudget => {
-            verdict = Verdict::OutOfBudget;
-        }
-        Ending::Solution => {
-            verdict = Verdict::Solution;
-            values = deepest_lowers(state);
-        }
-    }
-    Traced {
-        verdict,
-        values,
-        count,
-        propagations,
-        blocks,
-        state,
-    }
-}
-
-// A run's answer: that of a trace, without its blocks.
-pub fn without_blocks(t: Traced) -> Ran
-    ensures { result ≡ ran_of t }
-{
-    let verdict = t.verdict;
-    let values = t.values;
-    let state = t.state;
+    let verdict = match a.ending {
+        Ending::GoOn => Verdict::GoOn,
+        Ending::NoSolution => Verdict::NoSolution,
+        Ending::OutOfBudget => Verdict::OutOfBudget,
+        Ending::Solution => Verdict::Solution(deepest_lowers(state)),
+    };
     Ran {
         verdict,
-        values,
-        count: t.count,
-        propagations: t.propagations,
-        state,
-    }
-}
-
-// A listing's answer: that of a trace after the strikes, without its blocks.
-pub fn after_strikes(t: Traced, struck: usize) -> Listed
-    ensures { result ≡ listed_of t struck }
-{
-    let verdict = t.verdict;
-    let values = t.values;
-    let count = t.count;
-    let state = t.state;
-    Listed {
-        struck,
-        verdict,
-        values,
-        count,
-        propagations: t.propagations,
+        count: state.conflicts,
+        propagations: state.propagations,
         state,
     }
 }

@@ -1,57 +1,46 @@
 -- Demand 3, of the calls.
 use Prim.Native.Nat.{ℕ, zero, suc, ◌+◌, ◌-◌, ◌*◌, ◌≤◌, ◌<◌}
 use native.Mathlib.Omega.{arith}
-use mathlib.Core.Bool.{cond}
 use mathlib.Core.List.{List, [], ◌∷◌, ◌++◌}
 use mathlib.Core.Logic.{◌⊎◌, inl, inr, ⊎_elim}
 use mathlib.Core.Path.{◌≡◌, refl, sym, ap, subst, ◌∙◌}
-use lib.Dec.{eqb, eqb-suc-zero}
 use lib.ListN.{length, take}
-use Rattle.model_problems.specs.Problem.{Problem, Result, ok, error}
+use Rattle.std.specs.Prelude.{Result, Ok, Err}
+use Rattle.model_problems.specs.Problem.{Problem, ok}
 use Rattle.model_walk.specs.Search as model
 use Rattle.model_walk.specs.Search.{open_problem}
 use Rattle.model_walk.specs.Move.{slack}
 use Rattle.model_walk.specs.Propagations.{bounds_set}
-use Rattle.model_problems.specs.Points.{Point, points, Solution, First}
-use Rattle.model_walk.specs.Step.{Verdict as ModelVerdict, Outcome, out_of_budget, solution, step, run}
+use Rattle.model_problems.specs.Points.{Point, points, First}
+use Rattle.model_walk.specs.Step.{Verdict as ModelVerdict, out_of_budget, solution, step, run}
 use Rattle.model_acceptance.specs.Acceptable.{Acceptable}
 use Rattle.model_claims.specs.Demand.{state_after, journal, verdict_with, Decides, Agree, SameSolutions, Steps}
-use Rattle.problem.specs.declared.Answer.TheVariants.{Done}
-use Rattle.problem.specs.Answer.{number}
+use Rattle.problem.specs.declared.Refusal.{Refusal}
+use Rattle.problem.specs.Answer.{seen_by}
+use Rattle.problem.proofs.Numbers.{taken-by}
 use Rattle.problem.specs.View.{problem_of}
-use Rattle.problem.proofs.Numbers.{done}
-use Rattle.fields.specs.Fields.{zeros}
 use Rattle.lists.proofs.Bools.{lt-or-le}
 use Rattle.state.specs.View.{view}
 use Rattle.state.specs.declared.Search.{Search}
 use Rattle.validity.proofs.Steps.{impossible}
 use Rattle.soundness.proofs.Demand.{demand-of-problems, demand-3}
-use Rattle.shown.specs.Opening.{SeenOpening, seen_opened, opening}
-use Rattle.shown.specs.Seen.{values_of}
-use Rattle.shown.specs.declared.Opened.{Opened}
+use Rattle.shown.specs.Opening.{seen_opened}
+use Rattle.shown.specs.Seen.{padded, case_of}
 use Rattle.answers.specs.declared.Ran.{Ran}
 use Rattle.answers.specs.declared.Verdict.TheVariants as verdict
-use Rattle.calls.specs.Calls.{Source, file, value, problem_from, Fine, OpensFrom, Call, ran, Makes, told, ListFrom, state_in, journal_of, NoRun, until_run, steps_in, steps_of, SameAnswer, CallAfter, Decided, OpeningFrom, RunFrom, UnderBudget, EnoughBudget, CallsHoldFrom, WithEnoughFrom}
-use Rattle.calls.proofs.Shown.{case_of, case-valid, case-plain}
+use Rattle.calls.specs.Calls.{Source, file, value, problem_from, Fine, OpensFrom, Call, ran, Makes, told, ListFrom, state_in, journal_of, NoRun, until_run, steps_in, steps_of, SameAnswer, CallAfter, Decided, CallsFrom, OpeningFrom, RunFrom, UnderBudget, EnoughBudget, CallsHoldFrom, WithEnoughFrom}
+use Rattle.calls.proofs.Shown.{case-plain}
 use Rattle.calls.proofs.Lists.{journal-end, set-end, journal-prefix, CallTells, call-tells, Follows, follows, one_more, steps-more, no_run}
 
--- a run's answer is that of the model's
-pub record RunTells (q : Ran) (o : Outcome) : Type 0 where
-  pub verdict : q.verdict ≡ case_of o.verdict
-  pub values : q.values ≡ values_of o.verdict
-
 -- ---- an opening that is not refused
-pub record Fresh (o : Opened) (m : model.Search) : Type 0 where
-  pub done : o.answer ≡ Done
-  pub start : view o.state ≡ m
+pub record Fresh (o : Result Search Refusal) (m : model.Search) : Type 0 where
+  pub state : Search
+  pub done : o ≡ Ok state
+  pub start : view state ≡ m
 
-opened-by : (o : Opened) (m : model.Search) (k : ℕ) → number o.answer ≡ k → cond (eqb k 0) (ok (view o.state)) (error k) ≡ ok m → Fresh o m
-opened-by o m zero n e = record { done = done o.answer n; start = cc }
-opened-by o m (suc k) n e = let f : ◌≡◌ {A = Result model.Search} (error (suc k)) (ok m) = rw (eqb-suc-zero k) at e in impossible (cc)
-
-pub opened-as : (o : Opened) (m : model.Search) → seen_opened o ≡ opening (ok m) → Fresh o m
-unfolding seen_opened opening
-opened-as o m e = opened-by o m (number o.answer) refl (ap (λ (x : SeenOpening). x.answer) e)
+pub opened-as : (o : Result Search Refusal) (m : model.Search) → seen_opened o ≡ ok m → Fresh o m
+unfolding seen_opened
+opened-as o m e = let x = taken-by view o m e in record { state = x.0; done = x.1; start = x.2 }
 
 -- the problem that a search starts from is acceptable
 pub fine-source : (s : Source) → Fine s → Acceptable (problem_from s)
@@ -60,27 +49,31 @@ fine-source (file f) a = demand-3.acceptable f a
 fine-source (value p) a = a
 
 -- and both calls open it
-opens-source : (s : Source) → Fine s → (o : Opened) → OpensFrom s o → seen_opened o ≡ opening (ok (open_problem (problem_from s)))
+opens-source : (s : Source) → Fine s → (o : Result Search Refusal) → OpensFrom s o → seen_opened o ≡ ok (open_problem (problem_from s))
 unfolding problem_from
-opens-source (file f) a o e = e ∙ ap opening (demand-3.opens f a)
-opens-source (value p) a o e = e ∙ ap opening (demand-of-problems.opens (problem_of p) a)
+opens-source (file f) a o e = e ∙ demand-3.opens f a
+opens-source (value p) a o e = e ∙ demand-of-problems.opens (problem_of p) a
 
-pub fresh : (s : Source) → Fine s → (o : Opened) → OpensFrom s o → Fresh o (open_problem (problem_from s))
+pub fresh : (s : Source) → Fine s → (o : Result Search Refusal) → OpensFrom s o → Fresh o (open_problem (problem_from s))
 fresh s a o e = opened-as o (open_problem (problem_from s)) (opens-source s a o e)
 
+pub start-of : (s : Source) → Fine s → (x : Search) → OpensFrom s (Ok x) → view x ≡ open_problem (problem_from s)
+unfolding seen_opened seen_by
+start-of s a x e = let h = opens-source s a (Ok x) e in cc
+
 -- ---- 'none' exactly when there is no solution, else the first
-decided : (p : Problem) (q : Ran) (v : ModelVerdict) → q.verdict ≡ case_of v → q.values ≡ values_of v → Decides p v → Decided p q
-decided p q v e u d =
+decided : (p : Problem) (q : Ran) (v : ModelVerdict) → q.verdict ≡ case_of v → Decides p v → Decided p q
+decided p q v e d =
     record {
       none-iff = ((λ h. d.none-iff.0 (case-plain v verdict.NoSolution tt (sym e ∙ h))), (λ h. e ∙ ap case_of (d.none-iff.1 h) ∙ (unfold case_of in refl)));
       else-first = λ n. first (d.else-first (λ h. n (e ∙ ap case_of h ∙ (unfold case_of in refl))));
     }
   where
-    first : ((x : Point) × (v ≡ solution x) × First p x) → (q.verdict ≡ verdict.Solution) × (x : Point) × (q.values ≡ x ++ zeros (32 - length x)) × First p x
-    first (x, h, l) = (e ∙ ap case_of h ∙ (unfold case_of in refl), x, u ∙ ap values_of h ∙ (unfold values_of in refl), l)
+    first : ((x : Point) × (v ≡ solution x) × First p x) → (x : Point) × (q.verdict ≡ verdict.Solution (padded x)) × First p x
+    first (x, h, l) = (x, e ∙ ap case_of h ∙ (unfold case_of in refl), l)
 
 -- ---- the calls and the run from one opening
-module _ (s : Source) (a : Fine s) (o : Opened) (h : OpensFrom s o) (q : Ran) (g : Makes o.state (ran q)) where
+module _ (s : Source) (a : Fine s) (o : Search) (h : OpensFrom s (Ok o)) (w : Result Ran Refusal) (g : Makes o (ran w)) where
   abbrev p : Problem
   p = problem_from s
 
@@ -90,36 +83,41 @@ module _ (s : Source) (a : Fine s) (o : Opened) (h : OpensFrom s o) (q : Ran) (g
   abbrev t : Steps (problem_from s) (open_problem (problem_from s))
   t = demand-of-problems.steps (problem_from s) (fine-source s a)
 
-  start : view o.state ≡ state_after 0 (open_problem (problem_from s))
+  start : view o ≡ state_after 0 (open_problem (problem_from s))
   unfolding state_after
-  start = (fresh s a o h).start
+  start = start-of s a o h
 
   -- the run's answer is that of the model's run, which gives the first verdict
   first : (run m).verdict ≡ (step (state_after t.last m)).verdict
   unfolding state_after
   first = (t.ran 0).0
 
-  run_call_lem : CallTells p m t 0 (ran q)
-  run_call_lem = call-tells p m t 0 o.state (ran q) start g
+  pub run_call_lem : CallTells p m t 0 (ran w)
+  run_call_lem = call-tells p m t 0 o (ran w) start g
 
-  pub run_is : RunTells q (run (open_problem (problem_from s)))
-  unfolding told steps_in
+  abbrev q : Ran
+  q = run_call_lem.answer
+
+  pub taken : w ≡ Ok q
+  unfolding told
+  taken = run_call_lem.is
+
+  pub run_is : q.verdict ≡ case_of (run (open_problem (problem_from s))).verdict
+  unfolding steps_in
   run_is =
-      let y = run_call_lem.answer t.last refl in
       let z : 0 + t.last ≡ t.last = omega arith in
-      let e : (step (state_after (0 + t.last) m)).verdict ≡ (run m).verdict = ap (λ (i : ℕ). (step (state_after i m)).verdict) z ∙ sym first in
-      record { verdict = y.0 ∙ ap case_of e; values = y.1 ∙ ap values_of e }
+      run_call_lem.turn t.last refl ∙ ap case_of (ap (λ (i : ℕ). (step (state_after i m)).verdict) z ∙ sym first)
 
   run-count : q.count ≡ length (journal (suc t.last) m)
-  unfolding told steps_in
+  unfolding steps_in
   run-count = let z : 0 + suc t.last ≡ suc t.last = omega arith in run_call_lem.count ∙ ap (λ (i : ℕ). length (journal i m)) z
 
   run-set : q.propagations ≡ bounds_set (suc t.last) m
-  unfolding told steps_in
+  unfolding steps_in
   run-set = let z : 0 + suc t.last ≡ suc t.last = omega arith in run_call_lem.propagations ∙ ap (λ (i : ℕ). bounds_set i m) z
 
   -- the calls cs, and c after them
-  module _ (cs : List Call) (c : Call) (l : ListFrom o.state cs) (e : Makes (state_in o.state cs) c) where
+  module _ (cs : List Call) (c : Call) (l : ListFrom o cs) (e : Makes (state_in o cs) c) where
     abbrev k : ℕ
     k = steps_of t.last cs
 
@@ -127,29 +125,27 @@ module _ (s : Source) (a : Fine s) (o : Opened) (h : OpensFrom s o) (q : Ran) (g
     n = steps_in t.last c
 
     x : CallTells p m t (steps_of t.last cs) c
-    x = call-tells p m t (steps_of t.last cs) (state_in o.state cs) c (let z : 0 + steps_of t.last cs ≡ steps_of t.last cs = omega arith in rw z at (follows p m t cs 0 o.state start l).state) e
+    x = call-tells p m t (steps_of t.last cs) (state_in o cs) c (let z : 0 + steps_of t.last cs ≡ steps_of t.last cs = omega arith in rw z at (follows p m t cs 0 o start l).state) e
 
-    all : Follows p m t 0 o.state (cs ++ (c ∷ []))
-    all = follows p m t (cs ++ (c ∷ [])) 0 o.state start (one_more cs o.state c l e)
+    all : Follows p m t 0 o (cs ++ (c ∷ []))
+    all = follows p m t (cs ++ (c ∷ [])) 0 o start (one_more cs o c l e)
 
     -- without a run these are the blocks of as many turns
     blocks : NoRun (cs ++ (c ∷ [])) → journal_of (cs ++ (c ∷ [])) ≡ journal (k + n) m
     unfolding state_after
     blocks h = all.silent ∙ all.heard ∙ ap (λ (i : ℕ). journal i m) (ap (steps_of t.last) (no_run (cs ++ (c ∷ [])) h) ∙ steps-more t.last cs c)
 
-    answered : (i : ℕ) → n ≡ suc i → t.last ≤ k + i → SameAnswer (told c) q
-    answered i b w =
-        let y = x.answer i b in
-        let v : (step (state_after (k + i) m)).verdict ≡ (run m).verdict = (t.later (k + i) w).0 ∙ sym first in
-        (y.0 ∙ ap case_of v ∙ sym run_is.verdict, y.1 ∙ ap values_of v ∙ sym run_is.values)
+    abbrev u : Ran
+    u = x.answer
 
-    by-steps : (i : ℕ) → n ≡ i → ¬ ((told c).verdict ≡ verdict.Invalid) × (k + n ≤ t.last → (told c).verdict ≡ verdict.GoOn)
-    by-steps zero b = ((λ w. impossible (let y = x.idle b in cc)), λ w. x.idle b)
-    by-steps (suc i) b =
-        let y = x.answer i b in
-        ((λ w. case-valid _ (sym y.0 ∙ w)), λ w. y.0 ∙ ap case_of (t.before (k + i) (omega arith)) ∙ (unfold case_of in refl))
+    answered : (i : ℕ) → n ≡ suc i → t.last ≤ k + i → SameAnswer u q
+    answered i b w = x.turn i b ∙ ap case_of ((t.later (k + i) w).0 ∙ sym first) ∙ sym run_is
 
-    state-set : (told c).state.propagations ≡ bounds_set (k + n) m
+    goes-on : (i : ℕ) → n ≡ i → k + n ≤ t.last → u.verdict ≡ verdict.GoOn
+    goes-on zero b w = x.idle b
+    goes-on (suc i) b w = x.turn i b ∙ ap case_of (t.before (k + i) (omega arith)) ∙ (unfold case_of in refl)
+
+    state-set : u.state.propagations ≡ bounds_set (k + n) m
     unfolding view
     state-set = ap (λ (y : model.Search). y.propagations) x.state ∙ t.tallied (k + n)
 
@@ -158,7 +154,8 @@ module _ (s : Source) (a : Fine s) (o : Opened) (h : OpensFrom s o) (q : Ran) (g
     call =
         let more = steps-more t.last cs c in
         record {
-          taken = (by-steps n refl).0;
+          answer = u;
+          taken = x.is;
           bounded = rw x.count (t.bounded (k + n));
           counted = λ h. x.count ∙ ap length (sym (blocks h));
           blocks_so_far = λ h. blocks h ∙ sym (journal-prefix p m t (k + n)) ∙ ap (λ (i : ℕ). take i (journal (suc t.last) m)) (sym x.count);
@@ -167,7 +164,7 @@ module _ (s : Source) (a : Fine s) (o : Opened) (h : OpensFrom s o) (q : Ran) (g
           creeping = rw (x.count, x.propagations) (subst (λ (i : ℕ). bounds_set (k + n) m ≤ suc i * slack p.domain) (t.carried (k + n)) (omega (arith, t.creeping (k + n), t.tallied (k + n))));
           silent = all.silent;
           cuts = λ y z. rw (all.silent, all.heard) (t.cuts (steps_of t.last (until_run (cs ++ (c ∷ [])))) y z);
-          before = λ b. (by-steps n refl).1 (omega (arith, more));
+          before = λ b. goes-on n refl (omega (arith, more));
           later = λ b w. (
             answered (n - 1) (omega arith) (omega (arith, more)),
             (x.count ∙ (same_end (omega (arith, more))).0 ∙ sym run-count, x.propagations ∙ (same_end (omega (arith, more))).1 ∙ sym run-set),
@@ -182,28 +179,37 @@ module _ (s : Source) (a : Fine s) (o : Opened) (h : OpensFrom s o) (q : Ran) (g
 
   -- the problem's budget, and one of as many as the points
   or-spent : ((verdict_with p p.budget ≡ verdict_with p (points p)) ⊎ (verdict_with p p.budget ≡ out_of_budget)) → Decided p q ⊎ (q.verdict ≡ verdict.OutOfBudget)
-  or-spent (inl e) = inl (decided p q (run m).verdict run_is.verdict run_is.values (subst (Decides p) (sym (t.own ∙ e)) (t.decides-with (points p) (omega arith))))
-  or-spent (inr e) = inr (run_is.verdict ∙ ap case_of (t.own ∙ e) ∙ (unfold case_of in refl))
+  or-spent (inl e) = inl (decided p q (run m).verdict run_is (subst (Decides p) (sym (t.own ∙ e)) (t.decides-with (points p) (omega arith))))
+  or-spent (inr e) = inr (run_is ∙ ap case_of (t.own ∙ e) ∙ (unfold case_of in refl))
 
   enough : points p ≤ p.budget → Decided p q
-  enough e = decided p q (run m).verdict run_is.verdict run_is.values (t.decides e)
+  enough e = decided p q (run m).verdict run_is (t.decides e)
 
-  pub opening-holds : OpeningFrom (problem_from s) o q
-  opening-holds =
+  pub calls-from : CallsFrom (problem_from s) o w
+  calls-from =
       record {
-        accepted = (fresh s a o h).done;
+        answer = q;
+        taken = taken;
         last = t.last;
         blocks = journal (suc t.last) m;
         whole = sym run-count;
         call = call;
-        ended = ((λ e. t.reached (sym first ∙ case-plain (run m).verdict verdict.GoOn tt (sym run_is.verdict ∙ e))), (λ e. case-valid (run m).verdict (sym run_is.verdict ∙ e)));
+        ended = λ e. t.reached (sym first ∙ case-plain (run m).verdict verdict.GoOn tt (sym run_is ∙ e));
         decides = enough;
         or-spent = ⊎_elim (λ (e : points p < p.budget). inl (enough (omega arith))) (λ (e : p.budget ≤ points p). or-spent (t.smaller p.budget (points p) e)) (lt-or-le (points p) p.budget);
       }
 
+opening-holds : (s : Source) → Fine s → (o : Result Search Refusal) → OpensFrom s o → OpeningFrom (problem_from s) o
+opening-holds s a o h =
+    let x = fresh s a o h in
+    let k = subst (OpensFrom s) x.done h in
+    record { state = x.state; accepted = x.done; calls = λ q g. calls-from s a x.state k q g }
+
 -- ---- two openings
-run_of : (s : Source) (q : Ran) → RunFrom s q → RunTells q (run (open_problem (problem_from s)))
-run_of s q r = run_is s r.fine r.opened r.opens q r.runs
+run_of : (s : Source) (q : Ran) → RunFrom s q → q.verdict ≡ case_of (run (open_problem (problem_from s))).verdict
+run_of s q r =
+    let e : q ≡ (run_call_lem s r.fine r.opened r.opens (Ok q) r.runs).answer = let h = taken s r.fine r.opened r.opens (Ok q) r.runs in cc in
+    ap (λ (u : Ran). u.verdict) e ∙ run_is s r.fine r.opened r.opens (Ok q) r.runs
 
 -- the verdict of an opening's run is that of its problem under its budget
 abbrev verdict_of : Source → ModelVerdict
@@ -214,13 +220,10 @@ own s a = (demand-of-problems.steps (problem_from s) (fine-source s a)).own
 
 same_answer : (s t : Source) (q u : Ran) → RunFrom s q → RunFrom t u → verdict_of s ≡ verdict_of t → SameAnswer q u
 same_answer s t q u r w e =
-    let x = run_of s q r in
-    let y = run_of t u w in
-    let v = own s r.fine ∙ e ∙ sym (own t w.fine) in
-    (x.verdict ∙ ap case_of v ∙ sym y.verdict, x.values ∙ ap values_of v ∙ sym y.values)
+    run_of s q r ∙ ap case_of (own s r.fine ∙ e ∙ sym (own t w.fine)) ∙ sym (run_of t u w)
 
 spent : (s : Source) (q : Ran) → RunFrom s q → verdict_of s ≡ out_of_budget → q.verdict ≡ verdict.OutOfBudget
-spent s q r e = (run_of s q r).verdict ∙ ap case_of (own s r.fine ∙ e) ∙ (unfold case_of in refl)
+spent s q r e = run_of s q r ∙ ap case_of (own s r.fine ∙ e) ∙ (unfold case_of in refl)
 
 -- t's problem is s's under t's budget
 under-budget : (s t : Source) {u : Ran} → RunFrom t u → UnderBudget s t → verdict_of t ≡ verdict_with (problem_from s) (problem_from t).budget
@@ -256,8 +259,8 @@ calls-hold-from =
 -- ---- with budgets of at least the points neither answer is 'spent'
 not-spent : (s : Source) (q : Ran) → RunFrom s q → EnoughBudget s → ¬ (q.verdict ≡ verdict.OutOfBudget)
 not-spent s q r n e =
-    let d = (calls-hold-from.opening s r.fine r.opened r.opens q r.runs).decides n in
-    let z = (d.else-first (λ h. impossible (cc))).0 in
+    let d = decided (problem_from s) q _ (run_of s q r) ((demand-of-problems.steps (problem_from s) (fine-source s r.fine)).decides n) in
+    let z = (d.else-first (λ h. impossible (cc))).1 in
     impossible (cc)
 
 smaller-enough : (s t : Source) (q u : Ran) → RunFrom s q → RunFrom t u → UnderBudget s t → EnoughBudget s → SameAnswer u q ⊎ (u.verdict ≡ verdict.OutOfBudget)

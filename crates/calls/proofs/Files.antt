@@ -13,7 +13,7 @@ pub calls-hold : CallsHold
 unfolding problem_from
 calls-hold =
     record {
-      opening = λ f a o p q m. calls-hold-from.opening (file f) a o p q m;
+      opening = λ f a o p. calls-hold-from.opening (file f) a o p;
       smaller = λ f g q u r s e b. calls-hold-from.smaller (file f) (file g) q u (run-of f q r) (run-of g u s) e b;
       same = λ f g q u r s e. calls-hold-from.same (file f) (file g) q u (run-of f q r) (run-of g u s) e;
     }

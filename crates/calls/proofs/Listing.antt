@@ -22,22 +22,26 @@ use Rattle.model_claims.specs.Enumeration as list
 use Rattle.model_claims.specs.Enumeration.{all_turns, strike, Reply, verdict, exclusion, refused, Answer, answered_by, answer, walk, says, shown_in, struck_in, Enumerates}
 use Rattle.lists.proofs.Bools.{clash}
 use Rattle.validity.proofs.Steps.{impossible}
-use Rattle.soundness.proofs.Standing.{refusing, said-admitted, refused-only}
+use Rattle.soundness.proofs.Standing.{said-admitted, refused-only}
 use Rattle.soundness.proofs.Listings.{listings-of-problems}
 use Rattle.soundness.proofs.InPlace as place
 use Rattle.soundness.proofs.InPlace.{rounds, Between, nothing-between}
 use Rattle.state.specs.View.{view}
 use Rattle.state.specs.declared.Search.{Search}
-use Rattle.shown.specs.Seen.{values_of}
+use Rattle.std.specs.Prelude.{Result, Ok, Err}
+use Rattle.model_walk.specs.Exclude.{Exclusion, unsolved}
+use Rattle.problem.specs.declared.Refusal.{Refusal}
+use Rattle.problem.specs.declared.Refusal.TheVariants.{InvalidSearch}
+use Rattle.shown.specs.Seen.{padded, case_of}
 use Rattle.shown.specs.declared.Excluded.{Excluded}
 use Rattle.answers.specs.declared.Listed.{Listed}
 use Rattle.answers.specs.declared.Ran.{Ran}
 use Rattle.answers.specs.declared.Verdict.TheVariants as said
-use Rattle.calls.specs.Calls.{problem_from, stepped, traced as tracing, ran, told, SameAnswer, SameCounts}
+use Rattle.calls.specs.Calls.{problem_from, stepped, traced as tracing, ran, told, state_or}
 use Rattle.calls.specs.Listing as own
-use Rattle.calls.specs.Listing.{Action, called, listed, Does, last_run, state_of, state_after, DoneFrom, blocks_of, padded, stands, shown, strikes, set_in_runs, set_by, set_in, Lists, SaysAgain, TurnAfter, ListAfter, StrikeAfter, ListingOf, ListingsHoldFrom}
-use Rattle.calls.proofs.Shown.{case_of, case-valid, case-plain, case-solution}
-use Rattle.calls.proofs.Replies.{asked, out_of, out-valid, out-ended, Says, Replies, Counts, ActionTells, call-tells, strike-tells, rows_by, shown_of, stands_of, strikes-of, ends_of, due-of}
+use Rattle.calls.specs.Listing.{Action, called, listed, Does, last_run, struck_of, state_of, state_after, DoneFrom, blocks_of, stands, shown, strikes, set_in_runs, set_by, set_in, Lists, Again, SaysAgain, SaysAfter, TurnAfter, ListAfter, StrikeAfter, ListingOf, ListingsHoldFrom}
+use Rattle.calls.proofs.Shown.{case-plain, case-solution}
+use Rattle.calls.proofs.Replies.{asked, out_of, out-ended, Says, Strikes, Replies, Counted, Counts, ActionTells, call-tells, strike-tells, rows_by, shown_of, stands_of, strikes-of, ends_of, due-of}
 use Rattle.calls.proofs.Tallies.{limit, call-sets, strike-sets}
 use Rattle.calls.proofs.InPlace.{listing-tells, rows_are, list-after, listing_none}
 use Rattle.calls.proofs.Demand.{fine-source, fresh}
@@ -46,7 +50,7 @@ use Rattle.calls.proofs.Demand.{fine-source, fresh}
 unfoldable earlier : Action → List list.Call → List list.Call
 earlier (called c) cs = cs
 earlier (own.excluded e) cs = cs
-earlier (listed old new r) cs = rounds r.struck cs
+earlier (listed old new r) cs = rounds (struck_of r) cs
 
 unfoldable calls_of : List Action → List list.Call
 calls_of [] = []
@@ -72,7 +76,7 @@ unfolding calls_of earlier
 calls-many [] = omega arith
 calls-many (called c ∷ acts) = omega (arith, calls-many acts)
 calls-many (own.excluded e ∷ acts) = omega (arith, calls-many acts)
-calls-many (listed old new r ∷ acts) = omega (arith, calls-many acts, rounds-many r.struck (calls_of acts))
+calls-many (listed old new r ∷ acts) = omega (arith, calls-many acts, rounds-many (struck_of r) (calls_of acts))
 
 -- ---- the solutions shown
 unless-map : (b : Bool) (us : List Point) → cond b [] (map padded us) ≡ map padded (cond b [] us)
@@ -82,6 +86,11 @@ unless-map false us = refl
 show-more : (b : Bool) (us vs ws : List Point) → (b ≡ true → vs ≡ []) → us ++ cond b [] (vs ++ ws) ≡ (us ++ vs) ++ cond b [] ws
 show-more true us vs ws h = rw (h refl) (sym (append-nil (us ++ [])))
 show-more false us vs ws h = sym (append_assoc us vs ws)
+
+-- ---- a verdict that is said again
+again-by : (q : Ran) (w : Result Ran Refusal) (v : ModelVerdict) → Says w (verdict v) → (n k : ℕ) → Counted w n k → q.verdict ≡ case_of v → n ≡ q.count → k ≡ q.propagations → Again q w
+again-by q (Ok u) v e n k c r f g = (e ∙ sym r, (c.0 ∙ f, c.1 ∙ g))
+again-by q (Err d) v e n k c r f g = absurd e
 
 module _ (p : Problem) (s : Search) (m : model.Search) (start : view s ≡ m) (z : Enumerates p m) (y : (cs : List list.Call) → place.Listed p m cs) where
   record Follows (acts : List Action) : Type 0 where
@@ -95,7 +104,7 @@ module _ (p : Problem) (s : Search) (m : model.Search) (start : view s ≡ m) (z
 
   -- an action after them: its last call tells the model's answer, and the calls before that one strike out its rows; they are refused together
   record Acts (a : Action) (acts : List Action) : Type 0 where
-    tells : ActionTells a (answer (asked a) (walk (earlier a (calls_of acts)) m))
+    tells : ActionTells (state_after s acts) a (answer (asked a) (walk (earlier a (calls_of acts)) m))
     between : Between p m (calls_of acts) (earlier a (calls_of acts)) (rows_by a)
     same : admitted (walk (earlier a (calls_of acts)) m) ≡ admitted (walk (calls_of acts) m)
     set : cond (admitted (walk (calls_of acts) m)) (set_by a (walk (calls_of acts) m)) 0 + list.set_in (calls_of acts) m ≡ list.set_in (asked a ∷ earlier a (calls_of acts)) m
@@ -113,8 +122,8 @@ module _ (p : Problem) (s : Search) (m : model.Search) (start : view s ≡ m) (z
       let q = listing-tells p m z y cs (state_after s acts) f.state old new r d in
       let many = sym q.many in
       record {
-        tells = subst (λ (i : ℕ). ActionTells (listed old new r) (answer all_turns (walk (rounds i cs) m))) many q.tells;
-        between = subst (Between p m cs (rounds r.struck cs)) (sym (rows_are p m z y cs (state_after s acts) f.state old new r d)) (subst (λ (i : ℕ). Between p m cs (rounds i cs) q.vs) many q.between);
+        tells = subst (λ (i : ℕ). ActionTells (state_after s acts) (listed old new r) (answer all_turns (walk (rounds i cs) m))) many q.tells;
+        between = subst (Between p m cs (rounds (struck_of r) cs)) (sym (rows_are p m z y cs (state_after s acts) f.state old new r d)) (subst (λ (i : ℕ). Between p m cs (rounds i cs) q.vs) many q.between);
         same = subst (λ (i : ℕ). admitted (walk (rounds i cs) m) ≡ admitted (walk cs m)) many q.same;
         set = subst (λ (i : ℕ). cond (admitted (walk cs m)) (set_in_runs i (walk cs m)) 0 + list.set_in cs m ≡ list.set_in (all_turns ∷ rounds i cs) m) many q.set;
       }
@@ -188,7 +197,7 @@ module _ (p : Problem) (s : Search) (m : model.Search) (start : view s ≡ m) (z
     test : admitted (walk cs m) ≡ leb (state_after s acts).propagations max_propagations
     test = acts-here.same ∙ tests acts (follows acts d.1)
 
-    test-after : admitted (walk (calls_of (a ∷ acts)) m) ≡ leb (state_of a).propagations max_propagations
+    test-after : admitted (walk (calls_of (a ∷ acts)) m) ≡ leb (state_of (state_after s acts) a).propagations max_propagations
     unfolding state_after
     test-after = tests (a ∷ acts) after
 
@@ -197,124 +206,148 @@ module _ (p : Problem) (s : Search) (m : model.Search) (start : view s ≡ m) (z
     unfolding calls_of
     shows-all h = after.show ∙ ap (map padded) (z.complete (asked a) cs h)
 
-    -- ---- that ends with the answer q
-    module _ (q : Ran) (replies : (r : Reply) → Replies a r → Says q r) (counts : (n k : ℕ) → Counts a n k → (q.count ≡ n) × (q.propagations ≡ k)) (here : state_of a ≡ q.state) where
-      counts_of : admitted (walk cs m) ≡ true → (q.count ≡ (walk (calls_of (a ∷ acts)) m).conflicts) × (q.propagations ≡ (walk (calls_of (a ∷ acts)) m).propagations)
-      unfolding calls_of
-      counts_of h = let n = counts _ _ acts-here.tells.counts in (n.0 ∙ z.counted (asked a) cs h, n.1 ∙ z.propagated (asked a) cs h)
+    -- the next call is not refused
+    goes_on_lem : own.Within (state_of (state_after s acts) a) → admitted (walk (asked a ∷ cs) m) ≡ true
+    unfolding calls_of
+    goes_on_lem h = test-after ∙ le-leb _ _ h
 
-      counted : own.Within (state_after s acts) → (q.count ≡ q.state.conflicts) × (q.propagations ≡ q.state.propagations)
+    -- ---- that ends with the answer q, a verdict
+    module _ (q : Ran) (here : state_of (state_after s acts) a ≡ q.state) (counts : (n k : ℕ) → Counts a n k → (q.count ≡ n) × (q.propagations ≡ k)) (v : ModelVerdict)
+        (h : says (asked a) cs m ≡ verdict v) (r : q.verdict ≡ case_of v) where
+      taken_here : admitted (walk cs m) ≡ true
+      unfolding says
+      taken_here = said-admitted (asked a) (walk cs m) (λ e. impossible (let f = sym h ∙ e in cc))
+
+      counts_of : (q.count ≡ (walk (calls_of (a ∷ acts)) m).conflicts) × (q.propagations ≡ (walk (calls_of (a ∷ acts)) m).propagations)
+      unfolding calls_of
+      counts_of = let n = counts _ _ acts-here.tells.counts in (n.0 ∙ z.counted (asked a) cs taken_here, n.1 ∙ z.propagated (asked a) cs taken_here)
+
+      counted : (q.count ≡ q.state.conflicts) × (q.propagations ≡ q.state.propagations)
       unfolding state_after
-      counted h =
-          let n = counts_of (test ∙ le-leb _ _ h) in
+      counted =
+          let n = counts_of in
           (n.0 ∙ sym (conflicts-of (a ∷ acts) after) ∙ ap (λ (x : Search). x.conflicts) here, n.1 ∙ sym (propagations-of (a ∷ acts) after) ∙ ap (λ (x : Search). x.propagations) here)
 
-      -- the next call is not refused
-      goes_on_lem : own.Within q.state → admitted (walk (asked a ∷ cs) m) ≡ true
-      unfolding calls_of
-      goes_on_lem h = test-after ∙ le-leb _ _ (subst own.Within (sym here) h)
+      -- an action e after it that takes turns and strikes nothing out
+      repeats : ¬ (q.verdict ≡ said.GoOn) → admitted (walk (asked a ∷ cs) m) ≡ true → (e : Action) → list.Turns (asked e) → earlier e (calls_of (a ∷ acts)) ≡ calls_of (a ∷ acts) → Acts e (a ∷ acts) →
+          (w : Result Ran Refusal) → ((x : Reply) → Replies e x → Says w x) → ((n k : ℕ) → Counts e n k → Counted w n k) → Again q w
+      unfolding says calls_of case_of
+      repeats n go e t i x w f g =
+          let k = z.again (asked a) (asked e) cs v go h (λ j. n (r ∙ ap case_of j)) t in
+          let y = subst (λ (ds : List list.Call). ActionTells (state_after s (a ∷ acts)) e (answer (asked e) (walk ds m))) i x.tells in
+          let i-count = z.counted (asked e) (asked a ∷ cs) go ∙ ap (λ (y : model.Search). y.conflicts) k.1 ∙ sym counts_of.0 in
+          let i-set = z.propagated (asked e) (asked a ∷ cs) go ∙ ap (λ (y : model.Search). y.propagations) k.1 ∙ sym counts_of.1 in
+          again-by q w v (subst (Says w) k.0 (f _ y.replies)) _ _ (g _ _ y.counts) r i-count i-set
 
-      -- ---- a verdict
-      module _ (v : ModelVerdict) (h : says (asked a) cs m ≡ verdict v) (r : Says q (verdict v)) where
-        taken_here : admitted (walk cs m) ≡ true
-        unfolding says
-        taken_here = said-admitted (asked a) (walk cs m) (λ e. impossible (let f = sym h ∙ e in cc))
+      again : ¬ (q.verdict ≡ said.GoOn) → admitted (walk (asked a ∷ cs) m) ≡ true → (e : Action) → own.Due false e → Does (state_of (state_after s acts) a) e → SaysAgain q e
+      unfolding state_after earlier calls_of rounds case_of
+      again n go (called c) t k = repeats n go (called c) (due-of false (called c) t) refl (acts-of (called c) (a ∷ acts) after k) (told c) (λ x i. i) (λ x j i. i)
+      again n go (own.excluded e) t k = absurd t
+      again n go (listed old new l) t k =
+          let none = listing_none p m z y (asked a) cs v go h (λ j. n (r ∙ ap case_of j)) (state_of (state_after s acts) a) after.state old new l k in (
+            repeats n go (listed old new l) (due-of false (listed old new l) t) (ap (λ (i : ℕ). rounds i (asked a ∷ cs)) none) (acts-of (listed old new l) (a ∷ acts) after k) (last_run l) (λ x i. i) (λ x j i. i),
+            none,
+          )
 
-        -- an action e after it that takes turns and strikes nothing out
-        repeats : ¬ (q.verdict ≡ said.GoOn) → admitted (walk (asked a ∷ cs) m) ≡ true → (e : Action) → list.Turns (asked e) → earlier e (calls_of (a ∷ acts)) ≡ calls_of (a ∷ acts) → Acts e (a ∷ acts) → (u : Ran) → ((x : Reply) → Replies e x → Says u x) →
-            ((n k : ℕ) → Counts e n k → (u.count ≡ n) × (u.propagations ≡ k)) → SameAnswer u q × SameCounts u q
-        unfolding says calls_of case_of
-        repeats n go e t i x u f g =
-            let k = z.again (asked a) (asked e) cs v go h (λ j. n (r.0 ∙ ap case_of j)) t in
-            let y = subst (λ (ds : List list.Call). ActionTells e (answer (asked e) (walk ds m))) i x.tells in
-            let w = subst (Says u) k.0 (f _ y.replies) in
-            let own-counts = counts_of taken_here in
-            let its = g _ _ y.counts in (
-              (w.0 ∙ sym r.0, w.1 ∙ sym r.1),
-              (
-                its.0 ∙ z.counted (asked e) (asked a ∷ cs) go ∙ ap (λ (y : model.Search). y.conflicts) k.1 ∙ sym own-counts.0,
-                its.1 ∙ z.propagated (asked e) (asked a ∷ cs) go ∙ ap (λ (y : model.Search). y.propagations) k.1 ∙ sym own-counts.1,
-              ),
-            )
-
-        again : ¬ (q.verdict ≡ said.GoOn) → admitted (walk (asked a ∷ cs) m) ≡ true → (e : Action) → own.Due false e → Does (state_of a) e → SaysAgain q e
-        unfolding state_after earlier calls_of rounds case_of last_run
-        again n go (called c) t k = repeats n go (called c) (due-of false (called c) t) refl (acts-of (called c) (a ∷ acts) after k) (told c) (λ x i. i) (λ x j i. i)
-        again n go (own.excluded e) t k = absurd t
-        again n go (listed old new l) t k =
-            let none = listing_none p m z y (asked a) cs v go h (λ j. n (r.0 ∙ ap case_of j)) (state_of a) after.state old new l k in
-            let x = repeats n go (listed old new l) (due-of false (listed old new l) t) (ap (λ (i : ℕ). rounds i (asked a ∷ cs)) none) (acts-of (listed old new l) (a ∷ acts) after k) (last_run l) (λ x i. i) (λ x j i. i) in
-            (x.0, x.1, none)
-
-        turn_by : TurnAfter p (state_after s acts) acts a q
-        unfolding calls_of list.strikes
-        turn_by =
-            record {
-              taken = (λ e. absurd (case-valid v (sym r.0 ∙ e)), λ b. clash taken_here (test ∙ lt-leb _ _ b));
-              position = λ e.
-                  let g = case-solution v (sym r.0 ∙ e) in
-                  let many : strikes (a ∷ acts) ≡ list.strikes cs m = after.strike ∙ ap (λ (x : Reply). struck_in x + list.strikes cs m) h ∙ (unfold struck_in in zero-add (list.strikes cs m)) in
-                  (g.0, r.1 ∙ ap values_of g.1 ∙ (unfold values_of padded in refl), rw many (z.position (asked a) cs g.0 (h ∙ ap verdict g.1)));
-              counted = counted;
-              again = λ n w e t k. again n (goes_on_lem w) e t (subst (λ (x : Search). Does x e) (sym here) k);
-              complete = λ e. shows-all (inr (h ∙ ap verdict (case-plain v said.NoSolution tt (sym r.0 ∙ e))));
-              enough = λ n e. z.enough n (asked a) cs (h ∙ ap verdict (case-plain v said.OutOfBudget tt (sym r.0 ∙ e)));
-            }
-
-      -- ---- a refusal: the state stays, and the next call is refused too
-      turn-refused : (n : ℕ) → says (asked a) cs m ≡ refused n → q.verdict ≡ said.Invalid → TurnAfter p (state_after s acts) acts a q
-      unfolding says answered_by walk
-      turn-refused n h r =
-          let out = refused-only (asked a) (walk cs m) n h in
-          let rests : walk (asked a ∷ cs) m ≡ walk cs m = ap (λ (x : Answer). x.state) (refusing (asked a) (walk cs m) out) in
+      says-after : SaysAfter p acts a q
+      unfolding calls_of list.strikes
+      says-after =
           record {
-            taken = (λ e. leb-false _ _ (sym test ∙ out), λ b. r);
-            position = λ e. impossible (cc);
+            position = λ us e.
+                let g = case-solution v us (sym r ∙ e) in
+                let many : strikes (a ∷ acts) ≡ list.strikes cs m = after.strike ∙ ap (λ (x : Reply). struck_in x + list.strikes cs m) h ∙ (unfold struck_in in zero-add (list.strikes cs m)) in
+                (g.0, g.2, rw many (z.position (asked a) cs g.0 (h ∙ ap verdict g.1)));
             counted = counted;
-            again = λ g w. clash (ap admitted (sym rests) ∙ goes_on_lem w) out;
-            complete = λ e. impossible (cc);
-            enough = λ g e. impossible (cc);
+            again = λ n w e t k. again n (goes_on_lem (subst own.Within (sym here) w)) e t (subst (λ (x : Search). Does x e) (sym here) k);
+            complete = λ e. shows-all (inr (h ∙ ap verdict (case-plain v said.NoSolution tt (sym r ∙ e))));
+            enough = λ n e. z.enough n (asked a) cs (h ∙ ap verdict (case-plain v said.OutOfBudget tt (sym r ∙ e)));
           }
 
-      by-reply : (r : Reply) → says (asked a) cs m ≡ r → Says q r → TurnAfter p (state_after s acts) acts a q
-      by-reply (verdict v) h r = turn_by v h r
-      by-reply (exclusion x) h r = absurd r
-      by-reply (refused n) h r = turn-refused n h r
+    -- ---- what it gives in the end: that answer, or a refusal
+    module _ (w : Result Ran Refusal) (replies : (r : Reply) → Replies a r → Says w r) (counts : (n k : ℕ) → Counts a n k → Counted w n k)
+        (here : state_of (state_after s acts) a ≡ state_or (state_after s acts) w) where
+      turn-taken : (u : Ran) → w ≡ Ok u → (v : ModelVerdict) → says (asked a) cs m ≡ verdict v → u.verdict ≡ case_of v → TurnAfter p (state_after s acts) acts a w
+      unfolding state_or
+      turn-taken u is v h r =
+          let x = state_after s acts in
+          let mine = here ∙ ap (state_or x) is in
+          let tells-counts = λ (n k : ℕ) (c : Counts a n k). subst (λ (i : Result Ran Refusal). Counted i n k) is (counts n k c) in
+          record {
+            taken = ((λ e. impossible (cc)), λ b. clash (said-here v h) (test ∙ lt-leb _ _ b));
+            answered = λ i. (u, is, says-after u mine tells-counts v h r);
+          }
+        where
+          said-here : (v : ModelVerdict) → says (asked a) cs m ≡ verdict v → admitted (walk cs m) ≡ true
+          said-here v h = unfold says in said-admitted (asked a) (walk cs m) (λ e. impossible (let f = sym h ∙ e in cc))
 
-      turn-of : TurnAfter p (state_after s acts) acts a q
+      turn-refused : (n : ℕ) → says (asked a) cs m ≡ refused n → w ≡ Err InvalidSearch → TurnAfter p (state_after s acts) acts a w
       unfolding says
-      turn-of = by-reply (says (asked a) cs m) refl (replies (says (asked a) cs m) acts-here.tells.replies)
+      turn-refused n h is =
+          let out = refused-only (asked a) (walk cs m) n h in
+          record {
+            taken = ((λ e. leb-false _ _ (sym test ∙ out)), λ b. is);
+            answered = λ i. clash (test ∙ le-leb _ _ i) out;
+          }
+
+      by-reply : (i : Result Ran Refusal) → w ≡ i → (r : Reply) → says (asked a) cs m ≡ r → Says i r → TurnAfter p (state_after s acts) acts a w
+      by-reply (Ok u) is (verdict v) h r = turn-taken u is v h r
+      by-reply (Ok u) is (exclusion x) h r = absurd r
+      by-reply (Ok u) is (refused n) h r = absurd r
+      by-reply (Err d) is (verdict v) h r = absurd r
+      by-reply (Err d) is (exclusion x) h r = absurd r
+      by-reply (Err d) is (refused n) h r = turn-refused n h (is ∙ ap (λ (x : Refusal). Err x) r)
+
+      turn-of : TurnAfter p (state_after s acts) acts a w
+      unfolding says
+      turn-of = by-reply w refl (says (asked a) cs m) refl (replies (says (asked a) cs m) acts-here.tells.replies)
 
   -- ---- a strike
-  module _ (acts : List Action) (e : Excluded) (d : DoneFrom s (own.excluded e ∷ acts)) where
+  module _ (acts : List Action) (e : Result Excluded Refusal) (d : DoneFrom s (own.excluded e ∷ acts)) where
     struck-test : admitted (walk (calls_of acts) m) ≡ leb (state_after s acts).propagations max_propagations
     struck-test = tests acts (follows acts d.1)
 
-    strike-by : (r : Reply) → says strike (calls_of acts) m ≡ r → Replies (own.excluded e) r → StrikeAfter p (state_after s acts) acts e
+    strike-taken : (u : Excluded) → e ≡ Ok u → (x : Exclusion) → says strike (calls_of acts) m ≡ exclusion x → u.answer ≡ out_of x → StrikeAfter p (state_after s acts) acts e
     unfolding says asked out_of earlier
-    strike-by (verdict v) h q = absurd q
-    strike-by (refused n) h q =
-        let out = refused-only strike (walk (calls_of acts) m) n h in
-        record {
-          taken = (λ i. leb-false _ _ (sym struck-test ∙ out), λ b. q);
-          no-form = λ w. clash (struck-test ∙ le-leb _ _ w) out;
-          complete = λ i. impossible (cc);
-        }
-    strike-by (exclusion x) h q =
+    strike-taken u is x h q =
         let taken_here = said-admitted strike (walk (calls_of acts) m) (λ i. impossible (let f = sym h ∙ i in cc)) in
         record {
-          taken = (λ i. absurd (out-valid x (sym q ∙ i)), λ b. clash taken_here (struck-test ∙ lt-leb _ _ b));
-          no-form = λ w i. subst (Replies (own.excluded e)) (sym h ∙ z.no-form (calls_of acts) taken_here (sym (follows acts d.1).stand ∙ i)) q;
-          complete = λ i. shows-all acts (own.excluded e) d (inl (h ∙ ap exclusion (out-ended x (sym q ∙ i))));
+          taken = ((λ i. impossible (cc)), λ b. clash taken_here (struck-test ∙ lt-leb _ _ b));
+          answered = λ w. (
+            u,
+            is,
+            λ i. let k : exclusion x ≡ exclusion unsolved = sym h ∙ z.no-form (calls_of acts) taken_here (sym (follows acts d.1).stand ∙ i) in
+                let j : x ≡ unsolved = cc in
+                q ∙ ap out_of j,
+          );
+          complete = λ t j i. let k : t ≡ u = (let f = sym j ∙ is in cc) in
+              shows-all acts (own.excluded e) d (inl (h ∙ ap exclusion (out-ended x (sym q ∙ ap (λ (y : Excluded). y.answer) (sym k) ∙ i))));
         }
+
+    struck-refused : (n : ℕ) → says strike (calls_of acts) m ≡ refused n → e ≡ Err InvalidSearch → StrikeAfter p (state_after s acts) acts e
+    unfolding says
+    struck-refused n h is =
+        let out = refused-only strike (walk (calls_of acts) m) n h in
+        record {
+          taken = ((λ i. leb-false _ _ (sym struck-test ∙ out)), λ b. is);
+          answered = λ w. clash (struck-test ∙ le-leb _ _ w) out;
+          complete = λ t j i. impossible (cc);
+        }
+
+    strike-by : (i : Result Excluded Refusal) → e ≡ i → (r : Reply) → says strike (calls_of acts) m ≡ r → Strikes i r → StrikeAfter p (state_after s acts) acts e
+    strike-by (Ok u) is (verdict v) h q = absurd q
+    strike-by (Ok u) is (exclusion x) h q = strike-taken u is x h q
+    strike-by (Ok u) is (refused n) h q = absurd q
+    strike-by (Err y) is (verdict v) h q = absurd q
+    strike-by (Err y) is (exclusion x) h q = absurd q
+    strike-by (Err y) is (refused n) h q = struck-refused n h (is ∙ ap (λ (x : Refusal). Err x) q)
 
     strike-of : StrikeAfter p (state_after s acts) acts e
     unfolding says asked earlier
-    strike-of = strike-by (says strike (calls_of acts) m) refl (acts-here acts (own.excluded e) d).tells.replies
+    strike-of = strike-by e refl (says strike (calls_of acts) m) refl (acts-here acts (own.excluded e) d).tells.replies
 
   -- ---- a listing
-  list_of : (acts : List Action) (old new : List ℤ) (r : Listed) → DoneFrom s (listed old new r ∷ acts) → ListAfter p (state_after s acts) acts old new r
-  unfolding state_of last_run calls_of asked earlier
+  list_of : (acts : List Action) (old new : List ℤ) (r : Result Listed Refusal) → DoneFrom s (listed old new r ∷ acts) → ListAfter p (state_after s acts) acts old new r
+  unfolding state_of calls_of asked earlier
   list_of acts old new r d =
       let f = follows acts d.1 in
       let a = listed old new r in
@@ -327,5 +360,9 @@ module _ (p : Problem) (s : Search) (m : model.Search) (start : view s ≡ m) (z
 pub listings-hold-from : ListingsHoldFrom
 listings-hold-from =
     record {
-      opening = λ s a o h. let p = problem_from s in let f = fine-source s a in listing-of p o.state (open_problem p) (fresh s a o h).start (listings-of-problems.lists p f) (place.listed p f);
+      opening = λ s a o h.
+          let p = problem_from s in
+          let f = fine-source s a in
+          let x = fresh s a o h in
+          record { state = x.state; accepted = x.done; listing = listing-of p x.state (open_problem p) x.start (listings-of-problems.lists p f) (place.listed p f) };
     }

@@ -6,10 +6,11 @@ use lib.Dec.{T}
 use lib.ListN.{take, drop, length}
 use lib.Seq.{take_at}
 use borrow.Author.Tests.{eq-eqb}
+use Rattle.std.specs.Prelude.{Result, Ok, Err}
 use Rattle.model_files.specs.Bytes.{Bytes}
 use Rattle.model_files.specs.File.{Written, problem_in, read_error, read_file, file_of, file_length, write_error, written_by, write_file}
 use Rattle.model_problems.specs.Lists.{all_of}
-use Rattle.model_problems.specs.Problem.{variables}
+use Rattle.model_problems.specs.Problem.{variables, ok}
 use Rattle.model_walk.specs.Validity.{constraint_shaped}
 use Rattle.lists.proofs.All.{all-of}
 use Rattle.lists.proofs.AllOf.{all_of-tab}
@@ -22,32 +23,33 @@ use Rattle.format.proofs.FileIsWritten.{read-then-written}
 use Rattle.format.proofs.WrittenIsRead.{writable, written-is-read}
 use Rattle.layout.proofs.Rows.{length-box}
 use Rattle.layout.specs.Rows.{row_length, number_in, cell, divided_at, input_at, thresholds_of}
-use Rattle.problem.specs.declared.Answer.{Answer}
-use Rattle.problem.specs.declared.Answer.TheVariants.{Done}
 use Rattle.problem.specs.declared.Problem.{Problem}
-use Rattle.problem.specs.declared.Reading.{Reading}
-use Rattle.problem.specs.Answer.{number, written}
-use Rattle.problem.specs.View.{problem_of, packed, SeenReading, seen_read, reading_of}
-use Rattle.problem.proofs.Numbers.{done, reading-number}
+use Rattle.problem.specs.declared.Refusal.{Refusal}
+use Rattle.problem.specs.Answer.{number_of, seen_by, shown_by, written}
+use Rattle.problem.specs.View.{problem_of, packed, seen_read, reading_of}
+use Rattle.problem.proofs.Numbers.{taken, taken-by, reading-number}
 use Rattle.problem.proofs.Views.{view-of-packed, view-of-accepted}
 use Rattle.calls.specs.RoundTrips.{RoundTrips}
 
 -- ---- a file that `read` accepts, written into a buffer with room for it, stands there as it was, and the bytes after it are kept
-module _ (f : List ℕ) (r : Reading) (reads : seen_read r ≡ reading_of (read_file f)) (accepted : r.answer ≡ Done) where
+module _ (f : List ℕ) (p : Problem) (reads : seen_read (Ok p) ≡ reading_of (read_file f)) where
   pub no-error : read_error f ≡ 0
-  unfolding number
-  no-error = sym (reading-number f r reads) ∙ ap number accepted
+  unfolding number_of
+  no-error = sym (reading-number f (Ok p) reads)
 
-  pub problem-read : problem_of r.problem ≡ problem_in f
-  unfolding read_file seen_read reading_of
-  problem-read = ap (λ (q : SeenReading). problem_of q.problem) (reads ∙ ap reading_of (result_ok (problem_in f) no-error)) ∙ view-of-accepted f no-error
+  pub problem-read : problem_of p ≡ problem_in f
+  unfolding read_file seen_read seen_by reading_of shown_by
+  problem-read =
+      let e : ok p ≡ ok (packed (problem_in f)) = reads ∙ ap reading_of (result_ok (problem_in f) no-error) in
+      let q : p ≡ packed (problem_in f) = cc in
+      ap problem_of q ∙ view-of-accepted f no-error
 
-  file-read-then-written : Bytes f → (b : List ℕ) → length f ≤ length b → (a : Answer) (s : List ℕ) → written a s ≡ write_file (problem_of r.problem) b →
-      (a ≡ Done) × (s ≡ f ++ drop (length f) b)
+  file-read-then-written : Bytes f → (b : List ℕ) → length f ≤ length b → (a : Result (Unit {0}) Refusal) (s : List ℕ) → written a s ≡ write_file (problem_of p) b →
+      (a ≡ Ok tt) × (s ≡ f ++ drop (length f) b)
   unfolding written
   file-read-then-written y b l a s w =
       let e : written a s ≡ record { number = 0; buffer = f ++ drop (length f) b } = w ∙ rw problem-read (read-then-written f y no-error b l) in
-      (done a (ap (λ (q : Written). q.number) e), ap (λ (q : Written). q.buffer) e)
+      ((taken a (ap (λ (q : Written). q.number) e)).1, ap (λ (q : Written). q.buffer) e)
 
 -- ---- a problem that `write` accepts, read from the bytes that were written, is the problem with zeros past its last variable and its last constraint
 pub inputs-shaped : (p : Problem) → T (all_of (constraint_shaped (variables (problem_of p))) (problem_of p).constraints)
@@ -62,13 +64,10 @@ thresholds-even : (p : Problem) → length (problem_of p).thresholds ≡ variabl
 unfolding problem_of variables thresholds_of
 thresholds-even p = length-tab (number_in p.thresholds) 0 p.n ∙ sym (length-box p.n p.lower p.upper)
 
-same-reading : {a b : Answer} {p q : Problem} → a ≡ b → p ≡ q → ◌≡◌ {A = Reading} (record { answer = a; problem = p }) (record { answer = b; problem = q })
-same-reading d g = cc
-
-module _ (p : Problem) (b : List ℕ) (a : Answer) (s : List ℕ) (writes : written a s ≡ write_file (problem_of p) b) (accepted : a ≡ Done) where
+module _ (p : Problem) (b s : List ℕ) (writes : written (Ok tt) s ≡ write_file (problem_of p) b) where
   number_is : (written_by (write_error (problem_of p) (length b)) (problem_of p) b).number ≡ 0
-  unfolding write_file written number
-  number_is = ap (λ (q : Written). q.number) (sym writes) ∙ ap number accepted
+  unfolding write_file written number_of
+  number_is = ap (λ (q : Written). q.number) (sym writes)
 
   no-error-by : (e : ℕ) → (written_by e (problem_of p) b).number ≡ 0 → e ≡ 0
   unfolding written_by
@@ -87,11 +86,11 @@ module _ (p : Problem) (b : List ℕ) (a : Answer) (s : List ℕ) (writes : writ
       ap (take (file_length (problem_of p))) bytes-are ∙
       take_at (file_of (problem_of p)) (drop (file_length (problem_of p)) b) (file_length (problem_of p)) (length-written (problem_of p) (length b) writes-no-error)
 
-  problem-written-then-read : (r : Reading) → seen_read r ≡ reading_of (read_file (take (file_length (problem_of p)) s)) → r ≡ record { answer = Done; problem = packed (problem_of p) }
-  unfolding seen_read reading_of
+  problem-written-then-read : (r : Result Problem Refusal) → seen_read r ≡ reading_of (read_file (take (file_length (problem_of p)) s)) → r ≡ Ok (packed (problem_of p))
+  unfolding seen_read reading_of shown_by
   problem-written-then-read r e =
-      let f : seen_read r ≡ record { number = 0; problem = packed (problem_of p) } = e ∙ rw file-is (ap reading_of (written-is-read (problem_of p) (length b) (inputs-shaped p) writes-no-error)) in
-      same-reading (done r.answer (ap (λ (q : SeenReading). q.number) f)) (ap (λ (q : SeenReading). q.problem) f)
+      let x = taken-by (λ (q : Problem). q) r (packed (problem_of p)) (e ∙ rw file-is (ap reading_of (written-is-read (problem_of p) (length b) (inputs-shaped p) writes-no-error))) in
+      x.1 ∙ ap (λ (q : Problem). Ok q) x.2
 
   -- and those arrays say what the problem's said
   view-of-written : problem_of (packed (problem_of p)) ≡ problem_of p

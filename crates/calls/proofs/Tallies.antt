@@ -18,6 +18,8 @@ use Rattle.soundness.proofs.Standing.{answered}
 use Rattle.soundness.proofs.InPlace.{rounds, Ready}
 use Rattle.state.specs.View.{view}
 use Rattle.state.specs.declared.Search.{Search}
+use Rattle.std.specs.Prelude.{Result}
+use Rattle.problem.specs.declared.Refusal.{Refusal}
 use Rattle.shown.specs.declared.Excluded.{Excluded}
 use Rattle.calls.specs.Calls.{Call, stepped, traced as tracing, ran}
 use Rattle.calls.specs.Listing as own
@@ -36,7 +38,7 @@ call-sets (stepped r) s = refl
 call-sets (tracing old new r) s = refl
 call-sets (ran q) s = refl
 
-pub strike-sets : (e : Excluded) (s : model.Search) → cond (admitted s) (own.set_by (own.excluded e) s) 0 ≡ set_by strike s
+pub strike-sets : (e : Result Excluded Refusal) (s : model.Search) → cond (admitted s) (own.set_by (own.excluded e) s) 0 ≡ set_by strike s
 unfolding own.set_by set_by turns_of bounds_set
 strike-sets e s = refl
 

@@ -1,33 +1,34 @@
 -- What is claimed of whoever calls `open` on an accepted file: the claims of Calls.antt and Listing.antt where the search starts from a file.
-use Rattle.std.specs.Prelude.{ℕ, List, ◌⊎◌, ◌≡◌, ◌≤◌}
+use Rattle.std.specs.Prelude.{ℕ, List, ◌⊎◌, ◌≡◌, ◌≤◌, Result, Ok}
 use Rattle.model_files.specs.File.{problem_in}
 use Rattle.model_walk.specs.Search.{open_file}
 use Rattle.model_problems.specs.Points.{points}
 use Rattle.model_claims.specs.Demand.{Accepted, SameSolutions, with_budget}
-use Rattle.shown.specs.Opening.{seen_opened, opening}
-use Rattle.shown.specs.declared.Opened.{Opened}
+use Rattle.problem.specs.declared.Refusal.{Refusal}
+use Rattle.state.specs.declared.Search.{Search}
+use Rattle.shown.specs.Opening.{seen_opened}
 use Rattle.answers.specs.declared.Ran.{Ran}
 use Rattle.answers.specs.declared.Verdict.TheVariants as verdict
 use Rattle.calls.specs.Calls.{Makes, ran, SameAnswer, OpeningFrom}
-use Rattle.calls.specs.Listing.{ListingOf}
+use Rattle.calls.specs.Listing.{ListingFrom}
 
 -- what the contract of `open` says
-abbrev pub Opens : List ℕ → Opened → Type 0
-Opens f o = seen_opened o ≡ opening (open_file f)
+abbrev pub Opens : List ℕ → Result Search Refusal → Type 0
+Opens f o = seen_opened o ≡ open_file f
 
--- of all lists of calls from one opening, and the run q from there
-abbrev pub Opening : List ℕ → Opened → Ran → Type 0
-Opening f o q = OpeningFrom (problem_in f) o q
+-- of one opening, all lists of calls from there, and each run
+abbrev pub Opening : List ℕ → Result Search Refusal → Type 0
+Opening f o = OpeningFrom (problem_in f) o
 
 -- a run after an opening
 pub record RunOf (f : List ℕ) (q : Ran) : Type 0 where
   pub fine : Accepted f
-  pub opened : Opened
-  pub opens : Opens f opened
-  pub runs : Makes opened.state (ran q)
+  pub opened : Search
+  pub opens : Opens f (Ok opened)
+  pub runs : Makes opened (ran (Ok q))
 
 pub record CallsHold : Type 0 where
-  pub opening : (f : List ℕ) → Accepted f → (o : Opened) → Opens f o → (q : Ran) → Makes o.state (ran q) → Opening f o q
+  pub opening : (f : List ℕ) → Accepted f → (o : Result Search Refusal) → Opens f o → Opening f o
   -- a smaller budget: the same answer, or 'spent', whatever the number of points
   pub smaller : (f g : List ℕ) (q u : Ran) → RunOf f q → RunOf g u → problem_in g ≡ with_budget (problem_in f) (problem_in g).budget →
       (problem_in g).budget ≤ (problem_in f).budget → SameAnswer u q ⊎ (u.verdict ≡ verdict.OutOfBudget)
@@ -45,4 +46,4 @@ pub record WithEnough : Type 0 where
       points (problem_in g) ≤ (problem_in g).budget → SameAnswer q u
 
 pub record ListingsHold : Type 0 where
-  pub opening : (f : List ℕ) → Accepted f → (o : Opened) → Opens f o → ListingOf (problem_in f) o.state
+  pub opening : (f : List ℕ) → Accepted f → (o : Result Search Refusal) → Opens f o → ListingFrom (problem_in f) o

@@ -1,5 +1,5 @@
--- N4 of whoever calls `open` on an accepted file, and then `step`, `trace`, `run`, `exclude` and `list` in any order, each on the state that the call before returned.
-use Rattle.std.specs.Prelude.{ℕ, zero, suc, ◌+◌, ◌-◌, ◌*◌, ◌/◌, ◌≤◌, ◌<◌, Bool, true, false, cond, List, [], ◌∷◌, ◌++◌, map, ◌⊎◌, ◌↔◌, ◌≡◌, ℤ, length, take, drop}
+-- N4 of whoever calls `open` on an accepted file, and then `step`, `trace`, `run`, `exclude` and `list` in any order, each on the state that the call before left.
+use Rattle.std.specs.Prelude.{ℕ, zero, suc, ◌+◌, ◌-◌, ◌*◌, ◌/◌, ◌≤◌, ◌<◌, Bool, true, false, cond, List, [], ◌∷◌, ◌++◌, map, ◌⊎◌, ◌↔◌, ◌≡◌, Result, Ok, Err, ℤ, length, take, drop}
 use Rattle.std.proofs.Math.Option.{some}
 use Rattle.std.proofs.Math.ListN.{get_elem?}
 use Rattle.model_files.specs.Bytes.{block_length}
@@ -13,12 +13,13 @@ use Rattle.model_walk.specs.Exclude.{exclude}
 use Rattle.model_walk.specs.Propagations.{bounds_set}
 use Rattle.model_problems.specs.Points.{Point, points, Solution, all_solutions}
 use Rattle.model_claims.specs.Demand.{MeetsCuts}
-use Rattle.fields.specs.Fields.{room, zeros}
 use Rattle.state.specs.View.{view}
 use Rattle.state.specs.declared.Search.{Search}
+use Rattle.shown.specs.Seen.{padded}
 use Rattle.shown.specs.Excluding.{seen_excluded, exclude_seen}
 use Rattle.shown.specs.Listing.{seen_listed, list_seen}
-use Rattle.shown.specs.declared.Opened.{Opened}
+use Rattle.problem.specs.declared.Refusal.{Refusal}
+use Rattle.problem.specs.declared.Refusal.TheVariants.{InvalidSearch}
 use Rattle.answers.specs.declared.Ran.{Ran}
 use Rattle.shown.specs.declared.Excluded.{Excluded}
 use Rattle.shown.specs.declared.Exclusion.{Exclusion}
@@ -26,33 +27,39 @@ use Rattle.shown.specs.declared.Exclusion.TheVariants as exclusion
 use Rattle.answers.specs.declared.Listed.{Listed}
 use Rattle.answers.specs.declared.Verdict.{Verdict}
 use Rattle.answers.specs.declared.Verdict.TheVariants as verdict
-use Rattle.calls.specs.Calls.{Source, problem_from, Fine, OpensFrom, Call, stepped, traced, ran, Makes, told, parts_at, given, SameAnswer, SameCounts}
+use Rattle.calls.specs.Calls.{Source, problem_from, Fine, OpensFrom, Call, stepped, traced, ran, Makes, mapped, told, state_or, parts_at, given, SameAnswer, SameCounts}
 
 -- ---- the calls, strikes and listings among them: what their contracts say of an answer
 -- of a listing the buffer's numbers too, before and after
 pub data Action : Type 0 where
   called : Call → Action
-  excluded : Excluded → Action
-  listed : List ℤ → List ℤ → Listed → Action
+  excluded : Result Excluded Refusal → Action
+  listed : List ℤ → List ℤ → Result Listed Refusal → Action
 
 abbrev pub Does : Search → Action → Type 0
 Does s (called c) = Makes s c
 Does s (excluded e) = seen_excluded e ≡ exclude_seen s
 Does s (listed old new r) = seen_listed r new ≡ list_seen s old
 
--- what the run after a listing's last strike gives
-unfoldable pub last_run : Listed → Ran
-last_run r = record { verdict = r.verdict; values = r.values; count = r.count; propagations = r.propagations; state = r.state }
+-- what the run after a listing's last strike gives, and how many it strikes out: none where it is refused
+unfoldable pub last_run : Result Listed Refusal → Result Ran Refusal
+last_run r = mapped (λ (l : Listed). l.last) r
 
-unfoldable pub state_of : Action → Search
-state_of (called c) = (told c).state
-state_of (excluded e) = e.state
-state_of (listed old new r) = r.state
+unfoldable pub struck_of : Result Listed Refusal → ℕ
+struck_of (Ok l) = l.struck
+struck_of (Err e) = 0
+
+-- the state after an action on x: one that is refused leaves x
+unfoldable pub state_of : Search → Action → Search
+state_of x (called c) = state_or x (told c)
+state_of x (excluded (Ok e)) = e.state
+state_of x (excluded (Err e)) = x
+state_of x (listed old new r) = state_or x (last_run r)
 
 -- ---- a list of calls; the latest comes first
 unfoldable pub state_after : Search → List Action → Search
 state_after s [] = s
-state_after s (a ∷ acts) = state_of a
+state_after s (a ∷ acts) = state_of (state_after s acts) a
 
 abbrev pub DoneFrom : Search → List Action → Type 0
 DoneFrom s [] = Unit {0}
@@ -78,38 +85,41 @@ NoRun (excluded e ∷ acts) = NoRun acts
 NoRun (listed old new r ∷ acts) = ⊥
 
 -- ---- the solutions that they show, each as an array of 32 numbers
-unfoldable pub padded : Point → List ℤ
-padded x = x ++ zeros (room - length x)
+unfoldable pub solution_in : Verdict → List (List ℤ)
+solution_in verdict.GoOn = []
+solution_in verdict.NoSolution = []
+solution_in verdict.OutOfBudget = []
+solution_in (verdict.Solution values) = values ∷ []
 
-unfoldable pub solution_in : Verdict → List ℤ → List (List ℤ)
-solution_in verdict.GoOn values = []
-solution_in verdict.NoSolution values = []
-solution_in verdict.OutOfBudget values = []
-solution_in verdict.Solution values = values ∷ []
-solution_in verdict.Invalid values = []
+unfoldable pub solutions_in : Result Ran Refusal → List (List ℤ)
+solutions_in (Ok u) = solution_in u.verdict
+solutions_in (Err e) = []
 
 -- those that a listing strikes out: so many rows at the start of its buffer, a number for each variable
-unfoldable pub rows_of : List ℤ → Listed → List Point
-rows_of new r = parts_at r.state.n r.struck new
+unfoldable pub rows_of : List ℤ → Result Listed Refusal → List Point
+rows_of new (Ok l) = parts_at l.last.state.n l.struck new
+rows_of new (Err e) = []
 
 unfoldable pub shown_by : Action → List (List ℤ)
-shown_by (called c) = solution_in (told c).verdict (told c).values
+shown_by (called c) = solutions_in (told c)
 shown_by (excluded e) = []
-shown_by (listed old new r) = map padded (rows_of new r) ++ solution_in r.verdict r.values
+shown_by (listed old new r) = map padded (rows_of new r) ++ solutions_in (last_run r)
 
 -- whether a solution stands shown: one was, and was not struck out since
 unfoldable pub stands_at : Verdict → Bool → Bool
 stands_at verdict.GoOn b = b
 stands_at verdict.NoSolution b = b
 stands_at verdict.OutOfBudget b = b
-stands_at verdict.Solution b = true
-stands_at verdict.Invalid b = b
+stands_at (verdict.Solution values) b = true
+
+unfoldable pub stands_with : Result Ran Refusal → Bool → Bool
+stands_with (Ok u) b = stands_at u.verdict b
+stands_with (Err e) b = b
 
 unfoldable pub stands_behind : Exclusion → Bool → Bool
 stands_behind exclusion.Struck b = false
 stands_behind exclusion.Ended b = b
 stands_behind exclusion.Unsolved b = b
-stands_behind exclusion.Invalid b = b
 
 -- behind so many strikes
 unfoldable pub stands_past : ℕ → Bool → Bool
@@ -117,9 +127,10 @@ stands_past zero b = b
 stands_past (suc k) b = false
 
 unfoldable pub stands_after : Action → Bool → Bool
-stands_after (called c) b = stands_at (told c).verdict b
-stands_after (excluded e) b = stands_behind e.answer b
-stands_after (listed old new r) b = stands_at r.verdict (stands_past r.struck b)
+stands_after (called c) b = stands_with (told c) b
+stands_after (excluded (Ok e)) b = stands_behind e.answer b
+stands_after (excluded (Err e)) b = b
+stands_after (listed old new r) b = stands_with (last_run r) (stands_past (struck_of r) b)
 
 unfoldable pub stands : List Action → Bool
 stands [] = false
@@ -135,12 +146,12 @@ unfoldable pub strikes_in : Exclusion → ℕ
 strikes_in exclusion.Struck = 1
 strikes_in exclusion.Ended = 0
 strikes_in exclusion.Unsolved = 0
-strikes_in exclusion.Invalid = 0
 
 unfoldable pub strikes_by : Action → ℕ
 strikes_by (called c) = 0
-strikes_by (excluded e) = strikes_in e.answer
-strikes_by (listed old new r) = r.struck
+strikes_by (excluded (Ok e)) = strikes_in e.answer
+strikes_by (excluded (Err e)) = 0
+strikes_by (listed old new r) = struck_of r
 
 unfoldable pub strikes : List Action → ℕ
 strikes [] = 0
@@ -165,7 +176,7 @@ set_in_runs (suc k) s = bounds_set (turns_left s) s + set_in_runs k (exclude (ru
 unfoldable pub set_by : Action → model.Search → ℕ
 set_by (called c) s = bounds_set (turns_in c s) s
 set_by (excluded e) s = 0
-set_by (listed old new r) s = set_in_runs r.struck s
+set_by (listed old new r) s = set_in_runs (struck_of r) s
 
 -- a call that is refused takes no turn
 unfoldable pub set_in : Search → List Action → ℕ
@@ -198,12 +209,14 @@ Due false (excluded e) = ⊥
 Due false (listed old new r) = Unit {0}
 
 -- it ends with 'ended', 'none', 'spent' or a refusal
-abbrev pub Closes : Ran → Type 0
-Closes q = (q.verdict ≡ verdict.NoSolution) ⊎ ((q.verdict ≡ verdict.OutOfBudget) ⊎ (q.verdict ≡ verdict.Invalid))
+abbrev pub Closes : Result Ran Refusal → Type 0
+Closes (Ok u) = (u.verdict ≡ verdict.NoSolution) ⊎ (u.verdict ≡ verdict.OutOfBudget)
+Closes (Err e) = Unit {0}
 
 abbrev pub Ends : Action → Type 0
 Ends (called c) = Closes (told c)
-Ends (excluded e) = (e.answer ≡ exclusion.Ended) ⊎ (e.answer ≡ exclusion.Invalid)
+Ends (excluded (Ok e)) = e.answer ≡ exclusion.Ended
+Ends (excluded (Err e)) = Unit {0}
 Ends (listed old new r) = Closes (last_run r)
 
 abbrev pub KeptUp : List Action → Type 0
@@ -231,52 +244,68 @@ pub record Lists (p : Problem) (s : Search) (acts : List Action) : Type 0 where
   pub ends : KeptUp acts → length acts < 2 * points p
 
 -- the action says q's verdict, values and counts again, and strikes nothing out
-abbrev pub SaysAgain : Ran → Action → Type 0
-SaysAgain q (called c) = SameAnswer (told c) q × SameCounts (told c) q
-SaysAgain q (excluded e) = ⊥
-SaysAgain q (listed old new r) = SameAnswer (last_run r) q × SameCounts (last_run r) q × (r.struck ≡ 0)
+abbrev pub Again : Ran → Result Ran Refusal → Type 0
+Again q (Ok u) = SameAnswer u q × SameCounts u q
+Again q (Err e) = ⊥
 
--- of the answer q with which the action a on state x ends, after the calls acts: that of a step, a trace or a run, or that of a listing's last run
-pub record TurnAfter (p : Problem) (x : Search) (acts : List Action) (a : Action) (q : Ran) : Type 0 where
-  -- it is refused exactly where N5's count has passed its limit
-  pub taken : (q.verdict ≡ verdict.Invalid) ↔ Beyond x
+abbrev pub SaysAgain : Ran → Action → Type 0
+SaysAgain q (called c) = Again q (told c)
+SaysAgain q (excluded e) = ⊥
+SaysAgain q (listed old new r) = Again q (last_run r) × (struck_of r ≡ 0)
+
+-- of the answer q with which the action a ends, after the calls acts: that of a step, a trace or a run, or that of a listing's last run
+pub record SaysAfter (p : Problem) (acts : List Action) (a : Action) (q : Ran) : Type 0 where
   -- however often a solution is shown: after k strikes it is the one at position k, counted from 0
-  pub position : q.verdict ≡ verdict.Solution → (v : Point) × (q.values ≡ padded v) × (get_elem? (all_solutions p) (strikes (a ∷ acts)) ≡ some v)
-  pub counted : Within x → (q.count ≡ q.state.conflicts) × (q.propagations ≡ q.state.propagations)
+  pub position : (values : List ℤ) → q.verdict ≡ verdict.Solution values → (v : Point) × (values ≡ padded v) × (get_elem? (all_solutions p) (strikes (a ∷ acts)) ≡ some v)
+  pub counted : (q.count ≡ q.state.conflicts) × (q.propagations ≡ q.state.propagations)
   -- 'none', 'spent' and a solution are said again until a strike
   pub again : ¬ (q.verdict ≡ verdict.GoOn) → Within q.state → (d : Action) → Due false d → Does q.state d → SaysAgain q d
   -- with 'none' every solution has been shown; with a budget of at least the points it never says 'spent'
   pub complete : q.verdict ≡ verdict.NoSolution → shown (a ∷ acts) ≡ map padded (all_solutions p)
   pub enough : points p ≤ p.budget → ¬ (q.verdict ≡ verdict.OutOfBudget)
 
+-- of what the action a on state x gives in the end, q
+pub record TurnAfter (p : Problem) (x : Search) (acts : List Action) (a : Action) (q : Result Ran Refusal) : Type 0 where
+  -- it is refused exactly where N5's count has passed its limit
+  pub taken : (q ≡ Err InvalidSearch) ↔ Beyond x
+  pub answered : Within x → (u : Ran) × (q ≡ Ok u) × SaysAfter p acts a u
+
 -- of a listing
-pub record ListAfter (p : Problem) (x : Search) (acts : List Action) (old new : List ℤ) (r : Listed) : Type 0 where
-  -- its last run, which ends with a verdict or is refused
+pub record ListAfter (p : Problem) (x : Search) (acts : List Action) (old new : List ℤ) (r : Result Listed Refusal) : Type 0 where
+  -- its last run, which ends with a verdict, unless it is refused
   pub last : TurnAfter p x acts (listed old new r) (last_run r)
-  pub ended : ¬ (r.verdict ≡ verdict.GoOn)
+  pub ended : (u : Ran) → last_run r ≡ Ok u → ¬ (u.verdict ≡ verdict.GoOn)
   -- where a solution stands, none is struck out; else a solution ends it only where there is no room left, where every solution has been shown, or where
   -- N5's count has passed its limit, so that a strike would be refused
-  pub marked : stands acts ≡ true → r.struck ≡ 0
-  pub full : stands acts ≡ false → r.verdict ≡ verdict.Solution → (r.struck ≡ length old / variables p) ⊎ ((shown (listed old new r ∷ acts) ≡ map padded (all_solutions p)) ⊎ Beyond r.state)
+  pub marked : stands acts ≡ true → struck_of r ≡ 0
+  pub full : stands acts ≡ false → (u : Ran) (values : List ℤ) → last_run r ≡ Ok u → u.verdict ≡ verdict.Solution values →
+      (struck_of r ≡ length old / variables p) ⊎ ((shown (listed old new r ∷ acts) ≡ map padded (all_solutions p)) ⊎ Beyond u.state)
   -- row j of the buffer is the solution at position k + j, where k were struck out before; the buffer's other numbers stay
-  pub rows : (j : ℕ) → j < r.struck → get_elem? (all_solutions p) (strikes acts + j) ≡ some (take (variables p) (drop (variables p * j) new))
-  pub rest : drop (variables p * r.struck) new ≡ drop (variables p * r.struck) old
-  pub inside : variables p * r.struck ≤ length old
+  pub rows : (j : ℕ) → j < struck_of r → get_elem? (all_solutions p) (strikes acts + j) ≡ some (take (variables p) (drop (variables p * j) new))
+  pub rest : drop (variables p * struck_of r) new ≡ drop (variables p * struck_of r) old
+  pub inside : variables p * struck_of r ≤ length old
   pub long : length new ≡ length old
-  pub wide : r.state.n ≡ variables p
+  pub wide : (state_of x (listed old new r)).n ≡ variables p
 
 -- of a strike on state x
-pub record StrikeAfter (p : Problem) (x : Search) (acts : List Action) (e : Excluded) : Type 0 where
-  pub taken : (e.answer ≡ exclusion.Invalid) ↔ Beyond x
-  pub no-form : Within x → stands acts ≡ false → e.answer ≡ exclusion.Unsolved
-  pub complete : e.answer ≡ exclusion.Ended → shown (excluded e ∷ acts) ≡ map padded (all_solutions p)
+pub record StrikeAfter (p : Problem) (x : Search) (acts : List Action) (e : Result Excluded Refusal) : Type 0 where
+  -- it is refused exactly where N5's count has passed its limit
+  pub taken : (e ≡ Err InvalidSearch) ↔ Beyond x
+  pub answered : Within x → (u : Excluded) × (e ≡ Ok u) × (stands acts ≡ false → u.answer ≡ exclusion.Unsolved)
+  pub complete : (u : Excluded) → e ≡ Ok u → u.answer ≡ exclusion.Ended → shown (excluded e ∷ acts) ≡ map padded (all_solutions p)
 
--- of all lists of calls from one opening
+-- of all lists of calls from the state of one opening
 pub record ListingOf (p : Problem) (s : Search) : Type 0 where
   pub lists : (acts : List Action) → DoneFrom s acts → Lists p s acts
   pub turn : (acts : List Action) (c : Call) → DoneFrom s (called c ∷ acts) → TurnAfter p (state_after s acts) acts (called c) (told c)
-  pub strike : (acts : List Action) (e : Excluded) → DoneFrom s (excluded e ∷ acts) → StrikeAfter p (state_after s acts) acts e
-  pub list : (acts : List Action) (old new : List ℤ) (r : Listed) → DoneFrom s (listed old new r ∷ acts) → ListAfter p (state_after s acts) acts old new r
+  pub strike : (acts : List Action) (e : Result Excluded Refusal) → DoneFrom s (excluded e ∷ acts) → StrikeAfter p (state_after s acts) acts e
+  pub list : (acts : List Action) (old new : List ℤ) (r : Result Listed Refusal) → DoneFrom s (listed old new r ∷ acts) → ListAfter p (state_after s acts) acts old new r
+
+-- of one opening: it is not refused
+pub record ListingFrom (p : Problem) (o : Result Search Refusal) : Type 0 where
+  pub state : Search
+  pub accepted : o ≡ Ok state
+  pub listing : ListingOf p state
 
 pub record ListingsHoldFrom : Type 0 where
-  pub opening : (s : Source) → Fine s → (o : Opened) → OpensFrom s o → ListingOf (problem_from s) o.state
+  pub opening : (s : Source) → Fine s → (o : Result Search Refusal) → OpensFrom s o → ListingFrom (problem_from s) o

@@ -1,7 +1,8 @@
--- A problem in arrays, test by test: where one fails the answer is its error.
+-- A problem in arrays, test by test: where one fails the refusal is its error.
+use Rattle.std.specs.Prelude.{Ok, Err}
 use Prim.Native.Nat.{◌≤◌}
 use native.Mathlib.Omega.{arith}
-use mathlib.Core.Bool.{Bool, true, false, not}
+use mathlib.Core.Bool.{Bool, true, false}
 use mathlib.Core.Path.{◌≡◌, refl, ◌∙◌}
 use lib.ListN.{length}
 use Rattle.model_problems.specs.Problem.{variables, sizes_in_range, domain_in_range, thresholds_in_range, constraints_in_range, divisors_in_range, first_error}
@@ -14,12 +15,16 @@ use Rattle.layout.specs.Rows.{input_at}
 use Rattle.layout.specs.Sizes.{sizes_fit}
 use Rattle.layout.proofs.Limits.{sizes-fit}
 use Rattle.layout.proofs.Rows.{length-box}
-use Rattle.problem.specs.declared.Answer.TheVariants.{Done, SizeRange, DomainRange, CoefficientRange, DivisorRange, ThresholdRange}
+use Rattle.problem.specs.declared.Refusal.TheVariants.{SizeRange, DomainRange, CoefficientRange, DivisorRange, ThresholdRange}
+use Rattle.problem.specs.declared.Refusal.{Refusal}
 use Rattle.problem.specs.declared.Problem.{Problem}
-use Rattle.problem.specs.Answer.{number}
+use Rattle.problem.specs.Answer.{number, number_of}
 use Rattle.problem.specs.View.{problem_of}
 
 module _ (p : Problem) where
+  abbrev Refused : Refusal → Type 0
+  Refused e = number_of {A = Unit {0}} (Err e) ≡ problem_error (problem_of p)
+
   -- ---- the sizes
   pub variable-count : variables (problem_of p) ≡ p.n
   unfolding variables problem_of
@@ -37,8 +42,8 @@ module _ (p : Problem) where
   pub sized : (r : Bool) → r ≡ sizes_fit p.n p.m p.budget → r ≡ true → sizes_in_range (problem_of p) ≡ true
   sized r t h = said-yes (sizes-are r t) h
 
-  pub size-range : (r : Bool) → r ≡ sizes_fit p.n p.m p.budget → r ≡ false → number SizeRange ≡ problem_error (problem_of p)
-  unfolding number problem_error first_error
+  pub size-range : (r : Bool) → r ≡ sizes_fit p.n p.m p.budget → r ≡ false → Refused SizeRange
+  unfolding number_of number problem_error first_error
   size-range r t h = rw (said-no (sizes-are r t) h)
 
   -- ---- the other numbers
@@ -52,25 +57,25 @@ module _ (p : Problem) where
     pub constraints-few : p.m ≤ max_constraints
     constraints-few = omega (arith, in-range.few-constraints, constraint-count)
 
-    pub domain-range : (r : Bool) → r ≡ domain_in_range (problem_of p) → r ≡ false → number DomainRange ≡ problem_error (problem_of p)
-    unfolding number problem_error first_error
+    pub domain-range : (r : Bool) → r ≡ domain_in_range (problem_of p) → r ≡ false → Refused DomainRange
+    unfolding number_of number problem_error first_error
     domain-range r e h = rw (t₄, said-no e h)
 
     module _ (t₅ : domain_in_range (problem_of p) ≡ true) where
-      pub threshold-range : (r : Bool) → r ≡ thresholds_in_range (problem_of p) → r ≡ false → number ThresholdRange ≡ problem_error (problem_of p)
-      unfolding number problem_error first_error
+      pub threshold-range : (r : Bool) → r ≡ thresholds_in_range (problem_of p) → r ≡ false → Refused ThresholdRange
+      unfolding number_of number problem_error first_error
       threshold-range r e h = rw (t₄, t₅, said-no e h)
 
       module _ (t₁₃ : thresholds_in_range (problem_of p) ≡ true) where
-        pub coefficient-range : (r : Bool) → r ≡ constraints_in_range (problem_of p) → r ≡ false → number CoefficientRange ≡ problem_error (problem_of p)
-        unfolding number problem_error first_error
+        pub coefficient-range : (r : Bool) → r ≡ constraints_in_range (problem_of p) → r ≡ false → Refused CoefficientRange
+        unfolding number_of number problem_error first_error
         coefficient-range r e h = rw (t₄, t₅, t₁₃, said-no e h)
 
         module _ (t₆ : constraints_in_range (problem_of p) ≡ true) where
-          pub divisor_range : (r : Bool) → r ≡ divisors_in_range (problem_of p) → r ≡ false → number DivisorRange ≡ problem_error (problem_of p)
-          unfolding number problem_error first_error
+          pub divisor_range : (r : Bool) → r ≡ divisors_in_range (problem_of p) → r ≡ false → Refused DivisorRange
+          unfolding number_of number problem_error first_error
           divisor_range r e h = rw (t₄, t₅, t₁₃, t₆, said-no e h)
 
-          pub no-error : divisors_in_range (problem_of p) ≡ true → number Done ≡ problem_error (problem_of p)
-          unfolding number problem_error first_error
+          pub no-error : divisors_in_range (problem_of p) ≡ true → number_of {A = Unit {0}} (Ok tt) ≡ problem_error (problem_of p)
+          unfolding number_of problem_error first_error
           no-error t₁₀ = rw (t₄, t₅, t₁₃, t₆, t₁₀)

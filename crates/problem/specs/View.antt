@@ -1,16 +1,16 @@
 -- What the arrays of a problem say, and the arrays of a problem: the code's `Problem` beside the model's.
-use Rattle.std.specs.Prelude.{ℕ, ◌/◌, ◌%◌, List, ℤ, get_or, length}
+use Rattle.std.specs.Prelude.{ℕ, ◌/◌, ◌%◌, List, ℤ, get_or, length, Result}
 use Rattle.model_problems.specs.Constraint.{Constraint, lower_at, upper_at}
 use Rattle.model_problems.specs.Threshold.{threshold_at}
 use Rattle.model_files.specs.File.{no_constraint}
 use Rattle.model_problems.specs.Lists.{tab}
 use Rattle.model_problems.specs.Problem as model
-use Rattle.model_problems.specs.Problem.{variables, Result, ok, error}
+use Rattle.model_problems.specs.Problem.{variables}
 use Rattle.layout.specs.Rows.{row_length, input_at, box_of, thresholds_of}
-use Rattle.fields.specs.Fields.{room, cells, divisor_room, zeros, in_row}
+use Rattle.fields.specs.Fields.{room, cells, divisor_room, in_row}
 use Rattle.problem.specs.declared.Problem.{Problem}
-use Rattle.problem.specs.declared.Reading.{Reading}
-use Rattle.problem.specs.Answer.{number}
+use Rattle.problem.specs.declared.Refusal.{Refusal}
+use Rattle.problem.specs.Answer.{seen_by, shown_by}
 
 -- What a problem's arrays say. Its n and m stay visible as lengths, whatever they are.
 unfoldable pub problem_of : Problem → model.Problem
@@ -42,18 +42,9 @@ packed p =
       thresholds = tab (threshold_at p.thresholds) 0 room;
     }
 
--- ---- what reading shows: its answer's number, and the problem's arrays
-pub record SeenReading : Type 0 where
-  pub number : ℕ
-  pub problem : Problem
+-- ---- what reading shows: the problem's arrays, or the number of the refusal
+unfoldable pub seen_read : Result Problem Refusal → model.Result Problem
+seen_read r = seen_by (λ p. p) r
 
-unfoldable pub seen_read : Reading → SeenReading
-seen_read r = record { number = number r.answer; problem = r.problem }
-
--- what an error shows of the problem
-unfoldable pub empty : Problem
-empty = record { n = 0; m = 0; budget = 0; lower = zeros room; upper = zeros room; constraints = zeros cells; divisors = zeros divisor_room; thresholds = zeros room }
-
-unfoldable pub reading_of : Result model.Problem → SeenReading
-reading_of (ok p) = record { number = 0; problem = packed p }
-reading_of (error e) = record { number = e; problem = empty }
+unfoldable pub reading_of : model.Result model.Problem → model.Result Problem
+reading_of r = shown_by packed r

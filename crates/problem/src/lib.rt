@@ -1,11 +1,11 @@
-// Problems, document 01's 'plans', the numbers of errors, and the tests of a problem's numbers that reading, writing and opening share.
+// Problems, document 01's 'plans', the refusals with their numbers, and the tests of a problem's numbers that reading, writing and opening share.
 #![tactic(auto)]
 
 pub mod range;
 
 ghost use Rattle.std.specs.Prelude.{◌≡◌};
 ghost use Rattle.model_acceptance.specs.Acceptable.{problem_error};
-ghost use Rattle.problem.specs.Answer.{number};
+ghost use Rattle.problem.specs.Answer.{number, number_of};
 ghost use Rattle.problem.specs.View.{problem_of};
 
 use layout::range::sizes_in_range;
@@ -30,10 +30,9 @@ pub struct Problem {
     pub thresholds: [i64; 32],
 }
 
-// Document 01's table with document 02's 10 and 13, 0 to 10 and 13 in this order; `Done` where none of its conditions holds.
-#[derive(Clone, Copy)]
-pub enum Answer {
-    Done,
+// Why a call is refused: document 01's table with document 02's 10 and 13, 1 to 10 and 13 in this order.
+#[derive(Clone, Copy, Debug, PartialEq, Eq)]
+pub enum Refusal {
     Truncated,
     BadChecksum,
     BadMagic,
@@ -47,51 +46,46 @@ pub enum Answer {
     ThresholdRange,
 }
 
-// An answer's number in the documents' tables, 0 where there is no error.
-pub fn error_number(answer: Answer) -> usize
-    ensures { result ≡ number answer }
-{
-    match answer {
-        Answer::Done => 0,
-        Answer::Truncated => 1,
-        Answer::BadChecksum => 2,
-        Answer::BadMagic => 3,
-        Answer::SizeRange => 4,
-        Answer::DomainRange => 5,
-        Answer::CoefficientRange => 6,
-        Answer::NonzeroPadding => 7,
-        Answer::ShortBuffer => 8,
-        Answer::InvalidSearch => 9,
-        Answer::DivisorRange => 10,
-        Answer::ThresholdRange => 13,
+impl Refusal {
+    // Its number in the documents' tables.
+    #[tactic(auto, unfolding(crate::specs::Answer::number))]
+    pub fn number(self) -> usize
+        ensures { result ≡ number self }
+    {
+        match self {
+            Refusal::Truncated => 1,
+            Refusal::BadChecksum => 2,
+            Refusal::BadMagic => 3,
+            Refusal::SizeRange => 4,
+            Refusal::DomainRange => 5,
+            Refusal::CoefficientRange => 6,
+            Refusal::NonzeroPadding => 7,
+            Refusal::ShortBuffer => 8,
+            Refusal::InvalidSearch => 9,
+            Refusal::DivisorRange => 10,
+            Refusal::ThresholdRange => 13,
+        }
     }
 }
 
-// What reading gives: the problem, or an error and a problem of zeros.
-#[derive(Clone, Copy)]
-pub struct Reading {
-    pub answer: Answer,
-    pub problem: Problem,
-}
-
-// Whether a problem is acceptable: the first error that applies, in the order 4, 5, 13, 6, 10, which is what writing it into a long buffer answers.
-pub fn check(problem: Problem) -> Answer
-    ensures { number result ≡ problem_error (problem_of problem) }
+// Whether a problem is acceptable, or else the first refusal that applies, in the order 4, 5, 13, 6, 10, which is what writing it into a long buffer answers.
+pub fn check(problem: Problem) -> Result<(), Refusal>
+    ensures { number_of result ≡ problem_error (problem_of problem) }
 {
     if !sizes_in_range(problem.n, problem.m, problem.budget) {
-        return Answer::SizeRange;
+        return Err(Refusal::SizeRange);
     }
     if !range::domain_in_range(problem) {
-        return Answer::DomainRange;
+        return Err(Refusal::DomainRange);
     }
     if !range::thresholds_in_range(problem) {
-        return Answer::ThresholdRange;
+        return Err(Refusal::ThresholdRange);
     }
     if !range::constraints_in_range(problem) {
-        return Answer::CoefficientRange;
+        return Err(Refusal::CoefficientRange);
     }
     if !range::divisors_in_range(problem) {
-        return Answer::DivisorRange;
+        return Err(Refusal::DivisorRange);
     }
-    Answer::Done
+    Ok(())
 }

@@ -1,61 +1,80 @@
--- Reading, test by test: where one fails the reading is its error, and where all pass it is the problem.
-use Prim.Native.Nat.{ℕ, suc, ◌*◌, ◌≤◌}
+-- Reading, test by test: where one fails the reading is its refusal, and where all pass it is the problem.
+use Prim.Native.Nat.{ℕ, zero, suc, ◌*◌, ◌≤◌}
 use native.Mathlib.Omega.{arith}
-use mathlib.Core.Bool.{Bool, true, false, ◌&&◌, not}
+use mathlib.Core.Bool.{Bool, true, false, ◌&&◌, cond}
 use mathlib.Core.Path.{◌≡◌, refl, ap, ◌∙◌}
-use mathlib.Core.List.{List}
+use mathlib.Core.List.{List, [], ◌∷◌}
+use lib.Dec.{eqb, eqb-suc-zero}
 use lib.ListN.{length}
 use borrow.Author.Tests.{leb-true, eqb-true}
+use Rattle.std.specs.Prelude.{Ok, Err}
 use Rattle.model_files.specs.Bytes.{block_length}
 use Rattle.model_files.specs.File.{constraints_in, problem_in, whole_blocks, checks_match, magic_matches, block_count_matches, padding_zero, read_error, read_file}
 use Rattle.model_problems.specs.Problem.{sizes_in_range, domain_in_range, thresholds_in_range, constraints_in_range, divisors_in_range, first_error, result_of}
+use Rattle.model_acceptance.specs.Acceptable.{problem_error}
 use Rattle.lists.proofs.Bools.{said-no, said-yes, and-true}
 use Rattle.format.proofs.AcceptedShape.{Sizes, sizes, variables-in, constraints-in}
-use Rattle.problem.specs.declared.Answer.{Answer}
-use Rattle.problem.specs.declared.Answer.TheVariants.{Done, Truncated, BadChecksum, BadMagic, SizeRange, DomainRange, CoefficientRange, NonzeroPadding, DivisorRange, ThresholdRange}
+use Rattle.problem.specs.declared.Refusal.{Refusal}
+use Rattle.problem.specs.declared.Refusal.TheVariants.{Truncated, BadChecksum, BadMagic, SizeRange, NonzeroPadding}
 use Rattle.problem.specs.declared.Problem.{Problem}
-use Rattle.problem.specs.declared.Reading.{Reading}
-use Rattle.problem.specs.Answer.{number}
+use Rattle.problem.specs.Answer.{number, number_of, seen_by, shown_by}
 use Rattle.fields.specs.Fields.{sizes_match, Blocks}
-use Rattle.problem.specs.View.{problem_of, packed, empty, seen_read, reading_of}
+use Rattle.problem.specs.View.{problem_of, packed, seen_read, reading_of}
+use Rattle.problem.proofs.Numbers.{numbered}
 use Rattle.problem.proofs.Views.{view-of-file}
 
 module _ (f : List ℕ) where
-  error-is : (e : ℕ) (a : Answer) (q : Reading) → read_error f ≡ suc e → number a ≡ suc e → q ≡ record { answer = a; problem = empty } → seen_read q ≡ reading_of (read_file f)
-  unfolding read_file result_of reading_of seen_read
-  error-is e a q h n g = rw (g, h, n)
+  abbrev Refuses : Refusal → Type 0
+  Refuses e = seen_read (Err e) ≡ reading_of (read_file f)
 
-  pub truncated : (r : Bool) (q : Reading) → r ≡ whole_blocks f → r ≡ false → q ≡ record { answer = Truncated; problem = empty } → seen_read q ≡ reading_of (read_file f)
+  refused : (k : ℕ) (e : Refusal) → read_error f ≡ suc k → number e ≡ suc k → Refuses e
+  unfolding read_file result_of reading_of shown_by seen_read seen_by
+  refused k e h n = rw (h, n)
+
+  pub truncated : (r : Bool) → r ≡ whole_blocks f → r ≡ false → Refuses Truncated
   unfolding read_error first_error number
-  truncated r q e h g = error-is 0 Truncated q (rw (said-no e h)) refl g
+  truncated r e h = refused 0 Truncated (rw (said-no e h)) refl
 
   module _ (t₁ : whole_blocks f ≡ true) where
     pub has-head : block_length ≤ length f
     unfolding whole_blocks
     has-head = leb-true _ _ (and-true _ _ t₁).0
 
-    pub bad-checksum : (r : Bool) (q : Reading) → r ≡ checks_match f → r ≡ false → q ≡ record { answer = BadChecksum; problem = empty } → seen_read q ≡ reading_of (read_file f)
+    pub bad-checksum : (r : Bool) → r ≡ checks_match f → r ≡ false → Refuses BadChecksum
     unfolding read_error first_error number
-    bad-checksum r q e h g = error-is 1 BadChecksum q (rw (t₁, said-no e h)) refl g
+    bad-checksum r e h = refused 1 BadChecksum (rw (t₁, said-no e h)) refl
 
     module _ (t₂ : checks_match f ≡ true) where
-      pub bad-magic : (r : Bool) (q : Reading) → r ≡ magic_matches f → r ≡ false → q ≡ record { answer = BadMagic; problem = empty } → seen_read q ≡ reading_of (read_file f)
+      pub bad-magic : (r : Bool) → r ≡ magic_matches f → r ≡ false → Refuses BadMagic
       unfolding read_error first_error number
-      bad-magic r q e h g = error-is 2 BadMagic q (rw (t₁, t₂, said-no e h)) refl g
+      bad-magic r e h = refused 2 BadMagic (rw (t₁, t₂, said-no e h)) refl
 
       module _ (t₃ : magic_matches f ≡ true) where
-        pub size-range : (r : Bool) (q : Reading) → r ≡ sizes_match f → r ≡ false → q ≡ record { answer = SizeRange; problem = empty } → seen_read q ≡ reading_of (read_file f)
+        pub size-range : (r : Bool) → r ≡ sizes_match f → r ≡ false → Refuses SizeRange
         unfolding sizes_match read_error first_error number
-        size-range r q e h g = error-is 3 SizeRange q (rw (t₁, t₂, t₃, said-no e h)) refl g
+        size-range r e h = refused 3 SizeRange (rw (t₁, t₂, t₃, said-no e h)) refl
 
 -- ---- past the sizes, 5, 13, 6 and 10 are tests on the problem
+errors-by : (a b c d x : Bool) →
+    first_error ((5, a) ∷ (13, b) ∷ (6, c) ∷ (10, d) ∷ (7, x) ∷ []) ≡
+    cond (eqb (first_error ((5, a) ∷ (13, b) ∷ (6, c) ∷ (10, d) ∷ [])) 0) (cond x 0 7) (first_error ((5, a) ∷ (13, b) ∷ (6, c) ∷ (10, d) ∷ []))
+unfolding first_error
+errors-by false b c d x = refl
+errors-by true false c d x = refl
+errors-by true true false d x = refl
+errors-by true true true false x = refl
+errors-by true true true true x = refl
+
 module _ (f : List ℕ) (t₄ : sizes_match f ≡ true) where
   t₄' : (sizes_in_range (problem_in f) && block_count_matches f) ≡ true
   unfolding sizes_match
   t₄' = t₄
 
+  sized : sizes_in_range (problem_in f) ≡ true
+  sized = (and-true _ (block_count_matches f) t₄').0
+
   in-range : Sizes (problem_in f)
-  in-range = sizes (problem_in f) (and-true _ (block_count_matches f) t₄').0
+  in-range = sizes (problem_in f) sized
 
   pub blocks : Blocks f
   unfolding block_count_matches
@@ -67,55 +86,34 @@ module _ (f : List ℕ) (t₄ : sizes_match f ≡ true) where
         long = omega arith;
       }
 
-  module _ (p : Problem) (ep : p ≡ packed (problem_in f)) where
-    view : problem_of p ≡ problem_in f
-    view = ap problem_of ep ∙ view-of-file f in-range
+  module _ (t₁ : whole_blocks f ≡ true) (t₂ : checks_match f ≡ true) (t₃ : magic_matches f ≡ true) where
+    error-is : read_error f ≡ cond (eqb (problem_error (problem_in f)) 0) (cond (padding_zero f) 0 7) (problem_error (problem_in f))
+    unfolding read_error problem_error first_error
+    error-is =
+        let p = problem_in f in
+        rw (t₁, t₂, t₃, t₄', sized) (errors-by (domain_in_range p) (thresholds_in_range p) (constraints_in_range p) (divisors_in_range p) (padding_zero f))
 
-    module _ (t₁ : whole_blocks f ≡ true) (t₂ : checks_match f ≡ true) (t₃ : magic_matches f ≡ true) where
-      pub domain-range : (r : Bool) (q : Reading) → r ≡ domain_in_range (problem_of p) → r ≡ false → q ≡ record { answer = DomainRange; problem = empty } → seen_read q ≡ reading_of (read_file f)
-      unfolding read_error first_error number
-      domain-range r q e h g =
-          let t : domain_in_range (problem_in f) ≡ false = rw view at (said-no e h) in
-          error-is f 4 DomainRange q (rw (t₁, t₂, t₃, t₄', t)) refl g
+    module _ (p : Problem) (ep : p ≡ packed (problem_in f)) where
+      view : problem_error (problem_of p) ≡ problem_error (problem_in f)
+      view = ap problem_error (ap problem_of ep ∙ view-of-file f in-range)
 
-      module _ (t₅ : domain_in_range (problem_of p) ≡ true) where
-        t₅' : domain_in_range (problem_in f) ≡ true
-        t₅' = rw view at t₅
+      refused-as : (k : ℕ) (e : Refusal) → number e ≡ k → number e ≡ problem_error (problem_of p) → Refuses f e
+      refused-as zero e h n = absurd (numbered e h)
+      refused-as (suc k) e h n = refused f k e (error-is ∙ rw (← view, ← n, h, eqb-suc-zero k)) h
 
-        pub threshold-range : (r : Bool) (q : Reading) → r ≡ thresholds_in_range (problem_of p) → r ≡ false → q ≡ record { answer = ThresholdRange; problem = empty } → seen_read q ≡ reading_of (read_file f)
-        unfolding read_error first_error number
-        threshold-range r q e h g =
-            let t : thresholds_in_range (problem_in f) ≡ false = rw view at (said-no e h) in
-            error-is f 12 ThresholdRange q (rw (t₁, t₂, t₃, t₄', t₅', t)) refl g
+      pub problem-refused : (e : Refusal) → number_of {A = Unit {0}} (Err e) ≡ problem_error (problem_of p) → Refuses f e
+      unfolding number_of
+      problem-refused e n = refused-as (number e) e refl n
 
-        module _ (t₁₃ : thresholds_in_range (problem_of p) ≡ true) where
-          t₁₃' : thresholds_in_range (problem_in f) ≡ true
-          t₁₃' = rw view at t₁₃
+      module _ (fine : number_of {A = Unit {0}} (Ok tt) ≡ problem_error (problem_of p)) where
+        none : problem_error (problem_in f) ≡ 0
+        unfolding number_of
+        none = rw (← view, ← fine)
 
-          pub coefficient-range : (r : Bool) (q : Reading) → r ≡ constraints_in_range (problem_of p) → r ≡ false → q ≡ record { answer = CoefficientRange; problem = empty } → seen_read q ≡ reading_of (read_file f)
-          unfolding read_error first_error number
-          coefficient-range r q e h g =
-              let t : constraints_in_range (problem_in f) ≡ false = rw view at (said-no e h) in
-              error-is f 5 CoefficientRange q (rw (t₁, t₂, t₃, t₄', t₅', t₁₃', t)) refl g
+        pub nonzero-padding : (r : Bool) → r ≡ padding_zero f → r ≡ false → Refuses f NonzeroPadding
+        unfolding number
+        nonzero-padding r e h = refused f 6 NonzeroPadding (error-is ∙ rw (none, said-no e h)) refl
 
-          module _ (t₆ : constraints_in_range (problem_of p) ≡ true) where
-            t₆' : constraints_in_range (problem_in f) ≡ true
-            t₆' = rw view at t₆
-
-            pub divisor_range : (r : Bool) (q : Reading) → r ≡ divisors_in_range (problem_of p) → r ≡ false → q ≡ record { answer = DivisorRange; problem = empty } → seen_read q ≡ reading_of (read_file f)
-            unfolding read_error first_error number
-            divisor_range r q e h g =
-                let t : divisors_in_range (problem_in f) ≡ false = rw view at (said-no e h) in
-                error-is f 9 DivisorRange q (rw (t₁, t₂, t₃, t₄', t₅', t₁₃', t₆', t)) refl g
-
-            module _ (t₁₀ : divisors_in_range (problem_of p) ≡ true) where
-              t₁₀' : divisors_in_range (problem_in f) ≡ true
-              t₁₀' = rw view at t₁₀
-
-              pub nonzero-padding : (r : Bool) (q : Reading) → r ≡ padding_zero f → r ≡ false → q ≡ record { answer = NonzeroPadding; problem = empty } → seen_read q ≡ reading_of (read_file f)
-              unfolding read_error first_error number
-              nonzero-padding r q e h g = error-is f 6 NonzeroPadding q (rw (t₁, t₂, t₃, t₄', t₅', t₁₃', t₆', t₁₀', said-no e h)) refl g
-
-              pub accepted : (r : Bool) → r ≡ padding_zero f → r ≡ true → seen_read (record { answer = Done; problem = p }) ≡ reading_of (read_file f)
-              unfolding read_file read_error first_error result_of reading_of seen_read number
-              accepted r e h = rw (ep, t₁, t₂, t₃, t₄', t₅', t₁₃', t₆', t₁₀', said-yes e h)
+        pub accepted : (r : Bool) → r ≡ padding_zero f → r ≡ true → seen_read (Ok p) ≡ reading_of (read_file f)
+        unfolding read_file result_of reading_of shown_by seen_read seen_by
+        accepted r e h = rw (ep, error-is, none, said-yes e h)

@@ -1,74 +1,67 @@
 -- What opening shows is document 01's: of a file, and of a problem in hand.
 use Prim.Native.Nat.{ℕ, zero, suc}
 use native.Mathlib.Omega.{arith}
-use mathlib.Core.Bool.{cond}
 use mathlib.Core.List.{List}
-use mathlib.Core.Option.{none, some}
 use mathlib.Core.Path.{◌≡◌, refl, sym, ap, ◌∙◌}
-use lib.Dec.{eqb, eqb-suc-zero}
+use Rattle.std.specs.Prelude.{Result, Ok, Err, IfOk}
 use Rattle.model_files.specs.File.{problem_in, read_error, read_file}
-use Rattle.model_problems.specs.Problem as model
-use Rattle.model_problems.specs.Problem.{ok, error, result_of}
+use Rattle.model_problems.specs.Problem.{ok, result_of}
 use Rattle.model_walk.specs.Search.{open_problem, opened_by, open_file}
 use Rattle.model_acceptance.specs.Acceptable.{problem_error, open_given}
 use Rattle.lists.proofs.Bools.{T_of}
 use Rattle.acceptance.proofs.Acceptance.{tested, sizes-of}
-use Rattle.problem.specs.declared.Answer.{Answer}
 use Rattle.problem.specs.declared.Problem.{Problem}
-use Rattle.problem.specs.declared.Reading.{Reading}
-use Rattle.problem.specs.Answer.{number}
-use Rattle.problem.specs.View.{problem_of, packed, SeenReading, seen_read, reading_of}
+use Rattle.problem.specs.declared.Refusal.{Refusal}
+use Rattle.problem.specs.Answer.{number, number_of, seen_by, shown_by}
+use Rattle.problem.specs.View.{problem_of, packed, seen_read, reading_of}
 use Rattle.problem.proofs.Checking.{variable-count, constraint-count}
-use Rattle.problem.proofs.Numbers.{reading-number}
+use Rattle.problem.proofs.Numbers.{numbered}
 use Rattle.problem.proofs.Views.{view-of-accepted}
 use Rattle.opening.specs.Accepted.{Accepted}
 use Rattle.opening.proofs.Accepted.{accepted}
 use Rattle.state.specs.View.{view}
 use Rattle.state.specs.declared.Search.{Search}
-use Rattle.shown.specs.Opening.{blank, SeenOpening, seen_opened, opening}
+use Rattle.shown.specs.Opening.{found, seen_opened}
 
--- ---- by the number of the answer
-module _ (a : Answer) (p : model.Problem) (s : Search) where
-  refused-by : (k : ℕ) → ¬ (k ≡ 0) → s ≡ blank →
-      ◌≡◌ {A = SeenOpening} (record { answer = cond (eqb k 0) (ok (view s)) (error k); refused = cond (eqb k 0) none (some s) }) (opening (opened_by (result_of k p)))
-  unfolding result_of opened_by opening
-  refused-by zero n b = absurd (n refl)
-  refused-by (suc k) n b = rw (b, eqb-suc-zero k) refl
+-- ---- what was found is refused, or opens
+pub not_opened : (e : Refusal) → seen_opened (Err e) ≡ opened_by (found (Err e))
+unfolding seen_opened seen_by opened_by found
+not_opened e = refl
 
-  pub not_opened : ¬ (number a ≡ 0) → s ≡ blank → seen_opened (record { answer = a; state = s }) ≡ opening (opened_by (result_of (number a) p))
-  unfolding seen_opened
-  not_opened n b = refused-by (number a) n b
-
-  pub opened : number a ≡ 0 → view s ≡ open_problem p → seen_opened (record { answer = a; state = s }) ≡ opening (opened_by (result_of (number a) p))
-  unfolding seen_opened
-  opened z v = rw (z, v) (unfold result_of opened_by opening in refl)
+pub opened : (p : Problem) (s : Search) → view s ≡ open_problem (problem_of p) → seen_opened (Ok s) ≡ opened_by (found (Ok p))
+unfolding seen_opened seen_by opened_by found
+opened p s v = rw v
 
 -- ---- a file that was read
-module _ (f : List ℕ) (r : Reading) (e : seen_read r ≡ reading_of (read_file f)) where
-  answer-number : number r.answer ≡ read_error f
-  answer-number = reading-number f r e
+module _ (f : List ℕ) where
+  read-by : (k : ℕ) (r : Result Problem Refusal) → read_error f ≡ k → seen_read r ≡ reading_of (result_of k (problem_in f)) → found r ≡ result_of k (problem_in f)
+  unfolding seen_read seen_by reading_of shown_by result_of found
+  read-by zero (Ok p) z h = let q : p ≡ packed (problem_in f) = cc in ap ok (ap problem_of q ∙ view-of-accepted f z)
+  read-by zero (Err e) z h = absurd (cc)
+  read-by (suc k) (Ok p) z h = absurd (cc)
+  read-by (suc k) (Err e) z h = cc
 
-  problem-read : read_error f ≡ 0 → r.problem ≡ packed (problem_in f)
-  unfolding seen_read reading_of read_file
-  problem-read z = ap (λ (x : SeenReading). x.problem) e ∙ rw z (unfold result_of in refl)
-
-  pub can-open : number r.answer ≡ 0 → Accepted r.problem
-  can-open z = let n = sym answer-number ∙ z in rw (problem-read n) (accepted f n)
-
-  same-result : (k : ℕ) → read_error f ≡ k → opened_by (result_of k (problem_of r.problem)) ≡ opened_by (result_of k (problem_in f))
-  unfolding result_of
-  same-result zero z = ap (λ (p : model.Problem). opened_by (ok p)) (ap problem_of (problem-read z) ∙ view-of-accepted f z)
-  same-result (suc k) z = refl
-
-  pub file-opened : opened_by (result_of (number r.answer) (problem_of r.problem)) ≡ open_file f
+  pub file-opened : (r : Result Problem Refusal) → seen_read r ≡ reading_of (read_file f) → opened_by (found r) ≡ open_file f
   unfolding open_file read_file
-  file-opened = rw answer-number (same-result (read_error f) refl)
+  file-opened r h = ap opened_by (read-by (read_error f) r refl h)
+
+  can-open-by : (k : ℕ) (r : Result Problem Refusal) → read_error f ≡ k → seen_read r ≡ reading_of (result_of k (problem_in f)) → IfOk r Accepted
+  unfolding seen_read seen_by reading_of shown_by result_of
+  can-open-by zero (Ok p) z h = let q : p ≡ packed (problem_in f) = cc in rw q (accepted f z)
+  can-open-by zero (Err e) z h = tt
+  can-open-by (suc k) (Ok p) z h = absurd (cc)
+  can-open-by (suc k) (Err e) z h = tt
+
+  pub can-open : (r : Result Problem Refusal) → seen_read r ≡ reading_of (read_file f) → IfOk r Accepted
+  unfolding read_file
+  can-open r h = can-open-by (read_error f) r refl h
 
 -- ---- a problem that was checked
-module _ (p : Problem) (a : Answer) (e : number a ≡ problem_error (problem_of p)) where
-  pub can-begin : number a ≡ 0 → Accepted p
+module _ (p : Problem) where
+  pub can-begin : number_of {A = Unit {0}} (Ok tt) ≡ problem_error (problem_of p) → Accepted p
+  unfolding number_of
   can-begin z =
-      let n = sym e ∙ z in
+      let n = sym z in
       let s = sizes-of (problem_of p) n in
       record {
         few-variables = omega (arith, s.few-variables, variable-count p);
@@ -76,6 +69,15 @@ module _ (p : Problem) (a : Answer) (e : number a ≡ problem_error (problem_of 
         coefficient-range = T_of (tested (problem_of p) n).coefficient-range;
       }
 
-  pub problem-opened : opened_by (result_of (number a) (problem_of p)) ≡ open_given (problem_of p)
-  unfolding open_given
-  problem-opened = rw e
+  pub problem-opened : number_of {A = Unit {0}} (Ok tt) ≡ problem_error (problem_of p) → opened_by (found (Ok p)) ≡ open_given (problem_of p)
+  unfolding number_of open_given result_of found seen_by
+  problem-opened z = rw (← z)
+
+  refused-by : (k : ℕ) (e : Refusal) → number e ≡ k → seen_opened (Err e) ≡ opened_by (result_of k (problem_of p))
+  unfolding seen_opened seen_by opened_by result_of
+  refused-by zero e h = absurd (numbered e h)
+  refused-by (suc k) e h = rw h
+
+  pub problem-refused : (e : Refusal) → number_of {A = Unit {0}} (Err e) ≡ problem_error (problem_of p) → seen_opened (Err e) ≡ open_given (problem_of p)
+  unfolding number_of open_given
+  problem-refused e h = refused-by (problem_error (problem_of p)) e h

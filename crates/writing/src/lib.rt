@@ -7,19 +7,16 @@ ghost use Rattle.problem.specs.Answer.{written};
 ghost use Rattle.problem.specs.View.{problem_of};
 
 use file_blocks::writer;
-use problem::{Answer, Problem, check, error_number};
+use problem::{Problem, Refusal, check};
 
-// Writes a problem's blocks at the buffer's start, and leaves the bytes after them; on an error the buffer keeps all its bytes.
-pub fn write(problem: Problem, buffer: &mut [u8]) -> Answer
+// Writes a problem's blocks at the buffer's start, and leaves the bytes after them; where it is refused the buffer keeps all its bytes.
+pub fn write(problem: Problem, buffer: &mut [u8]) -> Result<(), Refusal>
     ensures { written result buffer.new ≡ write_file (problem_of problem) buffer.old }
 {
-    let answer = check(problem);
-    if error_number(answer) != 0 {
-        return answer;
-    }
+    check(problem)?;
     if buffer.len() / block::LENGTH <= problem.m {
-        return Answer::ShortBuffer;
+        return Err(Refusal::ShortBuffer);
     }
     writer::write_blocks(&problem, buffer);
-    Answer::Done
+    Ok(())
 }

@@ -1,6 +1,8 @@
 use borrow.Author.Rules.{rules}
+use native.Mathlib.Omega.{arith}
+use Rattle.std.proofs.lemmas.Result.{err_from_is_err_and}
 use Rattle.lists.proofs.Bools.{said-yes}
-use Rattle.reading.proofs.ReadCascade.{truncated, has-head, bad-checksum, bad-magic, size-range, blocks, domain-range, threshold-range, coefficient-range, divisor_range, nonzero-padding, accepted}
+use Rattle.reading.proofs.ReadCascade.{truncated, has-head, bad-checksum, bad-magic, size-range, blocks, problem-refused, nonzero-padding, accepted}
 use Rattle.reading.proofs.read.Goals as goal
 
 pub returns-then-not-is_whole : goal.returns-then-not-is_whole
@@ -24,37 +26,19 @@ returns-then-not-sizes_match c = search (size-range, said-yes)
 pub problem_in-found-requires : goal.problem_in-found-requires
 problem_in-found-requires c = blocks _ (said-yes c.sizes_match.ensures c.if-not-sizes_match.false)
 
-pub returns-then-not-domain_in_range : goal.returns-then-not-domain_in_range
-returns-then-not-domain_in_range c = search (domain-range, said-yes)
-
-pub returns-then-not-thresholds_in_range : goal.returns-then-not-thresholds_in_range
-returns-then-not-thresholds_in_range c = search (threshold-range, said-yes)
-
-pub returns-then-not-constraints_in_range : goal.returns-then-not-constraints_in_range
-returns-then-not-constraints_in_range c = search (coefficient-range, said-yes)
-
-pub returns-then-not-divisors_in_range : goal.returns-then-not-divisors_in_range
-returns-then-not-divisors_in_range c = search (divisor_range, said-yes)
+pub returns-in_err-check : goal.returns-in_err-check
+returns-in_err-check c =
+    let p = err_from_is_err_and c.from_residual.result c.from_residual.ensures.1 in
+    rw (p.1, p.2)
+    (problem-refused _ (said-yes c.sizes_match.ensures c.if-not-sizes_match.false) (said-yes c.is_whole.ensures c.if-not-is_whole.false)
+    (said-yes c.checks_match.ensures c.if-not-checks_match.false) (said-yes c.magic_matches.ensures c.if-not-magic_matches.false)
+    _ c.problem_in-found.ensures.0 _ c.in_err-check.ensures)
 
 pub padding_zero-requires : goal.padding_zero-requires
 padding_zero-requires c = blocks _ (said-yes c.sizes_match.ensures c.if-not-sizes_match.false)
 
 pub returns-then-not-padding_zero : goal.returns-then-not-padding_zero
-returns-then-not-padding_zero c = search (nonzero-padding, said-yes)
+returns-then-not-padding_zero c = grind (arith, nonzero-padding, said-yes)
 
 pub returns : goal.returns
-returns c =
-    accepted _
-    (said-yes c.sizes_match.ensures c.if-not-sizes_match.false)
-    _
-    c.problem_in-found.ensures.0
-    (said-yes c.is_whole.ensures c.if-not-is_whole.false)
-    (said-yes c.checks_match.ensures c.if-not-checks_match.false)
-    (said-yes c.magic_matches.ensures c.if-not-magic_matches.false)
-    (said-yes c.domain_in_range.ensures c.if-not-domain_in_range.false)
-    (said-yes c.thresholds_in_range.ensures c.if-not-thresholds_in_range.false)
-    (said-yes c.constraints_in_range.ensures c.if-not-constraints_in_range.false)
-    (said-yes c.divisors_in_range.ensures c.if-not-divisors_in_range.false)
-    _
-    c.padding_zero.ensures
-    c.if-not-padding_zero.false
+returns c = grind (arith, accepted, said-yes)

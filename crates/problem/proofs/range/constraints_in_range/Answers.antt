@@ -1,6 +1,5 @@
 -- `problem::range::constraints_in_range` meets its contract. Assumes nothing.
 use mathlib.Core.Path.{sym, ◌∙◌}
-use borrow.Author.Rules.{rules}
 use Rattle.model_problems.specs.Problem.{constraints_in_range}
 use Rattle.layout.proofs.Ranges.{inputs-range}
 use Rattle.problem.specs.View.{problem_of}

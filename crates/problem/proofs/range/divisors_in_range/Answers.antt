@@ -1,5 +1,4 @@
 -- `problem::range::divisors_in_range` meets its contract. Assumes nothing.
-use borrow.Author.Rules.{rules}
 use Rattle.model_problems.specs.Problem.{divisors_in_range}
 use Rattle.problem.specs.View.{problem_of}
 use Rattle.problem.proofs.range.divisors_in_range.Goals as goal

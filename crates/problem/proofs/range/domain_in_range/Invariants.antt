@@ -1,12 +1,9 @@
 use Prim.Native.Nat.{◌-◌, ◌≤◌}
 use mathlib.Core.Bool.{true}
 use mathlib.Core.Path.{◌≡◌}
-use borrow.Author.Rules.{rules}
 use Rattle.model_problems.specs.Lists.{all_of}
-use Rattle.model_problems.specs.Problem.{bounds_in_range, domain_in_range}
+use Rattle.model_problems.specs.Problem.{bounds_in_range}
 use Rattle.layout.specs.Rows.{box_of}
-use Rattle.layout.proofs.Ranges.{box-none, box-more, box-fails, box-end}
-use Rattle.problem.specs.View.{problem_of}
 use Rattle.problem.proofs.range.domain_in_range.Given as goal
 
 -- The bounds before i are in range.

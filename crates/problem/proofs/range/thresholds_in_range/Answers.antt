@@ -1,5 +1,4 @@
 -- `problem::range::thresholds_in_range` meets its contract. Assumes nothing.
-use borrow.Author.Rules.{rules}
 use Rattle.model_problems.specs.Problem.{thresholds_in_range}
 use Rattle.problem.specs.View.{problem_of}
 use Rattle.problem.proofs.range.thresholds_in_range.Goals as goal
