@@ -31,13 +31,13 @@ pub bounds-levels-back : goal.bounds-levels-back
 bounds-levels-back c = omega (arith, shallow c.args.s c.requires.0)
 
 pub flip-requires : goal.flip-requires
-flip-requires c = flips c.args.s c.requires.0 _ (one_more c.requires.1) _ c.whole-o.ensures.0
+flip-requires c = flips c.args.s c.requires.0 _ (one_more c.requires.1) _ c.whole-level.ensures.0
 
 pub returns : goal.returns
 returns c =
     let s = c.args.s in
     let p = c.requires in
-    let o = c.whole-o.ensures in
+    let o = c.whole-level.ensures in
     -- the levels, as they are declared
     let long : length s.levels ≡ 33 = search (rules, elements-kept) in
     struck s p.0 _ (one_more p.1) _ o.0 _ _ c.flip.ensures.1 (rw o.0 o.1) (omega (arith, shallow s p.0, long))
