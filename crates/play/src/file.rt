@@ -1,6 +1,6 @@
 // The file, and the commands that make, change and read it.
 use crate::script::{Failure, Fault, at_most, next_word, no_numbers, numbers, one_number};
-use crate::{calls, plan, state_words};
+use crate::{calls, plan, state_words, states};
 use block::build;
 use filling::read_full;
 use problem::Problem;
@@ -110,17 +110,19 @@ impl Loaded {
 
 // read
 fn read(rt: &impl Print, file: &[u8], problem: &mut Problem) -> io::Result<()> {
-    let (error, read) = calls::read(file);
-    let digest = plan::digest(&read);
-    *problem = read;
+    let read = reading::read(file);
+    let error = calls::number(&read);
+    *problem = read.unwrap_or(plan::ZEROS);
+    let digest = plan::digest(problem);
     println!(rt; "read {error} digest {digest}")
 }
 
 // open
 fn open(rt: &impl Print, file: &[u8], state: &mut Search) -> io::Result<()> {
-    let (error, opened) = calls::open(file);
-    let digest = state_words::digest(&opened)?;
-    *state = opened;
+    let opened = search::open(file);
+    let error = calls::number(&opened);
+    *state = opened.unwrap_or(states::ZEROS);
+    let digest = state_words::digest(state)?;
     println!(rt; "open {error} digest {digest}")
 }
 
