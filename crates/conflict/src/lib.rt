@@ -65,6 +65,9 @@ fn dismiss<'a>(
 
 // The conflict in the kept constraint in row j, the `count`-th of the search. The cut is learned and kept, the backjump level sought outward from the
 // deepest level, and the record put as block `done` of the buffer, if records are kept. From a divisor constraint nothing is learned.
+// Out of line: inlined, its arrays move those that the scans read, which then take 1.05 times as long on 07-blueprint-hard.
+// Stays: its parameters one by one, as `engine::advance` holds them, each an array in hand (document 01's forms by place).
+#[inline(never)]
 pub fn conflict<'a>(
     lower: &'a [i64; 32],
     upper: &'a [i64; 32],
