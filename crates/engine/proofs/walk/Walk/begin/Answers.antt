@@ -1,6 +1,6 @@
 -- `engine::walk::Walk::begin` meets its contract. Assumes nothing.
 use native.Mathlib.Omega.{arith}
-use mathlib.Core.Path.{◌≡◌, refl, sym, ap, subst, ◌∙◌}
+use mathlib.Core.Path.{◌≡◌, sym, ap, subst, ◌∙◌}
 use borrow.Author.Rules.{rules}
 use Rattle.state.specs.View.{view}
 use Rattle.propagate.proofs.Steps.{scan-fits}

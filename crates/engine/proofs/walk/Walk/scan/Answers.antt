@@ -1,7 +1,6 @@
 -- `engine::walk::Walk::scan` meets its contract. Assumes nothing.
 use native.Mathlib.Omega.{arith}
 use mathlib.Core.Path.{refl}
-use borrow.Author.Rules.{rules}
 use Rattle.state.specs.View.{kept_cuts}
 use Rattle.bits.specs.Divided.{Everyone}
 use Rattle.propagate.proofs.Tracking.{scan-box, told-start}
