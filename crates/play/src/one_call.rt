@@ -81,9 +81,8 @@ fn finish(
     before: &Search,
     ran: &Ran,
     counted: Option<(&str, usize)>,
-    digest: Digest,
+    mut digest: Digest,
 ) -> io::Result<()> {
-    let mut digest = digest;
     if is_refused(ran) {
         print!(rt; " refused 9")?;
         show_kept(rt, before, &ran.state)?;
