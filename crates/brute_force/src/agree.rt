@@ -59,8 +59,8 @@ fn are_runs_right(p: &Problem, e: &Enumerated, first: &Ran) -> bool {
 fn are_cuts_right(p: &Problem, found: usize, journal: &[u8; 8192], blocks: usize) -> bool {
     let mut q = *p;
     for k in 0..16 {
-        let start = 512 * k;
-        if k < blocks && block::number::u32_at(journal, start + 4) != k + 1 {
+        let start = block::LENGTH * k;
+        if k < blocks && block::number::u32_at(journal, start + block::journal::COUNT) != k + 1 {
             return false;
         }
         for i in 0..7 {

@@ -47,11 +47,11 @@ fn begin(rt: &impl Print, p: &Problem, state: &mut Search) -> io::Result<()> {
 
 // What stands in row j of the arrays, with its divisor.
 fn row_at(p: &Problem, j: usize) -> Result<([i64; 33], i64), Fault> {
-    if 64 <= j {
+    if layout::MAX_CONSTRAINTS <= j {
         return Err(Fault::Range);
     }
     let mut row = [0i64; 33];
-    row.copy_from_slice(&p.constraints[33 * j..33 * j + 33]);
+    row.copy_from_slice(&p.constraints[layout::ROW * j..layout::ROW * (j + 1)]);
     Ok((row, p.divisors[j]))
 }
 

@@ -78,13 +78,12 @@ fn finish(
     before: &Search,
     ran: Option<Ran>,
     counted: Option<(&str, usize)>,
-    digest: Digest,
+    mut digest: Digest,
 ) -> io::Result<Search> {
     let Some(ran) = ran else {
         println!(rt; " refused 9 same digest {digest}")?;
         return Ok(*before);
     };
-    let mut digest = digest;
     show_answer(rt, &ran)?;
     if let Some((what, count)) = counted {
         print!(rt; " {what} {count}")?;
