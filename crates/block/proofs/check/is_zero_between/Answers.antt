@@ -1,12 +1,11 @@
-use Rattle.std.proofs.Common.{rules}
-use Rattle.block.proofs.Checking.{zero-next, zero-fails, zero-all}
+use Rattle.std.proofs.Common.{rules, tests, eqb, ◌∙◌}
+use Rattle.std.specs.List.{between}
+use Rattle.std.proofs.lemmas.Iterator.{YieldsList-from_slice}
+use Rattle.std.proofs.lemmas.Iterator.Search.{all_from_yields_List}
+use Rattle.block.proofs.Checking.{zeros-are}
 use Rattle.block.proofs.check.is_zero_between.Goals as goal
 
-pub returns-then-b-j-ne0 : goal.returns-then-b-j-ne0
-returns-then-b-j-ne0 c = search (rules, zero-fails)
-
-pub loop-j-preserved : goal.loop-j-preserved
-loop-j-preserved c = search (rules, zero-next)
-
 pub returns : goal.returns
-returns c = search (rules, zero-all)
+returns c =
+    let a = c.args in
+    all_from_yields_List (λ x. eqb x 0) _ _ _ c.all.ensures.ran (YieldsList-from_slice (between a.i a.e a.b.now) cc) (λ x b q k. search (rules, tests)) ∙ zeros-are a.b.now a.i a.e
