@@ -1,7 +1,5 @@
 -- A block's check as a loop adds it up, and zeros as a loop finds them.
 use Rattle.std.proofs.Common.{◌≡◌, ℕ, suc, ◌+◌, ◌*◌, ◌%◌, ◌^◌, ◌≤◌, Bool, ◌&&◌, eqb, List, [], ◌∷◌, refl, ap, ◌∙◌, arith}
-use Rattle.std.specs.List.{between, list_all}
-use Rattle.std.proofs.lemmas.Slice.{between_is}
 use native.Mathlib.Nat.{mod-add-mod}
 use Rattle.model_problems.specs.Lists.{tab, sum, all_of}
 use Rattle.model_files.specs.Bytes.{u32_at, check_offset, word_at, checksum, is_zero, zero_between}
@@ -28,13 +26,3 @@ module _ (b : List ℕ) (k : ℕ) where
 
 pub check-test : (b : List ℕ) (k r w : ℕ) → r ≡ checksum k b → w ≡ u32_at b check_offset → eqb r w ≡ eqb (checksum k b) (u32_at b check_offset)
 check-test b k r w e h = rw (e, h)
-
--- ---- the bytes from i to e, each of which passes the test
-all-zero : (xs : List ℕ) → list_all (λ x. eqb x 0) xs ≡ all_of is_zero xs
-unfolding all_of is_zero
-all-zero [] = refl
-all-zero (x ∷ xs) = ap (λ (t : Bool). eqb x 0 && t) (all-zero xs)
-
-pub zeros-are : (b : List ℕ) (i e : ℕ) → list_all (λ x. eqb x 0) (between i e b) ≡ zero_between i e b
-unfolding zero_between
-zeros-are b i e = all-zero (between i e b) ∙ ap (all_of is_zero) (between_is b i e)

@@ -27,10 +27,8 @@ fn put_numbers(n: usize, rows: &[i64], start: usize, block: &mut [u8])
     ensures { Placed block.old 0 (4 + 4 * n) (numbers_bytes n (constraint_at n rows.now start)) block.new }
 {
     build::put_i32(block, offsets::number_offset(0), rows[start]);
-    let mut i: usize = 0;
-    while i < n {
+    for i in 0..n {
         build::put_i32(block, offsets::number_offset(i + 1), rows[start + 1 + i]);
-        i += 1;
     }
 }
 

@@ -1,11 +1,13 @@
-use Rattle.std.proofs.Common.{rules, tests, eqb, ◌∙◌}
+use Rattle.std.proofs.Common.{rules, ap, ◌∙◌}
 use Rattle.std.specs.List.{between}
-use Rattle.std.proofs.lemmas.Iterator.{YieldsList-from_slice}
-use Rattle.std.proofs.lemmas.Iterator.Search.{all_from_yields_List}
-use Rattle.block.proofs.Checking.{zeros-are}
+use Rattle.std.proofs.lemmas.Slice.{between_is}
+use Rattle.model_problems.specs.Lists.{all_of}
+use Rattle.model_files.specs.Bytes.{is_zero, zero_between}
+use Rattle.lists.proofs.Chains.{each}
 use Rattle.block.proofs.check.is_zero_between.Goals as goal
 
 pub returns : goal.returns
+unfolding zero_between is_zero
 returns c =
     let a = c.args in
-    all_from_yields_List (λ x. eqb x 0) _ _ _ c.all.ensures.ran (YieldsList-from_slice (between a.i a.e a.b.now) cc) (λ x b q k. search (rules, tests)) ∙ zeros-are a.b.now a.i a.e
+    each is_zero (between a.i a.e a.b.now) c.all.ensures.ran c.iter.ensures.rest (λ x b q k. search rules) ∙ ap (all_of is_zero) (between_is a.b.now a.i a.e)

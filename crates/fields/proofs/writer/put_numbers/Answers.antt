@@ -15,14 +15,13 @@ put_i32-requires-in-loop-i c = (search rules, coefficient-room _ _ _ _ c.loop-i-
 
 pub loop-i-preserved : goal.loop-i-preserved
 loop-i-preserved c = (
-  search rules,
-  omega (arith, c.put_i32-in-loop-i.auto.s, c.loop-i.invariant.1),
+  omega (arith, c.put_i32-in-loop-i.auto.s, c.loop-i.invariant.0),
   coefficients-more _ _ _ _
       c.loop-i-test.true
       _
       c.number_offset-in-loop-i.ensures
       (search rules)
-      c.loop-i.invariant.2
+      c.loop-i.invariant.1
       c.put_i32-in-loop-i.ensures,
 )
 

@@ -10,7 +10,4 @@ use Rattle.fields.proofs.writer.put_numbers.Given as goal
 
 -- The coefficients before i stand after the constant.
 abbrev pub invariant-loop-i : goal.invariant-loop-i
-invariant-loop-i l = (l.i ≤ l.n) × (length l.block ≡ block_length) × Placed l.initial.block 4 (4 + 4 * l.i) (parts (coefficient_bytes (constraint_at l.n l.rows l.start)) 0 l.i) l.block
-
-abbrev pub decreases-loop-i : goal.decreases-loop-i
-decreases-loop-i l = l.n - l.i
+invariant-loop-i l = (length l.block ≡ block_length) × Placed l.initial.block 4 (4 + 4 * l.i) (parts (coefficient_bytes (constraint_at l.n l.rows l.start)) 0 l.i) l.block
