@@ -1,5 +1,4 @@
 -- Laws of rounding and resolving: `Sizes` for its callers, the others for its own proofs.
 pub mod Sizes
-pub mod Slices
 pub mod RoundingLaws
 pub mod ResolvingLaws

@@ -11,7 +11,7 @@ use Rattle.layout.proofs.Rows.{coefficient-at}
 use Rattle.layout.proofs.Elements.{back, number_read}
 use Rattle.derivation.specs.Resolvable.{Combinable, Resolvable, Combined}
 use Rattle.derivation.proofs.Sizes.{multiplier-most, combination-sized}
-use Rattle.derivation.proofs.Slices.{row_in, number-between, constraint-between}
+use Rattle.layout.proofs.Slices.{row_in, number-between, constraint-between}
 use Rattle.derivation.proofs.ResolvingLaws.{opposite-not-zero, resolvent-of}
 use Rattle.derivation.proofs.resolving.combine_at.Goals as goal
 

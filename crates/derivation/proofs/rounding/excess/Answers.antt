@@ -3,7 +3,7 @@ use Rattle.std.proofs.Common.{ap, ◌∙◌, ◌+◌, nat_abs, arith}
 use Rattle.std.proofs.lemmas.List.Edits.{length-between}
 use Rattle.layout.specs.Rows.{cell}
 use Rattle.layout.proofs.Elements.{number_read}
-use Rattle.derivation.proofs.Slices.{number-between}
+use Rattle.layout.proofs.Slices.{number-between}
 use Rattle.derivation.proofs.RoundingLaws.{excess-at, excess-none}
 use Rattle.derivation.proofs.rounding.excess.Goals as goal
 

@@ -1,4 +1,4 @@
-use Rattle.std.proofs.Common.{ap, ◌+◌, ◌∙◌, w64, to_z-of_z}
+use Rattle.std.proofs.Common.{ap, ◌∙◌, w64, to_z-of_z}
 use borrow.Author.Rules.{sfits_of}
 use Rattle.model_files.specs.Bytes.{i32_at}
 use Rattle.fields.specs.Fields.{bound_in}

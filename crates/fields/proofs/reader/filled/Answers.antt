@@ -1,4 +1,4 @@
-use Rattle.std.proofs.Common.{arith, rules, ◌∙◌}
+use Rattle.std.proofs.Common.{arith}
 use borrow.Author.Rules.{sfits_of}
 use Rattle.fields.specs.Fields.{zeros}
 use Rattle.fields.proofs.Arrays.{filled_none, filled_more, filled-end}
