@@ -1,6 +1,7 @@
 -- `derivation::resolving::combine_at` meets its contract. Assumes nothing.
 use Rattle.std.proofs.Common.{◌≡◌, ◌∙◌, ap, ap₂, sym, ℕ, ◌+◌, ◌/◌, ◌<◌, ◌≤◌, ◌^◌, ℤ, pos, nat_abs, List, length, get_or, arith}
 use Rattle.std.specs.Int.Signed.{mag}
+use Rattle.std.specs.List.{between}
 use Rattle.std.proofs.lemmas.List.Edits.{length-between}
 use Rattle.model_problems.specs.Ranges.{max_coefficient}
 use Rattle.model_problems.specs.Division.{gcd}
@@ -11,9 +12,13 @@ use Rattle.layout.proofs.Rows.{coefficient-at}
 use Rattle.layout.proofs.Elements.{back, number_read}
 use Rattle.derivation.specs.Resolvable.{Combinable, Resolvable, Combined}
 use Rattle.derivation.proofs.Sizes.{multiplier-most, combination-sized}
-use Rattle.layout.proofs.Slices.{row_in, number-between, constraint-between}
+use Rattle.layout.proofs.Slices.{number-between, constraint-between}
 use Rattle.derivation.proofs.ResolvingLaws.{opposite-not-zero, resolvent-of}
 use Rattle.derivation.proofs.resolving.combine_at.Goals as goal
+
+-- the row that starts at `start`
+abbrev row_in : List ℤ → ℕ → List ℤ
+row_in xs start = between start (start + row_length) xs
 
 -- a and b are the sizes of F's and J's coefficients
 size_is : (n : ℕ) (xs : List ℤ) (start i r : ℕ) → i < n → n < row_length → mag (get_or (row_in xs start) (1 + i) (pos 0)) < 2 ^ 63 →
@@ -38,7 +43,7 @@ module _ (i n : ℕ) (f : List ℤ) (at : ℕ) (rows : List ℤ) (start a b g : 
       length r ≡ row_length → Combined i (constraint_at n f at) (constraint_at n rows start) n r
   combined-is r e k l =
       let v : n < row_length = omega (arith, h.combinable.variables) in
-      let c = k ∙ ap₂ (λ (x y : Constraint). combination (b / g) x (a / g) y) (constraint-between n f at v) (constraint-between n rows start v) in
+      let c = k ∙ ap₂ (λ (x y : Constraint). combination (b / g) x (a / g) y) (constraint-between n f at (at + row_length) (omega arith)) (constraint-between n rows start (start + row_length) (omega arith)) in
       record {
         outcome = rw c (resolvent-of _ (constraint_at n f at) (constraint_at n rows start) _ _ _ a-is b-is e);
         sized = rw c (combination-sized _ _ _ _ in-range.0 in-range.1 h.combinable.first_range h.combinable.second_range);
@@ -52,8 +57,8 @@ slices-combinable n f at rows start h =
       variables = h.variables;
       first-row = omega (arith, length-between f at (at + row_length) h.first-row);
       second-row = omega (arith, length-between rows start (start + row_length) h.second-row);
-      first_range = rw (constraint-between n f at v) h.first_range;
-      second_range = rw (constraint-between n rows start v) h.second_range;
+      first_range = rw (constraint-between n f at (at + row_length) (omega arith)) h.first_range;
+      second_range = rw (constraint-between n rows start (start + row_length) (omega arith)) h.second_range;
     }
 
 pub nonzero_div-b : goal.nonzero_div-b
