@@ -20,6 +20,6 @@ pub fn write(problem: Problem, buffer: &mut [u8]) -> Answer
     if buffer.len() / block::LENGTH <= problem.m {
         return Answer::ShortBuffer;
     }
-    writer::write_blocks(problem, buffer);
+    writer::write_blocks(&problem, buffer);
     Answer::Done
 }
