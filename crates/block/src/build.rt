@@ -39,6 +39,7 @@ pub fn put_i32(s: &mut [u8], at: usize, z: i64)
 }
 
 // Makes a block's bytes zero.
+#[tactic(auto, unfolding(crate::specs::Placed::cleared))]
 pub fn clear(s: &mut [u8])
     requires { length s.old ≡ block_length }
     ensures { s.new ≡ cleared }

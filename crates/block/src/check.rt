@@ -29,6 +29,7 @@ pub fn is_checked(b: &[u8], k: usize) -> bool
 }
 
 // Whether the bytes from place i to the check are zero.
+#[tactic(auto, unfolding(model_files::specs::Bytes::zero_from))]
 pub fn is_zero_from(b: &[u8], i: usize) -> bool
     requires { (length b.now ≡ block_length) × (i ≤ check_offset) }
     ensures { result ≡ zero_from i b.now }

@@ -12,6 +12,7 @@ pub mod journal;
 pub mod number;
 
 // How long a block is, and where its check stands.
+// Stays: a block is a part of its file, from 512 times k on, document 01's forms by place; so its length is asked for, and not in its type.
 pub const LENGTH: usize = 512;
 
 pub const CHECK: usize = 508;

@@ -25,7 +25,7 @@ fn mix(s: u64, a: i64, t: u64, b: i64) -> i64
 }
 
 // s · F + t · J, into r. What lies past the first n coefficients stays.
-fn combine(f: &[i64], j: &[i64], s: u64, t: u64, n: usize, r: &mut [i64; 33])
+fn combine(f: &[i64], j: &[i64], s: u64, t: u64, n: usize, r: &mut [i64; ROW])
     requires combinable { Combinable n f.now 0 j.now 0 }
     requires multipliers { (s ≤ max_coefficient) × (t ≤ max_coefficient) }
     ensures { constraint_at n r.new 0 ≡ combination s (constraint_at n f.now 0) t (constraint_at n j.now 0) }
@@ -44,7 +44,7 @@ pub fn combine_at(
     start: usize,
     i: usize,
     n: usize,
-    r: &mut [i64; 33],
+    r: &mut [i64; ROW],
 )
     requires { Resolvable i n f.now at rows.now start × (length r.old ≡ row_length) }
     ensures { Combined i (constraint_at n f.now at) (constraint_at n rows.now start) n r.new }

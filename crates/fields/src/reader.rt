@@ -13,6 +13,7 @@ use block::number;
 use layout::{MAX_CONSTRAINTS, MAX_VARIABLES, ROW};
 
 // 'n', 'm' and 'B' of a file that has a head.
+#[tactic(auto, unfolding(model_files::specs::File::variables_in))]
 pub fn variables_in(file: &[u8]) -> usize
     requires { block_length ≤ length file.now }
     ensures { (result ≡ variables_in file.now) × (result < 65536) }
@@ -20,6 +21,7 @@ pub fn variables_in(file: &[u8]) -> usize
     number::u16_at(file, offsets::VARIABLES_OFFSET)
 }
 
+#[tactic(auto, unfolding(model_files::specs::File::constraints_in))]
 pub fn constraints_in(file: &[u8]) -> usize
     requires { block_length ≤ length file.now }
     ensures { (result ≡ constraints_in file.now) × (result < 65536) }
@@ -27,6 +29,7 @@ pub fn constraints_in(file: &[u8]) -> usize
     number::u16_at(file, offsets::CONSTRAINTS_OFFSET)
 }
 
+#[tactic(auto, unfolding(model_files::specs::File::budget_in))]
 pub fn budget_in(file: &[u8]) -> usize
     requires { block_length ≤ length file.now }
     ensures { result ≡ budget_in file.now }
@@ -58,6 +61,7 @@ fn bound_in(file: &[u8], side: Side, i: usize) -> i64
 }
 
 // The lower or the upper bounds of n variables; 0 past the last one.
+// Stays: a file beside its n and m, here and below, as reading's `reader` passes them.
 pub fn bounds_in(file: &[u8], n: usize, side: Side) -> [i64; MAX_VARIABLES]
     requires { (block_length ≤ length file.now) × (n ≤ max_variables) }
     ensures { result ≡ filled (bound_in file.now (side_offset side)) n room }
