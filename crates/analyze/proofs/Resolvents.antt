@@ -21,13 +21,19 @@ use Rattle.lists.proofs.Bools.{true_of, clash}
 use Rattle.lists.proofs.Loops.{every-at}
 use Rattle.lists.proofs.Tab.{get_d-tab, tab-ext, tab-end, tab-down, get_d-const}
 use Rattle.layout.specs.Rows.{row_length, constraint_at, row_at, box_of}
+use Rattle.linear.specs.Ranges.{BoxFits}
+use Rattle.linear.proofs.Ranges.{box-fits}
 use Rattle.derivation.specs.Excess.{RoundedOrOut}
 use Rattle.derivation.proofs.Sizes.{rounded-range}
 use Rattle.layout.specs.Copies.{Copied}
 use Rattle.state.specs.View.{domain_reason, decision_reason, flipped_reason, reason_of, reasons_in, kept_cuts, core_over, core_with}
-use Rattle.state.specs.Position.{absent, constraint_in, PositionOf}
-use Rattle.state.proofs.Positions.{at-present, at-absent, position-zero, position-beyond}
-use Rattle.analyze.specs.Analyzed.{Analyzable, Resolving, core_at, analysis_of, Analyzed}
+use Rattle.std.specs.Bool.{then_some}
+use Rattle.std.specs.Prelude.{Option, None, Some}
+use Rattle.layout.specs.Rows.{max_rows}
+use Rattle.state.specs.Position.{constraint_in, PositionOf}
+use Rattle.state.proofs.Positions.{position-zero, position-beyond}
+use Rattle.analyze.specs.Analyzable.{Analyzable, ResolventOf, core_at}
+use Rattle.analyze.specs.Analyzed.{analysis_of, Analyzed}
 use Rattle.analyze.proofs.Lowest.{rounded-holds}
 
 -- ---- a reason: the three that are named are no constraint's number
@@ -40,14 +46,14 @@ module _ (c : Core) (i : ℕ) (f : Constraint) (k : ℕ) where
   resolve-cases false false true p q r = rw (r refl)
   resolve-cases false false false p q r = refl
 
-reason-resolves : (n m made : ℕ) (rows : List ℤ) (numbers : List ℕ) (l : Level) (ls : List Level) (i : ℕ) (f : Constraint) (reason j : ℕ) → m ≤ max_constraints → made ≤ max_budget → PositionOf m made reason j →
-    resolve_by (core_with n m made rows numbers l ls) i f (reason_of reason) ≡ resolve_kept l.box i f reason (constraint_in n rows j)
-unfolding reason_of core_over
-reason-resolves n m made rows numbers l ls i f reason j few budget p =
+reason-resolves : (n m made : ℕ) (rows : List ℤ) (numbers : List ℕ) (l : Level) (ls : List Level) (i : ℕ) (f : Constraint) (reason : ℕ) (position : Option ℕ) → m ≤ max_constraints → made ≤ max_budget → PositionOf m made reason position →
+    resolve_by (core_with n m made rows numbers l ls) i f (reason_of reason) ≡ resolve_kept l.box i f reason (constraint_in n rows position)
+unfolding reason_of core_over constraint_in
+reason-resolves n m made rows numbers l ls i f reason position few budget p =
     let c = core_with n m made rows numbers l ls in
-    let beyond : m + made < reason → kept_number c reason ≡ none = λ h. (position-beyond m made reason h).found n rows numbers l ls ∙ at-absent n rows in
+    let beyond : m + made < reason → kept_number c reason ≡ none = λ h. (position-beyond m made reason h).found n rows numbers l ls in
     resolve-cases c i f reason (eqb reason domain_reason) (eqb reason decision_reason) (eqb reason flipped_reason)
-    (λ e. let z : reason ≡ 0 = eqb-true reason domain_reason e in rw z ((position-zero m made).found n rows numbers l ls ∙ at-absent n rows))
+    (λ e. let z : reason ≡ 0 = eqb-true reason domain_reason e in rw z ((position-zero m made).found n rows numbers l ls))
     (λ e. beyond (omega (arith, eqb-true reason decision_reason e))) (λ e. beyond (omega (arith, eqb-true reason flipped_reason e))) ∙
     ap (resolve_kept l.box i f reason) (p.found n rows numbers l ls)
 
@@ -88,44 +94,43 @@ module _ (box : Box) (i : ℕ) (f : Constraint) (k : ℕ) (j : Constraint) where
       unfolding take_if
       with-taken r t = let q = outcome-is r in with-outcome ∙ rw (← q) (rw (r, t))
 
+-- the outcome g is taken where it is falsified
+pub taken-where-false : (n i j : ℕ) (rows lower upper f g : List ℤ) (c : Constraint) (t : Bool) → opposite (coefficient_at (constraint_at n f 0) i) (coefficient_at (row_at n rows j) i) ≡ true →
+    rounded c ≡ resolvent i (constraint_at n f 0) (row_at n rows j) → RoundedOrOut c (constraint_at n g 0) → in_range (constraint_at n g 0) ≡ true → length g ≡ row_length →
+    t ≡ falsified (constraint_at n g 0) (box_of n lower upper) → ResolventOf n rows lower upper f i j (then_some t g)
+taken-where-false n i j rows lower upper f g c true o e d r l h = λ number. record { same = with-taken _ _ _ _ _ c o e d r (sym h); range = r; size = l }
+taken-where-false n i j rows lower upper f g c false o e d r l h = λ number. with-holding _ _ _ _ _ c o e d r (sym h)
+
 -- ---- F combined with the reason at variable i
-pub position-most : {n m made : ℕ} {rows lower upper : List ℤ} {j : ℕ} → Analyzable n m made rows lower upper → j < m + kept_cuts made → j < absent
+pub position-most : {n m made : ℕ} {rows lower upper : List ℤ} {j : ℕ} → Analyzable n m made rows lower upper → j < m + kept_cuts made → j < max_rows
 unfolding kept_cuts
 position-most a h = omega (arith, a.inputs)
 
+pub box-in-hand : {n m made : ℕ} {rows lower upper : List ℤ} → Analyzable n m made rows lower upper → BoxFits n lower upper
+box-in-hand a = box-fits _ _ _ (true_of _ a.box-range) (omega (arith, a.variables, a.lower-size)) (omega (arith, a.variables, a.upper-size))
+
 pub kept-range : (n m made : ℕ) (rows lower upper : List ℤ) (j : ℕ) → Analyzable n m made rows lower upper → j < m + kept_cuts made → in_range (row_at n rows j) ≡ true
 kept-range n m made rows lower upper j a h = every-at in_range (row_at n rows) (m + kept_cuts made) j (true_of _ a.rows-range) h
-
-pub resolving : (n m made : ℕ) (rows lower upper f : List ℤ) (j : ℕ) → Analyzable n m made rows lower upper → length f ≡ row_length → in_range (constraint_at n f 0) ≡ true → j < absent → j < m + kept_cuts made → Resolving n rows lower upper f j
-resolving n m made rows lower upper f j a s r p h =
-    record {
-      box = record { variables = a.variables; lower-size = a.lower-size; upper-size = a.upper-size; box-range = a.box-range };
-      rows-size = a.rows-size;
-      position = p;
-      first-size = s;
-      first_range = r;
-      second_range = kept-range n m made rows lower upper j a h;
-    }
 
 module _ (n m made : ℕ) (rows lower upper : List ℤ) (below above numbers : List ℕ) (decided : ℕ) (outer : List Level) where
   abbrev here : Core
   here = core_at n m made rows lower upper below above numbers decided outer
 
-  module _ (a : Analyzable n m made rows lower upper) (i : ℕ) (l : i < n) (f : Constraint) (reason j : ℕ)
-      (e : reason_of reason ≡ used_reason (coefficient_at f i) (reasons_in below above i)) (p : PositionOf m made reason j) where
-    at-reason : resolve_at here i f ≡ resolve_kept (box_of n lower upper) i f reason (constraint_in n rows j)
+  module _ (a : Analyzable n m made rows lower upper) (i : ℕ) (l : i < n) (f : Constraint) (reason : ℕ) (position : Option ℕ)
+      (e : reason_of reason ≡ used_reason (coefficient_at f i) (reasons_in below above i)) (p : PositionOf m made reason position) where
+    at-reason : resolve_at here i f ≡ resolve_kept (box_of n lower upper) i f reason (constraint_in n rows position)
     unfolding resolve_at reasons_at core_over
     at-reason =
         rw (get_d-tab (reasons_in below above) n i no_reasons l, ← e)
-        (reason-resolves n m made rows numbers (record { box = box_of n lower upper; reasons = tab (reasons_in below above) 0 n; decided = decided }) outer i f reason j a.inputs a.cuts p)
+        (reason-resolves n m made rows numbers (record { box = box_of n lower upper; reasons = tab (reasons_in below above) 0 n; decided = decided }) outer i f reason position a.inputs a.cuts p)
 
-    pub resolve-none : j ≡ absent → resolve_at here i f ≡ record { cut = f; used = 0 }
-    unfolding resolve_kept unchanged
-    resolve-none z = at-reason ∙ rw (z, at-absent n rows)
+    pub resolve-none : position ≡ None → resolve_at here i f ≡ record { cut = f; used = 0 }
+    unfolding resolve_kept unchanged constraint_in
+    resolve-none z = at-reason ∙ rw z
 
-    pub resolve-some : j < absent → resolve_at here i f ≡ resolve_with (box_of n lower upper) i f reason (row_at n rows j)
-    unfolding resolve_kept is_inequality modulus row_at constraint_at
-    resolve-some h = at-reason ∙ rw (at-present n rows j h)
+    pub resolve-some : (j : ℕ) → position ≡ Some j → resolve_at here i f ≡ resolve_with (box_of n lower upper) i f reason (row_at n rows j)
+    unfolding resolve_kept is_inequality modulus row_at constraint_at constraint_in
+    resolve-some j z = at-reason ∙ rw z
 
 -- ---- the loop, from variable n − 1 down: F and what was used from variable i on
 pub record Analyzing (n m made : ℕ) (rows lower upper : List ℤ) (below above : List ℕ) (first : Constraint) (i : ℕ) (f : List ℤ) (used : List ℕ) : Type 0 where

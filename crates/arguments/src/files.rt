@@ -1,5 +1,5 @@
 // The bytes of a file.
-ghost use Rattle.std.specs.Prelude.{IfOk};
+ghost use Rattle.std.specs.Prelude.{IfOk, IfSome};
 ghost use Rattle.filling.specs.Counts.{IsPrefixLen};
 
 use crate::told::tell_file;
@@ -20,22 +20,20 @@ fn read_named(rt: &impl Files, name: &[u8], file: &mut [u8]) -> Result<usize>
     read_full(&mut opened, file)
 }
 
-// Reads a file to its end, or until the buffer is full, and returns how many bytes that gave. A failure is told and remembered, and gives none.
+// Reads a file to its end, or until the buffer is full, and returns how many bytes that gave. A failure is told, and gives none.
 pub fn read_file(
     rt: &impl Files,
     stderr: &impl Print,
     name: &[u8],
     file: &mut [u8],
-    failed: &mut bool,
-) -> usize
-    ensures { IsPrefixLen result file.new }
+) -> Option<usize>
+    ensures { IfSome result (λ n. IsPrefixLen n file.new) }
 {
     match read_named(rt, name, file) {
-        Ok(length) => length,
+        Ok(length) => Some(length),
         Err(error) => {
             tell_file(stderr, name, error);
-            *failed = true;
-            0
+            None
         }
     }
 }

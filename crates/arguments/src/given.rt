@@ -1,9 +1,10 @@
-// The arguments that a program was given, 1 the first. One that is wrong is told and remembered.
+// The arguments that a program was given, 1 the first. One that is wrong is told, and none.
+ghost use Rattle.std.specs.Prelude.{IfSome};
 ghost use Rattle.filling.specs.Counts.{IsPrefixLen};
 
 use crate::files::read_file;
 use crate::told::{LONGEST_WORD, tell_word};
-use numerals::{Date, Day, Number, date_in, number_in};
+use numerals::{Day, date_in, number_in};
 use std::env::{Env, FillError};
 use std::io::Print;
 use std::rt::Files;
@@ -19,64 +20,57 @@ pub fn count(rt: &impl Env) -> usize {
     usize::MAX
 }
 
-// Puts an argument at the start of a buffer and returns its length; of one that does not fit, the first bytes.
-fn first_bytes(rt: &impl Env, i: usize, buffer: &mut [u8]) -> usize
-    ensures { IsPrefixLen result buffer.new }
-{
-    match rt.arg(i, buffer) {
+// An argument, put at the start of a buffer; of one that does not fit, the first bytes.
+fn first_bytes<'a>(rt: &impl Env, i: usize, buffer: &'a mut [u8]) -> &'a [u8] {
+    let length = match rt.arg(i, buffer) {
         Ok(length) => length,
         Err(FillError::TooLong) => buffer.len(),
         Err(FillError::NotPresent) => 0,
-    }
+    };
+    &buffer[..length]
 }
 
-// The same of a word that has to be whole: one that does not fit is empty.
-pub(crate) fn whole(rt: &impl Env, i: usize, buffer: &mut [u8]) -> usize
-    ensures { IsPrefixLen result buffer.new }
-{
+// The same of a word that has to be whole: none that does not fit.
+pub(crate) fn whole<'a>(rt: &impl Env, i: usize, buffer: &'a mut [u8]) -> Option<&'a [u8]> {
     match rt.arg(i, buffer) {
-        Ok(length) => length,
-        Err(_) => 0,
+        Ok(length) => Some(&buffer[..length]),
+        Err(_) => None,
     }
 }
 
 // Tells what is wrong with an argument.
 pub fn tell(rt: &impl Env, stderr: &impl Print, what: &[u8], i: usize) {
-    let mut word = [0u8; LONGEST_WORD];
-    let length = first_bytes(rt, i, &mut word);
-    tell_word(stderr, what, &word[..length]);
+    let mut buffer = [0u8; LONGEST_WORD];
+    let word = first_bytes(rt, i, &mut buffer);
+    tell_word(stderr, what, word);
 }
 
-// The number that an argument is. (One that is missing or does not fit the buffer is an empty word here, and that is no number.)
-pub fn number_at(rt: &impl Env, stderr: &impl Print, i: usize, failed: &mut bool) -> i64 {
-    let mut word = [0u8; LONGEST_WORD];
-    let length = whole(rt, i, &mut word);
-    match number_in(&word[..length]) {
-        Number::Value(v) => v,
-        Number::Wrong => {
-            tell(rt, stderr, b"not a whole number of 64 bits", i);
-            *failed = true;
-            0
-        }
+// What an argument says, read so. That it says nothing of the kind is told; one that is missing or does not fit the buffer says nothing.
+fn value_at<T, R: Fn(&[u8]) -> Option<T>>(
+    rt: &impl Env,
+    stderr: &impl Print,
+    i: usize,
+    read: R,
+    wrong: &[u8],
+) -> Option<T>
+    requires { R.IsAlwaysCallable read }
+{
+    let mut buffer = [0u8; LONGEST_WORD];
+    let value = whole(rt, i, &mut buffer).and_then(read);
+    if value.is_none() {
+        tell(rt, stderr, wrong, i);
     }
+    value
+}
+
+// The number that an argument is.
+pub fn number_at(rt: &impl Env, stderr: &impl Print, i: usize) -> Option<i64> {
+    value_at(rt, stderr, i, number_in, b"not a whole number of 64 bits")
 }
 
 // The date that an argument is.
-pub fn date_at(rt: &impl Env, stderr: &impl Print, i: usize, failed: &mut bool) -> Day {
-    let mut word = [0u8; LONGEST_WORD];
-    let length = whole(rt, i, &mut word);
-    match date_in(&word[..length]) {
-        Date::Value(day) => day,
-        Date::Wrong => {
-            tell(rt, stderr, b"not a date as 2026-05-31", i);
-            *failed = true;
-            Day {
-                year: 0,
-                month: 0,
-                day: 0,
-            }
-        }
-    }
+pub fn date_at(rt: &impl Env, stderr: &impl Print, i: usize) -> Option<Day> {
+    value_at(rt, stderr, i, date_in, b"not a date as 2026-05-31")
 }
 
 // Reads the file that an argument names. (The first bytes of one that does not fit the buffer are too many for a name, and so refused.)
@@ -85,11 +79,10 @@ pub fn file_at(
     stderr: &impl Print,
     i: usize,
     file: &mut [u8],
-    failed: &mut bool,
-) -> usize
-    ensures { IsPrefixLen result file.new }
+) -> Option<usize>
+    ensures { IfSome result (λ n. IsPrefixLen n file.new) }
 {
-    let mut name = [0u8; LONGEST_WORD];
-    let length = first_bytes(rt, i, &mut name);
-    read_file(rt, stderr, &name[..length], file, failed)
+    let mut buffer = [0u8; LONGEST_WORD];
+    let name = first_bytes(rt, i, &mut buffer);
+    read_file(rt, stderr, name, file)
 }

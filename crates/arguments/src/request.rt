@@ -5,7 +5,7 @@ use crate::told::LONGEST_WORD;
 use std::env::Env;
 use std::io::Print;
 
-const VERSION: [u8; 14] = *b"nefrwgall 1.0\n";
+const VERSION: &[u8] = b"nefrwgall 1.0\n";
 
 fn print(rt: &impl Print, stderr: &impl Print, text: &[u8]) {
     if rt.write_all(text).is_err() {
@@ -13,16 +13,12 @@ fn print(rt: &impl Print, stderr: &impl Print, text: &[u8]) {
     }
 }
 
-// Whether every program knows this word.
-fn is_request(word: &[u8]) -> bool {
-    matches!(word, b"--help" | b"--version")
-}
-
-// Answers a word that every program knows.
-fn answer(rt: &impl Print, stderr: &impl Print, word: &[u8], use_text: &[u8]) {
+// What every program answers to a word.
+fn answer<'a>(word: &[u8], use_text: &'a [u8]) -> Option<&'a [u8]> {
     match word {
-        b"--version" => print(rt, stderr, &VERSION),
-        _ => print(rt, stderr, use_text),
+        b"--help" => Some(use_text),
+        b"--version" => Some(VERSION),
+        _ => None,
     }
 }
 
@@ -36,11 +32,10 @@ pub fn takes(
     use_text: &[u8],
 ) -> bool {
     let given = count(rt);
-    let mut first = [0u8; LONGEST_WORD];
-    let length = whole(rt, 1, &mut first);
-    if is_request(&first[..length]) {
+    let mut buffer = [0u8; LONGEST_WORD];
+    if let Some(text) = whole(rt, 1, &mut buffer).and_then(|word| answer(word, use_text)) {
         if given == 1 {
-            answer(rt, stderr, &first[..length], use_text);
+            print(rt, stderr, text);
         } else {
             tell(rt, stderr, b"unknown argument", 2);
         }

@@ -1,6 +1,4 @@
 // What is told on standard error. What cannot be written there is lost: there is nowhere else to tell it.
-ghost use Rattle.filling.specs.Counts.{IsPrefixLen};
-
 use std::io::{Error, Print, Write};
 use std::str;
 
@@ -12,28 +10,7 @@ const LONGEST_ERROR: usize = 128;
 
 // A byte as it is told: those that could break the line or move a terminal's cursor as `?`.
 fn printed(byte: u8) -> u8 {
-    if byte < 32 {
-        return b'?';
-    }
-    if byte == 127 {
-        return b'?';
-    }
-    byte
-}
-
-// Puts what is told of a word, as far as there is room. Returns how many bytes that is.
-fn put_printed(line: &mut [u8], word: &[u8]) -> usize
-    ensures { IsPrefixLen result line.new }
-{
-    let mut i: usize = 0;
-    while i < line.len() {
-        if i == word.len() {
-            return i;
-        }
-        line[i] = printed(word[i]);
-        i += 1;
-    }
-    i
+    if byte.is_ascii_control() { b'?' } else { byte }
 }
 
 pub(crate) fn tell(stderr: &impl Print, text: &[u8]) {
@@ -43,8 +20,11 @@ pub(crate) fn tell(stderr: &impl Print, text: &[u8]) {
 // Tells a word as far as a path may be long.
 fn tell_printed(stderr: &impl Print, word: &[u8]) {
     let mut line = [0u8; LONGEST_WORD];
-    let end = put_printed(&mut line, word);
-    tell(stderr, &line[..end]);
+    let length = word.len().min(LONGEST_WORD);
+    for (to, from) in line.iter_mut().zip(word) {
+        *to = printed(*from);
+    }
+    tell(stderr, &line[..length]);
 }
 
 // Tells what is wrong with a word.

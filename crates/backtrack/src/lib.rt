@@ -16,7 +16,7 @@ ghost use Rattle.backtrack.specs.Jumps.{Decidable, Decided, LevelSaved, Flippabl
 
 use layout::MAX_ROWS;
 use levels::copy_to;
-use propagate::bounds::{lower_upper, set, shift};
+use propagate::bounds::{set, shift};
 use propagate::scan::measure;
 use state::kept::{dropped, kept_count};
 use state::{DECISION, FLIPPED};
@@ -30,25 +30,22 @@ fn place(m: usize, by: usize, j: usize) -> usize
     requires { (j ≤ saved_room) × (by ≤ max_budget) }
     ensures { result ≡ place_of m by j }
 {
-    if j < m {
-        return j;
-    }
-    j + by
+    if j < m { j } else { j + by }
 }
 
 // What was saved for level t of the constraints that are still kept, up to the first that was not: how many those are.
-fn take_back<'a>(
+fn take_back(
     n: usize,
-    rows: &'a [i64; 4224],
-    lower: &'a [i64; 32],
-    upper: &'a [i64; 32],
+    rows: &[i64; 4224],
+    lower: &[i64; 32],
+    upper: &[i64; 32],
     m: usize,
     made: usize,
     earlier: usize,
     count: usize,
     t: usize,
-    olds: &'a [i64; 4224],
-    limits: &'a [i64; 4224],
+    olds: &[i64; 4224],
+    limits: &[i64; 4224],
     activities: &mut [i64; 128],
     reaches: &mut [i64; 128],
 ) -> usize
@@ -58,32 +55,28 @@ fn take_back<'a>(
     let kept = kept_count(m, made);
     let by = dropped(made) - earlier;
     let at = ROOM * t;
-    let mut j: usize = 0;
-    while j < kept {
+    for j in 0..kept {
         let p = place(m, by, j);
         if count <= p {
             return j;
         }
-        let a = olds[at + p];
-        let r = limits[at + p];
-        activities[j] = a;
-        reaches[j] = r;
-        j += 1;
+        activities[j] = olds[at + p];
+        reaches[j] = limits[at + p];
     }
     kept
 }
 
 // A decision at variable i: its upper bound falls to its lower one. What is kept of the constraints at the level that it leaves is saved. Returns the
 // position of the first constraint that the new level falsifies, or how many are kept.
-pub fn decide<'a>(
-    rows: &'a [i64; 4224],
+pub fn decide(
+    rows: &[i64; 4224],
     n: usize,
     m: usize,
     made: usize,
     i: usize,
     depth: usize,
-    lower: &'a [i64; 32],
-    reaches: &'a [i64; 128],
+    lower: &[i64; 32],
+    reaches: &[i64; 128],
     upper: &mut [i64; 32],
     above: &mut [usize; 32],
     activities: &mut [i64; 128],
@@ -102,40 +95,35 @@ pub fn decide<'a>(
     copy_to(reaches, count, at, limits);
     gones[depth] = dropped(made);
     counts[depth] = count;
-    let v = lower[i];
-    lower_upper(rows, i, v, DECISION, count, upper, above, activities)
+    let fall = set(upper, above, i, lower[i], DECISION);
+    shift(rows, i, 0, fall, count, activities)
 }
 
 // The decision at variable i flipped: its lower bound goes on to the next value. Returns by how much it rose.
-pub fn flip<'a>(
-    i: usize,
-    thresholds: &'a [i64; 32],
-    lower: &mut [i64; 32],
-    below: &mut [usize; 32],
-) -> i64
+pub fn flip(i: usize, thresholds: &[i64; 32], lower: &mut [i64; 32], below: &mut [usize; 32]) -> i64
     requires { (i < max_variables) × ((Within widest_bound (number_in lower.old i)) × (Within widest_change (next_in thresholds.now lower.old i -ℤ number_in lower.old i))) }
     ensures { (result ≡ next_in thresholds.now lower.old i -ℤ number_in lower.old i) × BoundSet i (next_in thresholds.now lower.old i) flipped_reason lower.old below.old lower.new below.new }
 {
-    let v = next_value(thresholds[i], lower[i]);
-    set(lower, below, i, v, FLIPPED)
+    let next = next_value(thresholds[i], lower[i]);
+    set(lower, below, i, next, FLIPPED)
 }
 
 // Back at the level at `depth`, whose arrays are in hand again, with its decision at variable i flipped: its lower bound goes on to the next value. What
 // was saved of the constraints is taken back, and only those that are new are measured. Returns the position of the first constraint that the level
 // falsifies, or how many are kept.
-pub fn backjump<'a>(
-    rows: &'a [i64; 4224],
+pub fn backjump(
+    rows: &[i64; 4224],
     n: usize,
     m: usize,
     made: usize,
     i: usize,
     depth: usize,
-    thresholds: &'a [i64; 32],
-    upper: &'a [i64; 32],
-    olds: &'a [i64; 4224],
-    limits: &'a [i64; 4224],
-    gones: &'a [usize; 33],
-    counts: &'a [usize; 33],
+    thresholds: &[i64; 32],
+    upper: &[i64; 32],
+    olds: &[i64; 4224],
+    limits: &[i64; 4224],
+    gones: &[usize; 33],
+    counts: &[usize; 33],
     lower: &mut [i64; 32],
     below: &mut [usize; 32],
     activities: &mut [i64; 128],

@@ -1,7 +1,9 @@
 -- Bits of masks: how a mask is built, from the highest variable down, and how it is walked.
 use Prim.Native.Nat.{ℕ, zero, suc, ◌+◌, ◌-◌, ◌*◌, ◌/◌, ◌%◌, ◌^◌, ◌≤◌, ◌<◌, min}
-use native.Mathlib.Nat.{div-one, div-div-eq-div-mul, pow-suc, pow-succ', div-eq_of_lt, lt_of_lt_of_le, eq-or-lt_of_le, add-zero}
+use native.Mathlib.Nat.{div-one, div-div-eq-div-mul, pow-suc, pow-succ', div-eq_of_lt, lt_of_lt_of_le, eq-or-lt_of_le}
 use native.Mathlib.Omega.{arith}
+use mathlib.Core.Bool.{Bool, true, false}
+use mir.Val.{bool_byte}
 use mathlib.Core.Logic.{◌⊎◌, inl, inr, ⊎_elim}
 use mathlib.Core.Path.{◌≡◌, refl, sym, ap, subst, ◌∙◌}
 use lib.Bits.{bit_and, and_step, and_self, and_shr, and_le_r}
@@ -39,33 +41,30 @@ pub record Covers (P : ℕ → Type 0) (n i mask : ℕ) : Type 0 where
   pub few : mask < 2 ^ (n - i)
   pub rest : (k : ℕ) → i ≤ k → k < n → bit mask (k - i) ≡ 0 → P k
 
-module _ (P : ℕ → Type 0) (n : ℕ) where
-  module _ (i mask : ℕ) (c : Covers P n i mask) where
-    -- one variable more, with its digit d
-    covers_more : (d : ℕ) → d < 2 → (d ≡ 0 → P (i - 1)) → 0 < i → i ≤ n → Covers P n (i - 1) (2 * mask + d)
-    covers_more d h p l m = record { few = few; rest = rest }
-      where
-        few : 2 * mask + d < 2 ^ (n - (i - 1))
-        few =
-            let e : n - (i - 1) ≡ suc (n - i) = omega arith in
-            rw (e, pow-suc) (omega (arith, c.few))
+-- one number more, with the digit that its test gives
+module _ {P : ℕ → Type 0} {n i mask : ℕ} (c : Covers P n i mask) where
+  covers_digit : (d : ℕ) → d < 2 → (d ≡ 0 → P (i - 1)) → 0 < i → i ≤ n → Covers P n (i - 1) (2 * mask + d)
+  covers_digit d h p l m = record { few = few; rest = rest }
+    where
+      few : 2 * mask + d < 2 ^ (n - (i - 1))
+      few =
+          let e : n - (i - 1) ≡ suc (n - i) = omega arith in
+          rw (e, pow-suc) (omega (arith, c.few))
 
-        rest : (k : ℕ) → i - 1 ≤ k → k < n → bit (2 * mask + d) (k - (i - 1)) ≡ 0 → P k
-        rest k a b z =
-            ⊎_elim
-            (λ (q : i - 1 ≡ k).
-            let e : k - (i - 1) ≡ 0 = omega arith in
-            subst P q (p (sym (bit-new mask d h) ∙ ap (bit (2 * mask + d)) (sym e) ∙ z)))
-            (λ (q : i - 1 < k).
-            let e : k - (i - 1) ≡ suc (k - i) = omega arith in
-            c.rest k (omega arith) b (sym (bit-old mask d h (k - i)) ∙ ap (bit (2 * mask + d)) (sym e) ∙ z))
-            (eq-or-lt_of_le a)
+      rest : (k : ℕ) → i - 1 ≤ k → k < n → bit (2 * mask + d) (k - (i - 1)) ≡ 0 → P k
+      rest k a b z =
+          ⊎_elim
+          (λ (q : i - 1 ≡ k).
+          let e : k - (i - 1) ≡ 0 = omega arith in
+          subst P q (p (sym (bit-new mask d h) ∙ ap (bit (2 * mask + d)) (sym e) ∙ z)))
+          (λ (q : i - 1 < k).
+          let e : k - (i - 1) ≡ suc (k - i) = omega arith in
+          c.rest k (omega arith) b (sym (bit-old mask d h (k - i)) ∙ ap (bit (2 * mask + d)) (sym e) ∙ z))
+          (eq-or-lt_of_le a)
 
-    pub covers_out : P (i - 1) → 0 < i → i ≤ n → Covers P n (i - 1) (2 * mask)
-    covers_out p l m = rw add-zero at (covers_more 0 (lit< tt) (λ e. p) l m)
-
-    pub covers-in : 0 < i → i ≤ n → Covers P n (i - 1) (2 * mask + 1)
-    covers-in l m = covers_more 1 (lit< tt) (λ e. absurd (omega arith)) l m
+  pub covers_more : {t : Bool} → (t ≡ false → P (i - 1)) → 0 < i → i ≤ n → Covers P n (i - 1) (2 * mask + bool_byte t)
+  covers_more {t = true} p l m = covers_digit 1 (lit< tt) (λ e. absurd (omega arith)) l m
+  covers_more {t = false} p l m = covers_digit 0 (lit< tt) (λ e. p refl) l m
 
 -- ---- the walk
 -- a bit that is set lies within a mask's size

@@ -6,11 +6,6 @@ use Rattle.layout.specs.Rows.{row_length, number_in, cell}
 unfoldable pub bit : ℕ → ℕ → ℕ
 bit mask i = mask / 2 ^ i % 2
 
--- no number, of `count` from `start` on, is other than 0 but those of the mask
-pub record Nonzero (count : ℕ) (numbers : List ℤ) (start mask : ℕ) : Type 0 where
-  pub few : mask < 2 ^ count
-  pub rest : (i : ℕ) → i < count → bit mask i ≡ 0 → number_in numbers (start + i) ≡ pos 0
-
 -- the constraint whose row starts at `start` mentions no variable but those of the mask
 pub record Mentions (n : ℕ) (rows : List ℤ) (start mask : ℕ) : Type 0 where
   pub few : mask < 2 ^ n

@@ -1,5 +1,5 @@
 -- A mask is walked from its lowest bit up: the first bit that is set, and the rest.
-use Rattle.std.specs.Prelude.{ℕ, ◌^◌, ◌≤◌, ◌<◌, ◌≡◌}
+use Rattle.std.specs.Prelude.{ℕ, ◌^◌, ◌≤◌, ◌<◌, ◌≡◌, Option, MatchOption}
 use Rattle.bits.specs.Masks.{bit}
 
 -- bit t is the lowest that is set
@@ -13,3 +13,7 @@ pub record Rest (mask r : ℕ) : Type 0 where
   pub less : r < mask
   pub cleared : (t : ℕ) → First mask t → (i : ℕ) → i ≤ t → bit r i ≡ 0
   pub kept : (t : ℕ) → First mask t → (i : ℕ) → t < i → bit r i ≡ bit mask i
+
+-- one step of the walk: the first bit and the rest, or the end
+abbrev pub Step : ℕ → Option ℕ → ℕ → Type 0
+Step mask t r = MatchOption t (mask ≡ 0) (λ t. First mask t × Rest mask r)

@@ -1,11 +1,11 @@
 // The divisor constraints of a search, apart from the inequalities: which they are, which of them mention a variable, and the first that bounds falsify.
 // `lines` holds the rows of the inputs; among the rows that the other scans read, those with a divisor are blank.
-ghost use Rattle.std.specs.Prelude.{false, ◌⊎◌, ◌≡◌, pos, ◌≤◌, ◌<◌, length};
+ghost use Rattle.std.specs.Prelude.{◌≡◌, pos, ◌≤◌, ◌<◌, length};
 ghost use Rattle.model_problems.specs.Ranges.{max_variables, max_constraints};
 ghost use Rattle.layout.specs.Rows.{rows_length};
 ghost use Rattle.bits.specs.Divided.{Due, Everyone, Unmentioned, Testable, FirstIndivisible, Columns};
 
-use crate::masks::{first, nonzero_mask, rest};
+use crate::masks::{SetBits, mask_where};
 use layout::ROW;
 use linear::divisibility::is_falsified;
 
@@ -14,17 +14,7 @@ pub fn divided_mask(divisors: &[i64; 64], m: usize) -> usize
     requires { (m ≤ max_constraints) × (length divisors.now ≡ max_constraints) }
     ensures { Due m divisors.now Everyone result }
 {
-    nonzero_mask(divisors, 0, m)
-}
-
-// Whether a constraint with divisor q and coefficient a at a variable carries a divisor and mentions the variable.
-fn is_mentioned(q: i64, a: i64) -> bool
-    ensures { result ≡ false → (q ≡ pos 0) ⊎ (a ≡ pos 0) }
-{
-    if q == 0 {
-        return false;
-    }
-    a != 0
+    mask_where(m, |j| divisors[j] != 0)
 }
 
 // The inputs that carry a divisor and mention variable i.
@@ -32,18 +22,7 @@ fn column_mask<'a>(lines: &'a [i64; 4224], divisors: &'a [i64; 64], m: usize, i:
     requires { (m ≤ max_constraints) × ((i < max_variables) × ((length lines.now ≡ rows_length) × (length divisors.now ≡ max_constraints))) }
     ensures { Due m divisors.now (Unmentioned lines.now i) result }
 {
-    let mut mask: usize = 0;
-    let mut j = m;
-    while 0 < j {
-        j -= 1;
-        let a = lines[ROW * j + 1 + i];
-        if is_mentioned(divisors[j], a) {
-            mask = 2 * mask + 1;
-        } else {
-            mask = 2 * mask;
-        }
-    }
-    mask
+    mask_where(m, |j| divisors[j] != 0 && lines[ROW * j + 1 + i] != 0)
 }
 
 // Those of every variable; none where no input carries a divisor.
@@ -58,13 +37,10 @@ pub fn columns<'a>(
     ensures { Columns n m lines.now divisors.now result }
 {
     let mut columns = [0usize; 32];
-    if divided == 0 {
-        return columns;
-    }
-    let mut i: usize = 0;
-    while i < n {
-        columns[i] = column_mask(lines, divisors, m, i);
-        i += 1;
+    if divided != 0 {
+        for i in 0..n {
+            columns[i] = column_mask(lines, divisors, m, i);
+        }
     }
     columns
 }
@@ -83,16 +59,13 @@ pub fn first_indivisible<'a>(
     requires { Testable n m lines.now divisors.now lower.now upper.now mask }
     ensures { FirstIndivisible n m lines.now divisors.now lower.now upper.now mask limit result }
 {
-    let mut left = mask;
-    while left != 0 {
-        let j = first(left);
+    for j in SetBits(mask) {
         if limit <= j {
             return limit;
         }
         if is_falsified(lines, ROW * j, divisors[j], lower, upper, n) {
             return j;
         }
-        left = rest(left);
     }
     limit
 }

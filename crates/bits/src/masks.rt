@@ -1,24 +1,21 @@
 // Masks of variables, and the walk through the bits that are set.
-ghost use Rattle.std.specs.Prelude.{◌⊎◌, ◌≡◌, ℕ, ◌+◌, ◌*◌, ◌≤◌, ◌<◌, List, ℤ, length};
+ghost use Rattle.std.specs.Prelude.{◌⊎◌, false, ◌≡◌, ℕ, ◌+◌, ◌*◌, ◌^◌, ◌≤◌, ◌<◌, List, ℤ, length};
+ghost use Rattle.std.specs.Iterator.{at_most};
 ghost use Rattle.model_problems.specs.Ranges.{max_variables, max_constraints, max_cuts};
 ghost use Rattle.layout.specs.Rows.{row_length};
-ghost use Rattle.bits.specs.Masks.{bit, Nonzero, Mentions, Opens, Masked};
-ghost use Rattle.bits.specs.Walk.{First, Rest};
+ghost use Rattle.bits.specs.Masks.{bit, Mentions, Opens, Masked};
+ghost use Rattle.bits.specs.Walk.{First, Rest, Step};
 
-// The places, of `count` from `start` on, whose number is not 0. Each turn makes room at bit 0 for the place before.
-pub(crate) fn nonzero_mask(numbers: &[i64], start: usize, count: usize) -> usize
-    requires { (count ≤ max_constraints) × (start + count ≤ length numbers.now) }
-    ensures { Nonzero count numbers.now start result }
+// The numbers below `count` that pass a test. Each turn makes room at bit 0 for the number below.
+pub(crate) fn mask_where<F: Fn(usize) -> bool>(count: usize, test: F) -> usize
+    requires few { count ≤ max_constraints }
+    requires testable { (i : ℕ) → i < count → F.pre test i }
+    ensures few { result < 2 ^ count }
+    ensures rest { (i : ℕ) → i < count → bit result i ≡ 0 → F.post test i false }
 {
-    let mut mask: usize = 0;
-    let mut i = count;
-    while 0 < i {
-        i -= 1;
-        if numbers[start + i] == 0 {
-            mask = 2 * mask;
-        } else {
-            mask = 2 * mask + 1;
-        }
+    let mut mask = 0;
+    for i in (0..count).rev() {
+        mask = 2 * mask + usize::from(test(i));
     }
     mask
 }
@@ -28,7 +25,7 @@ pub fn row_mask(rows: &[i64], start: usize, n: usize) -> usize
     requires { (n ≤ max_variables) × (start + n < length rows.now) }
     ensures { Mentions n rows.now start result }
 {
-    nonzero_mask(rows, start + 1, n)
+    mask_where(n, |i| rows[start + 1 + i] != 0)
 }
 
 // The variables with L < U.
@@ -36,17 +33,7 @@ pub fn open_mask<'a>(lower: &'a [i64; 32], upper: &'a [i64; 32], n: usize) -> us
     requires { n ≤ max_variables }
     ensures { Opens n lower.now upper.now result }
 {
-    let mut mask: usize = 0;
-    let mut i = n;
-    while 0 < i {
-        i -= 1;
-        if upper[i] <= lower[i] {
-            mask = 2 * mask;
-        } else {
-            mask = 2 * mask + 1;
-        }
-    }
-    mask
+    mask_where(n, |i| lower[i] < upper[i])
 }
 
 // The lowest bit that is set.
@@ -54,7 +41,7 @@ pub fn first(mask: usize) -> usize
     requires { 0 < mask }
     ensures { First mask result }
 {
-    usize::trailing_zeros(mask) as usize
+    mask.trailing_zeros() as usize
 }
 
 // The bits above that one.
@@ -63,6 +50,27 @@ pub fn rest(mask: usize) -> usize
     ensures { Rest mask result }
 {
     mask & (mask - 1)
+}
+
+// The bits of a mask that are set, from the lowest up.
+#[derive(Clone, Copy)]
+pub(crate) struct SetBits(pub(crate) usize);
+
+impl Iterator for SetBits {
+    type Item = usize;
+
+    ghost next_gives = { λ old bit new. Step old.0 bit new.0 };
+
+    ghost remaining = { λ left. at_most left.0 };
+
+    fn next(&mut self) -> Option<usize> {
+        if self.0 == 0 {
+            return None;
+        }
+        let bit = first(self.0);
+        self.0 = rest(self.0);
+        Some(bit)
+    }
 }
 
 // The bits that two masks share.
@@ -77,8 +85,5 @@ pub fn mask_of<'a>(inputs: &'a [usize; 64], cuts: &'a [usize; 64], m: usize, j: 
     requires { (m ≤ max_constraints) × (j < m + max_cuts) }
     ensures { (n kept : ℕ) (rows : List ℤ) → Masked n m kept rows inputs.now cuts.now → j < kept → Mentions n rows (row_length * j) result }
 {
-    if j < m {
-        return inputs[j];
-    }
-    cuts[j - m]
+    if j < m { inputs[j] } else { cuts[j - m] }
 }

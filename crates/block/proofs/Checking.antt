@@ -1,5 +1,5 @@
 -- A block's check as a loop adds it up, and zeros as a loop finds them.
-use Rattle.std.proofs.Common.{◌≡◌, ℕ, suc, ◌+◌, ◌*◌, ◌%◌, ◌^◌, ◌<◌, ◌≤◌, true, false, ◌&&◌, eqb, List, length, get_or, take, sym, ap, ◌∙◌, add-one, arith, drop_of_length-le, length-take, length-take-le, drop-cons, get_or-take, eq-eqb, ne_eqb}
+use Rattle.std.proofs.Common.{◌≡◌, ℕ, suc, ◌+◌, ◌*◌, ◌%◌, ◌^◌, ◌≤◌, Bool, ◌&&◌, eqb, List, [], ◌∷◌, refl, ap, ◌∙◌, arith}
 use native.Mathlib.Nat.{mod-add-mod}
 use Rattle.model_problems.specs.Lists.{tab, sum, all_of}
 use Rattle.model_files.specs.Bytes.{u32_at, check_offset, word_at, checksum, is_zero, zero_between}
@@ -26,23 +26,3 @@ module _ (b : List ℕ) (k : ℕ) where
 
 pub check-test : (b : List ℕ) (k r w : ℕ) → r ≡ checksum k b → w ≡ u32_at b check_offset → eqb r w ≡ eqb (checksum k b) (u32_at b check_offset)
 check-test b k r w e h = rw (e, h)
-
--- ---- the bytes from i to e are zero where those from j are, the loop being at j
-module _ (b : List ℕ) (i e j : ℕ) (h : zero_between i e b ≡ zero_between j e b) where
-  zero-step : e ≤ length b → j < e → zero_between j e b ≡ (is_zero (get_or b j 0) && zero_between (j + 1) e b)
-  unfolding zero_between all_of
-  zero-step l m =
-      let n = length-take-le e b l in
-      ap (all_of is_zero) (drop-cons (take e b) j 0 (omega arith)) ∙ rw (get_or-take e b j 0 m, add-one)
-
-  pub zero-next : e ≤ length b → j < e → get_or b j 0 ≡ 0 → zero_between i e b ≡ zero_between (j + 1) e b
-  unfolding is_zero
-  zero-next l m z = h ∙ zero-step l m ∙ rw (eq-eqb (get_or b j 0) 0 z)
-
-  pub zero-fails : e ≤ length b → j < e → (get_or b j 0 ≡ 0 → ⊥) → false ≡ zero_between i e b
-  unfolding is_zero
-  zero-fails l m z = sym (h ∙ zero-step l m ∙ rw (ne_eqb (get_or b j 0) 0 z))
-
-  pub zero-all : e ≤ j → true ≡ zero_between i e b
-  unfolding zero_between all_of
-  zero-all l = sym (h ∙ ap (all_of is_zero) (drop_of_length-le (take e b) {i = j} (omega (arith, length-take e b))))

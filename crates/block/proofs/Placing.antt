@@ -1,7 +1,8 @@
 -- Fields put one after the other: `then p q`, where p puts a and q puts b right after it, puts a ++ b. So a content a ++ (b ++ ..) is put by
 -- `then p (then q ..)`, and one of a loop, parts f 0 n, by `none-placed` and `more-placed`.
-use Rattle.std.proofs.Common.{◌≡◌, ℕ, zero, suc, ◌+◌, ◌-◌, ◌/◌, ◌%◌, ◌≤◌, List, [], ◌∷◌, ◌++◌, length, take, drop, set, sym, refl, ap, ◌∙◌, append_assoc, append-nil, zero-add, add-one, arith, length-append, length-drop, take-append-drop, drop_of_length-le, length-take-le, take_all, drop-drop}
-use lib.Seq.{drop-nil, take-append_seam, drop-append-add, sets-eq}
+use Rattle.std.proofs.Common.{◌≡◌, ℕ, zero, suc, ◌+◌, ◌-◌, ◌*◌, ◌/◌, ◌%◌, ◌^◌, ◌≤◌, List, [], ◌∷◌, ◌++◌, length, take, drop, w64, sym, refl, ap, ◌∙◌, append_assoc, append-nil, zero-add, arith, length-append, length-drop, take-append-drop, drop_of_length-le, length-take-le, take_all, drop-drop}
+use Rattle.std.specs.Int.{to_le_bytes}
+use lib.Seq.{drop-nil, take-append_seam, drop-append-add}
 use borrow.Rule.Slice.PartMut.{put_mid, Post-is}
 use Rattle.model_problems.specs.Lists.{parts}
 use Rattle.model_files.specs.Bytes.{u16_bytes, u32_bytes}
@@ -65,13 +66,36 @@ part_placed {bytes} {part} s i j h l k e =
     let n = length-take-le (j - i) (drop i s) (omega (arith, length-drop i s)) in
     record { width = omega (arith, ap length e, k, n); whole = rw (e, Post-is i j s h) }
 
--- ---- the numbers' bytes
-pub u16-placed : (s : List ℕ) (i v : ℕ) → i + 2 ≤ length s → Placed s i (i + 2) (u16_bytes v) (set (set s i (v % 256)) (i + 1) (v / 256 % 256))
-unfolding u16_bytes
-u16-placed s i v h =
-    let bytes : List ℕ = v % 256 ∷ v / 256 % 256 ∷ [] in
-    record { width = refl; whole = rw (add-one i) (sets-eq bytes s i h ∙ append_assoc (take i s) bytes (drop (i + 2) s)) }
+-- ---- bytes that are copied to their place: the lowest ones of a number
+pub bytes-placed : {s t put : List ℕ} {at n : ℕ} (bytes : List ℕ) → put ≡ bytes → length bytes ≡ n → Placed s at (at + length put) put t → Placed s at (at + n) bytes t
+bytes-placed bytes e l p = rw (e, l) at p
 
-pub u32-placed : {s t u : List ℕ} (i v : ℕ) → Placed s i (i + 2) (u16_bytes (v % 65536)) t → Placed t (i + 2) (i + 2 + 2) (u16_bytes (v / 65536)) u → Placed s i (i + 4) (u32_bytes v) u
-unfolding u32_bytes
-u32-placed i v p q = let e : i + 2 + 2 ≡ i + 4 = omega arith in rw (← e) (then p q)
+pub length-u16 : (v : ℕ) → length (u16_bytes v) ≡ 2
+unfolding u16_bytes
+length-u16 v = refl
+
+pub length-u32 : (v : ℕ) → length (u32_bytes v) ≡ 4
+unfolding u32_bytes u16_bytes
+length-u32 v = refl
+
+pub low-u16 : (v : ℕ) → take 2 (to_le_bytes w64 v) ≡ u16_bytes v
+unfolding u16_bytes
+low-u16 v = refl
+
+pub low-u32 : (v : ℕ) → take 4 (to_le_bytes w64 v) ≡ u32_bytes v
+unfolding u32_bytes u16_bytes
+low-u32 v =
+    let a : v % 65536 % 256 ≡ v % 256 = omega arith in
+    let b : v % 65536 / 256 % 256 ≡ v / 256 % 256 = omega arith in
+    let d : v / 65536 / 256 % 256 ≡ v / 16777216 % 256 = omega arith in
+    rw (a, b, d)
+
+-- of a number and the same modulo 2^32
+pub low-same : (v w k : ℕ) → v ≡ w + 2 ^ 32 * k → u32_bytes v ≡ u32_bytes w
+unfolding u32_bytes u16_bytes
+low-same v w k e =
+    let a : v % 65536 % 256 ≡ w % 65536 % 256 = omega arith in
+    let b : v % 65536 / 256 % 256 ≡ w % 65536 / 256 % 256 = omega arith in
+    let c : v / 65536 % 256 ≡ w / 65536 % 256 = omega arith in
+    let d : v / 65536 / 256 % 256 ≡ w / 65536 / 256 % 256 = omega arith in
+    rw (a, b, c, d)

@@ -1,22 +1,12 @@
 -- A block cleared, and sealed by its check once its content is in place.
-use Rattle.std.proofs.Common.{◌≡◌, ℕ, ◌+◌, ◌-◌, ◌<◌, ◌≤◌, List, ◌++◌, length, take, drop, set, replicate, sym, refl, ap, ◌∙◌, append_assoc, append-nil, arith, take-append-drop, drop_of_length-le, length-take-le, drop-drop, take_at}
+use Rattle.std.proofs.Common.{◌≡◌, ℕ, ◌+◌, ◌-◌, ◌≤◌, List, ◌++◌, length, take, drop, replicate, sym, refl, ap, ◌∙◌, append_assoc, append-nil, arith, take-append-drop, drop_of_length-le, length-take-le, drop-drop, take_at}
 use lib.ListN.{length-replicate, replicate-append-replicate}
-use borrow.Author.Fill.{fill_more}
 use Rattle.model_files.specs.Bytes.{u32_bytes, block_length, check_offset, checksum, padded_to, padded, sealed}
 use Rattle.format.proofs.ByteLaws.{place}
 use Rattle.format.proofs.BlockLaws.{checksum-take, length-padded-to, length-padded}
 use Rattle.block.specs.Placed.{Placed, cleared}
 
 -- ---- a cleared block
-pub cleared_more : (s d : List ℕ) (i : ℕ) → i < length d → s ≡ replicate i 0 ++ drop i d → set s i 0 ≡ replicate (i + 1) 0 ++ drop (i + 1) d
-cleared_more s d i l e = rw e (fill_more i 0 d l)
-
-pub cleared-all : (s d : List ℕ) (i : ℕ) → length d ≡ block_length → block_length ≤ i → i ≤ block_length → s ≡ replicate i 0 ++ drop i d → s ≡ cleared
-unfolding cleared
-cleared-all s d i l h k e =
-    let z : i ≡ block_length = omega arith in
-    e ∙ rw (drop_of_length-le d {i = i} (omega arith), append-nil {A = ℕ} (replicate i 0)) (ap (λ (n : ℕ). replicate n 0) z)
-
 -- a new array of zeros
 pub zeros-cleared : replicate block_length 0 ≡ cleared
 unfolding cleared

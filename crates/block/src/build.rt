@@ -4,15 +4,22 @@ ghost use Rattle.integer.specs.Size.{Within};
 ghost use Rattle.model_files.specs.Bytes.{u16_bytes, u32_bytes, i32_bytes, unsigned, block_length, check_offset, sealed};
 ghost use Rattle.block.specs.Placed.{Placed, cleared};
 
-use crate::{CHECK, LENGTH, check};
+use crate::{CHECK, check};
+
+// Puts bytes at a place.
+fn put(s: &mut [u8], at: usize, bytes: &[u8])
+    requires { at + length bytes.now ≤ length s.old }
+    ensures { Placed s.old at (at + length bytes.now) bytes.now s.new }
+{
+    s[at..at + bytes.len()].copy_from_slice(bytes);
+}
 
 // Puts 16 bits of a number at a place.
 pub fn put_u16(s: &mut [u8], at: usize, v: usize)
     requires { at + 2 ≤ length s.old }
     ensures { Placed s.old at (at + 2) (u16_bytes v) s.new }
 {
-    s[at] = (v % 256) as u8;
-    s[at + 1] = (v / 256 % 256) as u8;
+    put(s, at, &v.to_le_bytes()[..2]);
 }
 
 // Puts 32 bits of a number at a place.
@@ -20,39 +27,24 @@ pub fn put_u32(s: &mut [u8], at: usize, v: usize)
     requires { at + 4 ≤ length s.old }
     ensures { Placed s.old at (at + 4) (u32_bytes v) s.new }
 {
-    put_u16(s, at, v % 65536);
-    put_u16(s, at + 2, v / 65536);
+    put(s, at, &v.to_le_bytes()[..4]);
 }
 
-// Two's complement in 32 bits.
-fn unsign(z: i64) -> usize
-    requires { Within (2 ^ 31) z }
-    ensures { result ≡ unsigned z }
-{
-    if 0 <= z {
-        return z as usize;
-    }
-    (z + 4294967296) as usize
-}
-
-// Puts a signed 32-bit number at a place.
+// Puts a signed 32-bit number at a place, in two's complement.
 pub fn put_i32(s: &mut [u8], at: usize, z: i64)
     requires { (at + 4 ≤ length s.old) × Within (2 ^ 31) z }
     ensures { Placed s.old at (at + 4) (i32_bytes z) s.new }
 {
-    put_u32(s, at, unsign(z));
+    put(s, at, &z.to_le_bytes()[..4]);
 }
 
 // Makes a block's bytes zero.
+#[tactic(auto, unfolding(crate::specs::Placed::cleared))]
 pub fn clear(s: &mut [u8])
     requires { length s.old ≡ block_length }
     ensures { s.new ≡ cleared }
 {
-    let mut i: usize = 0;
-    while i < LENGTH {
-        s[i] = 0;
-        i += 1;
-    }
+    s.fill(0);
 }
 
 // Puts the 'check' of block k in its place.

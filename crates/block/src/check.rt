@@ -2,7 +2,8 @@
 ghost use Rattle.std.specs.Prelude.{◌≡◌, ◌≤◌, length, ◌==◌};
 ghost use Rattle.model_files.specs.Bytes.{u32_at, block_length, check_offset, checksum, zero_between, zero_from};
 
-use crate::{CHECK, number};
+use crate::CHECK;
+use crate::number::bytes_at;
 
 // How many words stand before the check.
 const WORDS: usize = CHECK / 4;
@@ -12,11 +13,9 @@ pub fn checksum(b: &[u8], k: usize) -> u32
     requires { length b.now ≡ block_length }
     ensures { result ≡ checksum k b.now }
 {
-    let mut total = std::num::wrapping_add_u32((k % 4294967296) as u32, 1);
-    let mut w: usize = 0;
-    while w < WORDS {
-        total = std::num::wrapping_add_u32(total, number::u32_at(b, 4 * w) as u32);
-        w += 1;
+    let mut total = ((k % 0x1_0000_0000) as u32).wrapping_add(1);
+    for w in 0..WORDS {
+        total = total.wrapping_add(u32::from_le_bytes(bytes_at(b, 4 * w)));
     }
     total
 }
@@ -26,11 +25,11 @@ pub fn is_checked(b: &[u8], k: usize) -> bool
     requires { length b.now ≡ block_length }
     ensures { result ≡ (checksum k b.now == u32_at b.now check_offset) }
 {
-    let sum = checksum(b, k) as usize;
-    sum == number::u32_at(b, CHECK)
+    checksum(b, k) == u32::from_le_bytes(bytes_at(b, CHECK))
 }
 
 // Whether the bytes from place i to the check are zero.
+#[tactic(auto, unfolding(model_files::specs::Bytes::zero_from))]
 pub fn is_zero_from(b: &[u8], i: usize) -> bool
     requires { (length b.now ≡ block_length) × (i ≤ check_offset) }
     ensures { result ≡ zero_from i b.now }
@@ -43,12 +42,5 @@ pub fn is_zero_between(b: &[u8], i: usize, e: usize) -> bool
     requires { (i ≤ e) × (e ≤ length b.now) }
     ensures { result ≡ zero_between i e b.now }
 {
-    let mut j = i;
-    while j < e {
-        if b[j] != 0 {
-            return false;
-        }
-        j += 1;
-    }
-    true
+    b[i..e].iter().all(|x| *x == 0)
 }

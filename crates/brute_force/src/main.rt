@@ -2,51 +2,37 @@
 #![tactic(auto)]
 
 mod agree;
+mod calls;
 mod family;
-mod number;
 mod points;
-mod print;
 
+use agree::Sums;
+use family::Family;
 use std::io;
 use std::io::Input;
 
-// Tries the problems of a family and prints what they showed; the number of disagreements.
-fn try_family(rt: &impl Print, f: [usize; 11]) -> io::Result<usize> {
-    let mut sums = [0usize; 6];
-    let mut i: usize = 0;
-    while i < f[10] % 65536 {
-        let k = family::number_of(f, i);
-        agree::check(rt, family::problem_of(f, k), k, &mut sums)?;
-        i += 1;
+// Tries the problems of a family and prints what they showed; how many of them disagreed.
+fn try_family(rt: &impl Print, family: &Family) -> io::Result<usize> {
+    let mut sums = Sums::default();
+    for i in 0..family.tried() {
+        let k = family.number(i);
+        sums.add(agree::check(rt, &family.problem(k), k)?);
     }
-    print::family(rt, f, sums)?;
-    Ok(sums[0])
+    println!(rt;
+        "{family} {} {} {}",
+        sums.solvable, sums.conflicts, sums.listed
+    )?;
+    println!(rt; "set {} {}", sums.set, sums.set_by_listing)?;
+    Ok(sums.wrong)
 }
 
-// Puts a further digit to the number in a column.
-fn put_digit(f: &mut [usize; 11], column: usize, byte: u8) {
-    let c = column % 11;
-    f[c] = f[c] % 65536 * 10 + (byte % 16) as usize;
-}
-
-// Tries the families of a text; the number of disagreements.
+// Tries the families of a text, a line each; how many problems disagreed. A last line that no newline ends is passed over.
 fn try_families(rt: &impl Print, text: &[u8]) -> io::Result<usize> {
-    let mut f = [0usize; 11];
-    let mut column: usize = 0;
     let mut wrong: usize = 0;
-    let mut i: usize = 0;
-    while i < text.len() {
-        let byte = text[i];
-        if byte == b'\n' {
-            wrong = number::plus(wrong, try_family(rt, f)?);
-            f = [0; 11];
-            column = 0;
-        } else if byte == b' ' {
-            column = number::plus(column, 1);
-        } else {
-            put_digit(&mut f, column, byte);
-        }
-        i += 1;
+    let mut rest = text;
+    while let Some(end) = rest.iter().position(|byte| *byte == b'\n') {
+        wrong = wrong.saturating_add(try_family(rt, &Family::parse(&rest[..end]))?);
+        rest = &rest[end + 1..];
     }
     Ok(wrong)
 }
@@ -57,6 +43,6 @@ fn main(rt: HostRuntime) -> io::Result<()> {
     )?;
     let mut families = [0u8; 4096];
     let end = filling::read_full(&mut rt.reader(), &mut families)?;
-    let wrong = try_families(&rt, &families[0..end])?;
+    let wrong = try_families(&rt, &families[..end])?;
     println!(rt; "{wrong} disagreements")
 }

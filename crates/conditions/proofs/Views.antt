@@ -1,29 +1,22 @@
 -- The model's tests of a state's view, in the terms of its arrays.
-use Prim.Native.Nat.{ℕ, suc, ◌+◌, ◌-◌}
+use Prim.Native.Nat.{ℕ, ◌+◌}
 use native.Mathlib.Omega.{arith}
-use native.Mathlib.Numerals.{add-one}
-use mathlib.Core.Bool.{Bool, true, false, ◌&&◌, and-false}
+use mathlib.Core.Bool.{Bool, true, false, ◌&&◌, and-true}
 use mathlib.Core.Path.{◌≡◌, refl, sym, ap, ap₂, ◌∙◌}
-use mathlib.Core.List.{List, [], ◌∷◌}
 use lib.Dec.{leb, eqb}
 use lib.ListN.{length}
 use Rattle.model_problems.specs.Lists.{tab, all, all_of, all_pairs}
-use Rattle.model_problems.specs.Ranges.{max_variables, max_constraints, max_cuts, max_budget}
+use Rattle.model_problems.specs.Ranges.{max_variables, max_constraints, max_budget}
 use Rattle.model_problems.specs.Constraint.{in_range, divisor_in_range}
-use Rattle.model_problems.specs.Threshold.{is_threshold}
 use Rattle.model_walk.specs.Search as model
-use Rattle.model_walk.specs.Validity.{scalars_valid, constraints_valid, divisors_valid, cut_number, numbers_valid, level_valid, levels_valid, nested_valid, level_allowed, thresholds_valid}
+use Rattle.model_walk.specs.Validity.{scalars_valid, constraints_valid, divisors_valid, cut_number, numbers_valid}
 use Rattle.lists.proofs.Tab.{length-tab, tab-ext-0}
 use Rattle.lists.proofs.AllOf.{all_of-tab}
-use Rattle.layout.specs.Rows.{constraint_at, divided_at, row_at, input_at, thresholds_of}
+use Rattle.layout.specs.Rows.{constraint_at, divided_at, row_at, input_at}
 use Rattle.layout.specs.Sizes.{sizes_fit}
-use Rattle.state.specs.View.{levels_from, kept_cuts, kept_at, stored_number, core_over, inputs_of, core_of, view}
+use Rattle.state.specs.View.{kept_cuts, dropped_cuts, kept_at, stored_number, core_over, inputs_of, core_of, view}
 use Rattle.state.specs.declared.Search.{Search}
 use Rattle.state.proofs.Cores.{kept-over, length-levels}
-use Rattle.conditions.specs.Sizes.{sizes_valid, number_from}
-use Rattle.level_conditions.specs.Nested.{level_passes}
-use Rattle.conditions.proofs.Numbers.{numbers_to}
-use Rattle.level_conditions.proofs.LevelLoops.{levels_to, nested_to}
 
 regrouped : (a b c d e : Bool) → (a && (b && (c && (d && e)))) ≡ ((a && (b && (c && (d && true)))) && e)
 regrouped false b c d e = refl
@@ -31,17 +24,6 @@ regrouped true false c d e = refl
 regrouped true true false d e = refl
 regrouped true true true false e = refl
 regrouped true true true true e = refl
-
--- two tests at every element are one
-both_of : {A : Type 0} (t u : A → Bool) (xs : List A) → (all_of t xs && all_of u xs) ≡ all_of (λ x. t x && u x) xs
-unfolding all_of
-both_of t u [] = refl
-both_of t u (x ∷ xs) = rw (← both_of t u xs) (apart (t x) (u x) (all_of t xs) (all_of u xs))
-  where
-    apart : (a b c d : Bool) → ((a && c) && (b && d)) ≡ ((a && b) && (c && d))
-    apart false b c d = refl
-    apart true true c d = refl
-    apart true false c d = and-false c
 
 module _ (s : Search) where
   cuts-length : length (core_of s).cuts ≡ kept_cuts s.made
@@ -61,11 +43,11 @@ module _ (s : Search) where
   unfolding core_of core_over
   stored = refl
 
-  pub sizes-view : scalars_valid (view s) ≡ sizes_valid s.n s.m s.budget s.conflicts s.made s.depth
-  unfolding scalars_valid sizes_valid sizes_fit all view model.depth core_of core_over
+  pub sizes-view : scalars_valid (view s) ≡ (sizes_fit s.n s.m s.budget && (leb s.depth s.n && (leb s.conflicts s.budget && leb s.made s.conflicts)))
+  unfolding scalars_valid sizes_fit all view model.depth core_of core_over
   sizes-view =
-      rw (inputs-length, length-levels s.n s.levels s.depth)
-      (regrouped (leb 1 s.n) (leb s.n max_variables) (leb s.m max_constraints) (leb s.budget max_budget) (all (leb s.depth s.n ∷ leb s.conflicts s.budget ∷ leb s.made s.conflicts ∷ [])))
+      rw (inputs-length, length-levels s.n s.levels s.depth, and-true (leb s.made s.conflicts))
+      (regrouped (leb 1 s.n) (leb s.n max_variables) (leb s.m max_constraints) (leb s.budget max_budget) (leb s.depth s.n && (leb s.conflicts s.budget && leb s.made s.conflicts)))
 
   pub constraints-view : constraints_valid (core_of s) ≡ all_of in_range (tab (row_at s.n s.rows) 0 (s.m + kept_cuts s.made))
   unfolding constraints_valid in_range kept_at divided_at row_at constraint_at
@@ -77,26 +59,13 @@ module _ (s : Search) where
   unfolding divisors_valid core_of core_over
   divisors-view = refl
 
-  number-here : (p : ℕ) → cut_number (core_of s) p ≡ number_from (s.m + (s.made - max_cuts) + 1) p
-  unfolding cut_number number_from model.dropped core_of core_over
+  number-here : (p : ℕ) → cut_number (core_of s) p ≡ s.m + dropped_cuts s.made + 1 + p
+  unfolding cut_number model.dropped core_of core_over
   number-here p = rw inputs-length (omega arith)
 
-  pub numbers-view : numbers_valid (core_of s) ≡ numbers_to s.numbers (s.m + (s.made - max_cuts) + 1) (kept_cuts s.made)
-  unfolding numbers_valid numbers_to
+  pub numbers-view : numbers_valid (core_of s) ≡
+      all_pairs eqb (tab (stored_number s.numbers) 0 (kept_cuts s.made)) (tab (λ p. s.m + dropped_cuts s.made + 1 + p) 0 (kept_cuts s.made))
+  unfolding numbers_valid
   numbers-view =
       ap₂ (all_pairs eqb) stored
       (ap (tab (cut_number (core_of s)) 0) cuts-length ∙ tab-ext-0 (cut_number (core_of s)) _ (kept_cuts s.made) (λ p h. number-here p))
-
-  pub thresholds-view : thresholds_valid (core_of s) ≡
-      (all_of is_threshold (thresholds_of s.n s.thresholds) && all_of (level_allowed (thresholds_of s.n s.thresholds)) (model.levels (core_of s)))
-  unfolding thresholds_valid core_of core_over
-  thresholds-view = refl
-
-  pub levels-view : (levels_valid (core_of s) && all_of (level_allowed (thresholds_of s.n s.thresholds)) (model.levels (core_of s))) ≡
-      levels_to s.n (s.m + s.made) (thresholds_of s.n s.thresholds) s.levels (s.depth + 1)
-  unfolding levels_valid levels_to level_passes model.levels levels_from core_of core_over
-  levels-view = rw (inputs-length, add-one s.depth) (both_of (level_valid (s.m + s.made)) (level_allowed (thresholds_of s.n s.thresholds)) (levels_from s.n s.levels (suc s.depth)))
-
-  pub nested-view : nested_valid (core_of s).variables (core_of s).deepest (core_of s).outer ≡ nested_to s.n s.levels s.depth
-  unfolding nested_to core_of core_over
-  nested-view = refl

@@ -1,3 +1,2 @@
--- The parts of validity in the terms of the code's arrays.
-pub mod Sizes
-pub mod Marks
+-- What the tests of a search state ask of it.
+pub mod Passed

@@ -1,46 +1,28 @@
 // The sizes and counters of a search state, and the numbers of its kept cuts.
-ghost use Rattle.std.specs.Prelude.{◌≡◌, ◌≤◌, eqb, length};
-ghost use Rattle.model_problems.specs.Ranges.{max_cuts};
-ghost use Rattle.model_problems.specs.Lists.{tab, all_pairs};
-ghost use Rattle.state.specs.View.{stored_number};
-ghost use Rattle.conditions.specs.Sizes.{sizes_valid, number_from, max_first};
+ghost use Rattle.std.specs.Prelude.{◌≡◌, ◌≤◌};
+ghost use Rattle.model_problems.specs.Ranges.{max_constraints, max_budget};
+ghost use Rattle.model_walk.specs.Validity.{scalars_valid, numbers_valid};
+ghost use Rattle.state.specs.View.{core_of, view};
 
 use layout::range::sizes_in_range;
+use state::Search;
+use state::kept::{dropped, kept_cuts};
 
 // Whether n, m, B, the dead ends, the cuts made and the depth are in range.
-pub fn are_sizes_valid(
-    n: usize,
-    m: usize,
-    budget: usize,
-    conflicts: usize,
-    made: usize,
-    depth: usize,
-) -> bool
-    ensures { result ≡ sizes_valid n m budget conflicts made depth }
+pub fn are_sizes_valid(s: &Search) -> bool
+    ensures { result ≡ scalars_valid (view s.now) }
 {
-    if !sizes_in_range(n, m, budget) {
-        return false;
-    }
-    if n < depth {
-        return false;
-    }
-    if budget < conflicts {
-        return false;
-    }
-    made <= conflicts
+    sizes_in_range(s.n, s.m, s.budget)
+        && s.depth <= s.n
+        && s.conflicts <= s.budget
+        && s.made <= s.conflicts
 }
 
-// Whether the first `count` stored numbers follow one another from `first` on.
-pub fn are_numbers_valid(numbers: &[usize], first: usize, count: usize) -> bool
-    requires { (first ≤ max_first) × (count ≤ max_cuts) × (count ≤ length numbers.now) }
-    ensures { result ≡ all_pairs eqb (tab (stored_number numbers.now) 0 count) (tab (number_from first) 0 count) }
+// Whether the stored numbers of the kept cuts follow one another, up to the number of cuts made.
+pub fn are_numbers_valid(s: &Search) -> bool
+    requires { (s.now.m ≤ max_constraints) × (s.now.made ≤ max_budget) }
+    ensures { result ≡ numbers_valid (core_of s.now) }
 {
-    let mut p: usize = 0;
-    while p < count {
-        if numbers[p] != first + p {
-            return false;
-        }
-        p += 1;
-    }
-    true
+    let first = s.m + dropped(s.made) + 1;
+    (0..kept_cuts(s.made)).all(|p| s.numbers[p] == first + p)
 }

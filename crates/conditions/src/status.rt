@@ -1,66 +1,37 @@
 // The mark of a search state.
-ghost use Rattle.std.specs.Prelude.{◌≡◌, true, ◌*◌, ◌≤◌, length};
-ghost use Rattle.model_problems.specs.Lists.{tab, all_of, any_of};
-ghost use Rattle.model_problems.specs.Ranges.{max_variables, max_constraints};
-ghost use Rattle.model_problems.specs.Constraint.{is_open, in_range, divisor_in_range};
-ghost use Rattle.layout.specs.Rows.{row_length, row_at, input_at, box_of};
-ghost use Rattle.linear.specs.Ranges.{BoxFits};
-ghost use Rattle.state.specs.View.{status_of, kept_at};
-ghost use Rattle.conditions.specs.Marks.{mark_valid};
+ghost use Rattle.std.specs.Prelude.{◌≡◌, true, ◌≤◌};
+ghost use Rattle.model_problems.specs.Lists.{all_of, any_of};
+ghost use Rattle.model_problems.specs.Ranges.{max_variables};
+ghost use Rattle.model_problems.specs.Constraint.{is_open};
+ghost use Rattle.model_walk.specs.Validity.{levels_valid, status_valid};
+ghost use Rattle.layout.specs.Rows.{box_of};
+ghost use Rattle.state.specs.View.{core_of, status_of};
+ghost use Rattle.conditions.specs.Passed.{ConstraintsPassed};
 
 use crate::constraints::is_any_falsified;
-use state::{Level, Status};
+use state::{Level, Search, Status};
 
 // Whether some variable is open: its L is below its U.
-fn is_any_open<'a>(lower: &'a [i64], upper: &'a [i64], n: usize) -> bool
-    requires { (n ≤ length lower.now) × (n ≤ length upper.now) }
-    ensures { result ≡ any_of is_open (box_of n lower.now upper.now) }
+fn is_any_open(l: &Level, n: usize) -> bool
+    requires { n ≤ max_variables }
+    ensures { result ≡ any_of is_open (box_of n l.now.lower l.now.upper) }
 {
-    let mut i: usize = 0;
-    while i < n {
-        if lower[i] < upper[i] {
-            return true;
-        }
-        i += 1;
-    }
-    false
+    (0..n).any(|i| l.lower[i] < l.upper[i])
 }
 
-// Whether the mark is one that the first `count` constraints and the bounds of the outermost and the deepest level bear out.
-pub fn is_status_valid<'a>(
-    status: Status,
-    rows: &'a [i64],
-    divisors: &'a [i64; 64],
-    m: usize,
-    count: usize,
-    outermost: Level,
-    deepest: Level,
-    n: usize,
-) -> bool
-    requires n_le_max_variables { (n ≤ max_variables) × (row_length * count ≤ length rows.now) }
-    requires count_value { all_of in_range (tab (row_at n rows.now) 0 count) ≡ true }
-    requires box_fits { BoxFits n outermost.lower outermost.upper × BoxFits n deepest.lower deepest.upper }
-    requires m_le_max_constraints { (m ≤ max_constraints) × (all_of divisor_in_range (tab (input_at n rows.now divisors.now) 0 m) ≡ true) }
-    ensures { result ≡ mark_valid (status_of status) (tab (kept_at n m rows.now divisors.now) 0 count) (box_of n outermost.lower outermost.upper) (box_of n deepest.lower deepest.upper) }
+// Whether the mark is one that the kept constraints and the bounds of the outermost and the deepest level bear out.
+pub fn is_status_valid(s: &Search) -> bool
+    requires passed { ConstraintsPassed s.now }
+    requires depth { s.now.depth ≤ s.now.n }
+    requires levels { levels_valid (core_of s.now) ≡ true }
+    ensures { result ≡ status_valid (core_of s.now) (status_of s.now.status) }
 {
-    match status {
+    match s.status {
         Status::Undecided => true,
-        Status::Infeasible => {
-            is_any_falsified(
-                rows,
-                divisors,
-                m,
-                count,
-                &outermost.lower,
-                &outermost.upper,
-                n,
-            )
-        }
+        Status::Infeasible => is_any_falsified(s, &s.levels[0]),
         Status::Solved => {
-            if is_any_open(&deepest.lower, &deepest.upper, n) {
-                return false;
-            }
-            !is_any_falsified(rows, divisors, m, count, &deepest.lower, &deepest.upper, n)
+            let deepest = &s.levels[s.depth];
+            !is_any_open(deepest, s.n) && !is_any_falsified(s, deepest)
         }
     }
 }

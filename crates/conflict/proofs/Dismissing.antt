@@ -7,6 +7,10 @@ use mathlib.Core.List.{List}
 use mathlib.Core.Logic.{inr, ⊎_elim}
 use mathlib.Core.Path.{◌≡◌, refl, sym, ap, ◌∙◌}
 use lib.IntN.{ℤ, pos}
+use mir.Facts.{to_z-of_z}
+use mir.Syntax.{w64}
+use mir.Val.{SFits, to_z, of_z}
+use Rattle.integer.specs.Tests.{same, fits_lit}
 use lib.ListN.{replicate}
 use Rattle.model_problems.specs.Ranges.{max_variables}
 use Rattle.model_problems.specs.Constraint.{Constraint, falsified, in_range}
@@ -39,6 +43,10 @@ module _ (n : ℕ) (lines : List ℤ) (start : ℕ) (row : List ℤ) (c : Copied
   unfolding constraint_at divided_at
   divided-same q = ap (λ (k : Constraint). record { constant = k.constant; coefficients = k.coefficients; divisor = q }) c.same
 
+  -- and where the divisor comes back from its bits
+  pub line-same : (q : ℤ) → SFits w64 q → divided_at n row 0 (to_z w64 (of_z w64 q)) ≡ divided_at n lines start q
+  line-same q f = ap (divided_at n row 0) (to_z-of_z f) ∙ divided-same q
+
   pub copy-fits : n ≤ max_variables → in_range (constraint_at n lines start) ≡ true → RowFits n row 0
   copy-fits few e = row_fits n row 0 few (omega (arith, c.size)) (ap in_range c.same ∙ e)
 
@@ -46,6 +54,17 @@ module _ (n : ℕ) (lines : List ℤ) (start : ℕ) (row : List ℤ) (c : Copied
 pub undivided : (n : ℕ) (rows : List ℤ) (start : ℕ) → divided_at n rows start (pos 0) ≡ constraint_at n rows start
 unfolding constraint_at divided_at
 undivided n rows start = refl
+
+-- ---- the divisor, as it is read and tested
+module _ {q : ℤ} (f : SFits w64 q) where
+  pub divisor-back : to_z w64 (of_z w64 q) ≡ q
+  divisor-back = to_z-of_z f
+
+  pub no-divisor : of_z w64 q ≡ 0 → q ≡ pos 0
+  no-divisor = same f (fits_lit (pos 0) tt)
+
+  pub some-divisor : (of_z w64 q ≡ 0 → ⊥) → q ≡ pos 0 → ⊥
+  some-divisor h e = h (ap (of_z w64) e)
 
 -- ---- what the dismissal asks, and what it leaves
 module _ {n m made j depth count done : ℕ} {keep : Bool} {rows : List ℤ} {numbers : List ℕ} {level : Level} {lowers uppers lines divisors : List ℤ} {masks buffer : List ℕ}

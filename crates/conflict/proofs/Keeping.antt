@@ -1,11 +1,11 @@
 -- Where the kept constraints stand once a cut was kept.
-use Prim.Native.Nat.{ℕ, suc, ◌+◌, ◌-◌, ◌≤◌, ◌<◌}
+use Prim.Native.Nat.{ℕ, ◌+◌, ◌-◌, ◌≤◌, ◌<◌}
 use native.Mathlib.Omega.{arith}
 use mathlib.Core.List.{List, [], ◌∷◌, ◌++◌}
 use mathlib.Core.Logic.{⊎_elim}
 use mathlib.Core.Path.{◌≡◌, sym, ap, ◌∙◌}
 use lib.IntN.{ℤ}
-use lib.ListN.{get_or, length, drop, length-append, get_or-append}
+use lib.ListN.{get_or, length, length-append, get_or-append}
 use lib.Seq.{get_or-drop}
 use Rattle.model_problems.specs.Lists.{tab}
 use Rattle.model_problems.specs.Ranges.{max_variables, max_cuts}
@@ -17,7 +17,7 @@ use Rattle.lists.proofs.Tab.{length-tab, get_d-tab, get_d-tab-from}
 use Rattle.layout.specs.Rows.{constraint_at, row_at}
 use Rattle.state.specs.View.{kept_cuts, dropped_cuts}
 use Rattle.cuts.specs.Storing.{RowKept}
-use Rattle.state.specs.Moved.{place_of, RowsMoved}
+use Rattle.state.specs.Moved.{RowsMoved}
 use Rattle.state.proofs.Moved.{place-less, place-more}
 
 module _ (n m made : ℕ) (rows cut rows₁ : List ℤ) (few : n ≤ max_variables) (r : RowKept m made rows cut rows₁) where

@@ -28,7 +28,8 @@ use Rattle.state.specs.Change.{held}
 use Rattle.state.specs.declared.Level.{Level}
 use Rattle.state.proofs.Cores.{kept-rows, number-at}
 use Rattle.analyze.specs.Analyzed.{Analyzed, analysis_of}
-use Rattle.cuts.specs.Storing.{RowKept, NumberKept, found_below}
+use Rattle.cuts.specs.Storing.{RowKept, NumberKept, found_at}
+use Rattle.std.specs.Prelude.{Option, None, Some}
 use Rattle.analyze.specs.declared.analysis.Analysis.{Analysis}
 use Rattle.cuts.proofs.Numbering.{numbered-equal, numbered-kept}
 use Rattle.levels.specs.Mirror.{box_in, BoundsKept}
@@ -68,16 +69,15 @@ module _ (n m made : ℕ) (rows : List ℤ) (numbers : List ℕ) (level : Level)
   analyzed outer =
       ap (analyze (core_with n m made rows numbers (level_of n level) outer)) (kept_row n m made rows numbers level outer j l.position) ∙ z.analysis numbers level.decided outer
 
-  pub learned-equal : (p number : ℕ) →
-      first_equal 0 (tab (row_at n rows) 0 (m + kept_cuts made)) (constraint_at n a.cut 0) ≡ found_below (m + kept_cuts made) p → p < m + kept_cuts made →
+  pub learned-equal : (found : Option ℕ) (p number : ℕ) → first_equal 0 (tab (row_at n rows) 0 (m + kept_cuts made)) (constraint_at n a.cut 0) ≡ found_at found → found ≡ Some p →
       number ≡ number_for m made p →
       LearnedFrom n m made rows numbers level j (record { cut = a.cut; used = a.used; number = number; made = made }) rows numbers
-  learned-equal p number e h f =
+  learned-equal found p number e h f =
       record {
         learns = λ outer.
             record {
               analysis = analyzed outer;
-              numbering = numbered-equal n m made rows numbers (level_of n level) outer (constraint_at n a.cut 0) p e h ∙
+              numbering = numbered-equal n m made rows numbers (level_of n level) outer (constraint_at n a.cut 0) found e p h ∙
                   ap (λ (k : ℕ). record { number = k; core = core_with n m made rows numbers (level_of n level) outer }) (ap (λ (g : ℕ → ℕ). g p) (number-at n m made rows numbers (level_of n level) outer) ∙ sym f);
             };
         range = z.range;
@@ -90,16 +90,16 @@ module _ (n m made : ℕ) (rows : List ℤ) (numbers : List ℕ) (level : Level)
         moved = rows_stay n m made rows;
       }
 
-  pub learned-kept : (p : ℕ) (rows₁ : List ℤ) (numbers₁ : List ℕ) →
-      first_equal 0 (tab (row_at n rows) 0 (m + kept_cuts made)) (constraint_at n a.cut 0) ≡ found_below (m + kept_cuts made) p → m + kept_cuts made ≤ p →
+  pub learned-kept : (found : Option ℕ) (rows₁ : List ℤ) (numbers₁ : List ℕ) →
+      first_equal 0 (tab (row_at n rows) 0 (m + kept_cuts made)) (constraint_at n a.cut 0) ≡ found_at found → found ≡ None →
       RowKept m made rows a.cut rows₁ → NumberKept made (m + made + 1) numbers numbers₁ →
       LearnedFrom n m made rows numbers level j (record { cut = a.cut; used = a.used; number = m + made + 1; made = made + 1 }) rows₁ numbers₁
-  learned-kept p rows₁ numbers₁ e h r k =
+  learned-kept found rows₁ numbers₁ e h r k =
       record {
         learns = λ outer.
             record {
               analysis = analyzed outer;
-              numbering = numbered-kept n m made rows a.cut rows₁ numbers numbers₁ (level_of n level) outer p e h l.variables r k;
+              numbering = numbered-kept n m made rows a.cut rows₁ numbers numbers₁ (level_of n level) outer found e h l.variables r k;
             };
         range = z.range;
         cut_size = z.cut-size;

@@ -4,12 +4,12 @@ use native.Mathlib.Nat.{eq-or-lt_of_le}
 use native.Mathlib.Omega.{arith}
 use mathlib.Core.List.{List, [], ◌∷◌, ◌++◌}
 use mathlib.Core.Logic.{⊎_elim}
-use mathlib.Core.Path.{◌≡◌, sym, ap, ap₂, subst, ◌∙◌}
+use mathlib.Core.Path.{◌≡◌, sym, ap, subst, ◌∙◌}
 use lib.IntN.{ℤ, pos}
 use lib.ListN.{get_or, length, length-append, get_or-append}
 use lib.Seq.{get_or-drop, get_or-append_seam}
 use Rattle.model_problems.specs.Lists.{tab}
-use Rattle.model_problems.specs.Ranges.{max_variables, max_constraints, max_cuts}
+use Rattle.model_problems.specs.Ranges.{max_variables, max_cuts}
 use Rattle.model_problems.specs.Constraint.{Constraint, coefficient_at}
 use Rattle.model_files.specs.File.{no_constraint}
 use Rattle.model_walk.specs.Search.{newest}

@@ -6,7 +6,7 @@ ghost use Rattle.state.specs.Change.{held};
 ghost use Rattle.bits.specs.Masks.{Masked};
 ghost use Rattle.conflict.specs.Learning.{Learnable, LearnedFrom};
 
-use analyze::analysis;
+use analyze::analysis::{Analysis, Core};
 use bits::masks::row_mask;
 use cuts::keeping::{equal_row, keep_number, keep_row};
 use state::kept::{kept_count, number_of};
@@ -39,28 +39,35 @@ pub fn learn<'a>(
     ensures by_index { (d : ℕ) → LearnedFrom n m made rows.old numbers.old (held lower.now upper.now below.now above.now d) j result rows.new numbers.new }
     ensures by_index_2 { (inputs : List ℕ) → Masked n m (m + kept_cuts made) rows.old inputs masks.old → Masked n m (m + kept_cuts result.made) rows.new inputs masks.new }
 {
-    let a = analysis::analyze(rows, lower, upper, below, above, n, m, made, j);
-    let cut = a.cut;
-    let used = a.used;
-    let kept = kept_count(m, made);
-    let p = equal_row(rows, &cut, n, kept);
-    if p < kept {
-        let number = number_of(m, made, p);
-        return Learned {
+    let core = Core {
+        rows,
+        lower,
+        upper,
+        below,
+        above,
+        n,
+        m,
+        made,
+    };
+    let Analysis { cut, used } = core.analyze(j);
+    match equal_row(rows, &cut, n, kept_count(m, made)) {
+        Some(p) => Learned {
             cut,
             used,
-            number,
+            number: number_of(m, made, p),
             made,
-        };
-    }
-    let number = m + made + 1;
-    keep_row(rows, &cut, m, made);
-    keep_number(numbers, made, number);
-    keep_number(masks, made, row_mask(&cut, 0, n));
-    Learned {
-        cut,
-        used,
-        number,
-        made: made + 1,
+        },
+        None => {
+            let number = m + made + 1;
+            keep_row(rows, &cut, m, made);
+            keep_number(numbers, made, number);
+            keep_number(masks, made, row_mask(&cut, 0, n));
+            Learned {
+                cut,
+                used,
+                number,
+                made: made + 1,
+            }
+        }
     }
 }

@@ -7,14 +7,15 @@ ghost use Rattle.std.specs.Prelude.{true, false, ◌≡◌};
 ghost use Rattle.state.specs.Change.{held};
 ghost use Rattle.conflict.specs.Counting.{Countable, Counted, Dismissable, Dismissed};
 
-use crate::learn::learn;
+use crate::learn::{Learned, learn};
 use layout::{ROW, copy_row};
 use levels::level::backjump_level;
 use levels::mirror::keep_bounds;
-use record::emit;
+use record::Record;
 use state::kept::{divisor_of, number_of};
 
 // Whether the budget has no conflict left.
+// Stays: a function for one `==`, which `engine::advance` calls and must-fail/spent_early.edit turns.
 pub fn is_spent(conflicts: usize, budget: usize) -> bool
     ensures { (result ≡ true → conflicts ≡ budget) × (result ≡ false → ¬ (conflicts ≡ budget)) }
 {
@@ -48,13 +49,17 @@ fn dismiss<'a>(
     ensures { Dismissed n j depth count falsified done keep q lines.now lowers.now uppers.now buffer.old result buffer.new }
 {
     let line = copy_row(lines, ROW * j, n);
-    let found = backjump_level(&line, q, n, depth, lowers, uppers);
-    let back = found.level;
-    let cut = [0i64; 33];
-    let used = [0usize; 32];
-    emit(
-        buffer, keep, done, count, falsified, 0, depth, back, &cut, &used,
-    );
+    let back = backjump_level(&line, q, n, depth, lowers, uppers).level;
+    let record = Record {
+        count,
+        falsified,
+        number: 0,
+        depth,
+        back,
+        cut: [0; 33],
+        used: [0; 32],
+    };
+    record.emit(buffer, keep, done);
     back
 }
 
@@ -94,15 +99,24 @@ pub fn conflict<'a>(
         );
         return Met { back, made };
     }
-    let l = learn(
+    let Learned {
+        cut,
+        used,
+        number,
+        made,
+    } = learn(
         lower, upper, below, above, n, m, made, j, rows, numbers, cuts,
     );
-    let cut = l.cut;
-    let used = l.used;
-    let found = backjump_level(&cut, 0, n, depth, lowers, uppers);
-    let back = found.level;
-    emit(
-        buffer, keep, done, count, falsified, l.number, depth, back, &cut, &used,
-    );
-    Met { back, made: l.made }
+    let back = backjump_level(&cut, 0, n, depth, lowers, uppers).level;
+    let record = Record {
+        count,
+        falsified,
+        number,
+        depth,
+        back,
+        cut,
+        used,
+    };
+    record.emit(buffer, keep, done);
+    Met { back, made }
 }

@@ -1,8 +1,9 @@
 // Every solution of a problem, in dictionary order.
-ghost use Rattle.std.specs.Prelude.{◌≡◌, ◌≤◌, length};
-
-use crate::{TEXT_LENGTH, text, told};
-use answers::{Listed, Verdict};
+use crate::output::Output;
+use crate::told::Watch;
+use crate::{open, print_refused, told};
+use answers::Verdict;
+use report::Line;
 use shown::Exclusion;
 use state::Search;
 use std::io::{IsTerminal, Print};
@@ -18,38 +19,16 @@ const WATCHED: usize = 64;
 // counts, and without one of the words `ended`, `none` and `spent`.
 const MAX_STRUCK: usize = 4611686018427387904;
 
-fn is_solution(verdict: Verdict) -> bool {
-    match verdict {
-        Verdict::Solution => true,
-        _ => false,
+// Puts the lines of the first `count` solutions in a list of numbers, n for each; those that the list holds.
+fn put_solutions(output: &mut Output<impl Print>, solutions: &[i64], count: usize, n: usize) {
+    let mut rest = solutions;
+    for _ in 0..count {
+        let Some((values, others)) = rest.split_at_checked(n) else {
+            return;
+        };
+        output.put(Line::Solution(values));
+        rest = others;
     }
-}
-
-fn is_struck(answer: Exclusion) -> bool {
-    match answer {
-        Exclusion::Struck => true,
-        _ => false,
-    }
-}
-
-// How many solutions a call struck out. `list` strikes out no more than the buffer holds.
-fn struck_in(struck: usize) -> usize
-    ensures { result ≤ 2048 }
-{
-    if NUMBERS < struck {
-        return NUMBERS;
-    }
-    struck
-}
-
-// Lists into the rows.
-fn list_into(s: Search, rows: &mut [i64], watched: bool) -> Listed
-    requires { length rows.old ≡ 2048 }
-{
-    if watched {
-        return search::list(s, &mut rows[0..WATCHED]);
-    }
-    search::list(s, rows)
 }
 
 // Prints the solutions of an opened search: lists those that the buffer holds, strikes out the one after them and goes on, until there is no further one, no
@@ -57,47 +36,56 @@ fn list_into(s: Search, rows: &mut [i64], watched: bool) -> Listed
 fn print_listing(rt: &(impl Clock + Print), stderr: &(impl IsTerminal + Print), opened: Search) {
     let n = opened.n;
     let budget = opened.budget;
-    let mut rows = [0i64; NUMBERS];
-    let mut out = [0u8; TEXT_LENGTH];
-    let mut at = report::plan_line(&mut out, 0, n, opened.m, budget);
-    let mut failed = false;
-    let watched = told::is_watched(stderr);
-    let mut last = told::seconds(rt);
-    let mut listed = list_into(opened, &mut rows, watched);
+    let mut output = Output::new(rt);
+    output.put(Line::Plan {
+        n,
+        m: opened.m,
+        budget,
+    });
+    let mut watch = Watch::new(rt, stderr);
+    let mut numbers = [0i64; NUMBERS];
+    let length = if watch.is_watched() { WATCHED } else { NUMBERS };
+    let mut listed = search::list(opened, &mut numbers[..length]);
     let mut struck: usize = 0;
     while struck < MAX_STRUCK {
-        let count = struck_in(listed.struck);
-        at = text::put_listed(rt, &mut out, at, &rows, count, &listed, n, &mut failed);
+        // `list` strikes out no more than the buffer holds
+        let count = listed.struck.min(NUMBERS);
+        put_solutions(&mut output, &numbers, count, n);
+        output.put_verdict(listed.verdict, &listed.values, n);
         struck += count;
-        if !is_solution(listed.verdict) {
+        if !matches!(listed.verdict, Verdict::Solution) {
             break;
         }
         let excluded = search::exclude(listed.state);
-        let answer = excluded.answer;
-        if !is_struck(answer) {
-            at = text::put_ended(rt, &mut out, at, answer, &mut failed);
-            break;
+        match excluded.answer {
+            Exclusion::Struck => {}
+            Exclusion::Ended => {
+                output.put(Line::Ended);
+                break;
+            }
+            // the state is refused for its count of bounds set: the listing is not at its end
+            _ => break,
         }
-        if failed {
-            told::tell_output(stderr, failed);
+        if output.has_failed() {
+            told::tell_output(stderr, true);
             return;
         }
         struck += 1;
-        last = told::listing_progress(rt, stderr, watched, last, struck, listed.count, budget);
-        listed = list_into(excluded.state, &mut rows, watched);
+        if watch.is_due(rt) {
+            told::tell_solutions(stderr, struck, listed.count, budget);
+        }
+        listed = search::list(excluded.state, &mut numbers[..length]);
     }
-    let set = listed.propagations;
-    text::finish_listing(rt, &mut out, at, listed.count, struck, set, &mut failed);
-    told::tell_output(stderr, failed);
+    output.put(Line::Ends(listed.count));
+    output.put(Line::Struck(struck));
+    output.put(Line::Set(listed.propagations));
+    output.finish(stderr);
 }
 
 // Prints the solutions of a file.
 pub fn print_solutions(rt: &(impl Clock + Print), stderr: &(impl IsTerminal + Print), file: &[u8]) {
-    let opened = search::open(file);
-    let answer = opened.answer;
-    if text::print_refused(rt, stderr, answer) {
-        return;
+    match open(file) {
+        Ok(opened) => print_listing(rt, stderr, opened),
+        Err(error) => print_refused(rt, stderr, error),
     }
-    let state = opened.state;
-    print_listing(rt, stderr, state);
 }

@@ -13,55 +13,48 @@ pub(crate) fn tell_input(stderr: &impl Print) {
     let _ = stderr.write_all(b"standard input cannot be read\n");
 }
 
-// Whether somebody looks at standard error.
-pub(crate) fn is_watched(stderr: &impl IsTerminal) -> bool {
-    stderr.is_terminal()
-}
-
-// The time in seconds, 0 where there is no clock.
-pub(crate) fn seconds(rt: &impl Clock) -> u64 {
-    match rt.since_1970() {
-        Ok(time) => time.as_secs(),
-        Err(_) => 0,
-    }
-}
-
-fn tell_conflicts(stderr: &impl Print, count: usize, budget: usize) {
+// How many conflicts of the budget are counted.
+pub(crate) fn tell_conflicts(stderr: &impl Print, count: usize, budget: usize) {
     let _ = stderr.println(format_args!("{count} conflicts of {budget}"));
 }
 
-// How many conflicts of the budget are counted, if a second has passed since it was told last. Returns when it was.
-pub(crate) fn progress(
-    rt: &impl Clock,
-    stderr: &impl Print,
-    last: u64,
-    count: usize,
-    budget: usize,
-) -> u64 {
-    let now = seconds(rt);
-    if now != last {
-        tell_conflicts(stderr, count, budget);
-    }
-    now
+// The same of a listing, after how many solutions are struck out.
+pub(crate) fn tell_solutions(stderr: &impl Print, struck: usize, count: usize, budget: usize) {
+    let _ = stderr.print(format_args!("{struck} solutions, "));
+    tell_conflicts(stderr, count, budget);
 }
 
-// The same of a listing, where somebody looks, after how many solutions are struck out.
-pub(crate) fn listing_progress(
-    rt: &impl Clock,
-    stderr: &impl Print,
+// When it is told how far a search is: about once a second, where somebody looks at standard error.
+#[derive(Clone, Copy)]
+pub(crate) struct Watch {
     watched: bool,
     last: u64,
-    struck: usize,
-    count: usize,
-    budget: usize,
-) -> u64 {
-    if !watched {
-        return last;
+}
+
+impl Watch {
+    pub(crate) fn new(rt: &impl Clock, stderr: &impl IsTerminal) -> Self {
+        Watch {
+            watched: stderr.is_terminal(),
+            last: seconds(rt),
+        }
     }
-    let now = seconds(rt);
-    if now != last {
-        let _ = stderr.print(format_args!("{struck} solutions, "));
-        tell_conflicts(stderr, count, budget);
+
+    pub(crate) fn is_watched(&self) -> bool {
+        self.watched
     }
-    now
+
+    // Whether it is to be told now: a second has passed since it was so last.
+    pub(crate) fn is_due(&mut self, rt: &impl Clock) -> bool {
+        if !self.watched {
+            return false;
+        }
+        let last = self.last;
+        self.last = seconds(rt);
+        self.last != last
+    }
+}
+
+// The time in seconds, 0 where there is no clock.
+fn seconds(rt: &impl Clock) -> u64 {
+    rt.since_1970().map_or(0, |time| time.as_secs())
 }

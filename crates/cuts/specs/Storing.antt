@@ -1,26 +1,27 @@
 -- A cut among the kept constraints: where one equals it, and the arrays after it was kept.
-use Rattle.std.specs.Prelude.{ℕ, ◌+◌, ◌-◌, ◌≤◌, ◌<◌, cond, List, [], ◌∷◌, ◌++◌, ◌≡◌, ltb, ℤ, get_or, length}
-use Rattle.std.proofs.Math.Option.{Option, none, some}
+use Rattle.std.specs.Prelude.{ℕ, ◌+◌, ◌*◌, ◌-◌, ◌≤◌, ◌<◌, Option, None, Some, min, List, [], ◌∷◌, ◌++◌, ◌≡◌, ℤ, get_or, length}
+use Rattle.std.proofs.Math.Option as model
 use Rattle.model_problems.specs.Lists.{tab}
 use Rattle.model_problems.specs.Ranges.{max_variables, max_cuts}
 use Rattle.model_walk.specs.Search.{newest}
 use Rattle.layout.specs.Rows.{constraint_at, row_at}
 use Rattle.state.specs.View.{kept_cuts, stored_number}
 
--- the position that a scan of `count` rows found, none where it went through them all
-unfoldable pub found_below : ℕ → ℕ → Option ℕ
-found_below count j = cond (ltb j count) (some j) none
+-- a position, or none, as the model has it
+unfoldable pub found_at : Option ℕ → model.Option ℕ
+found_at None = model.none
+found_at (Some j) = model.some j
 
 -- the newest of all the cuts that can be kept, counted from 0
 abbrev pub last_cut : ℕ
 last_cut = max_cuts - 1
 
--- the places from `start` to `end` hold what stood `by` further on
-pub record Moved {A : Type 0} (none : A) (by start end : ℕ) (before after : List A) : Type 0 where
+-- the item stands in the first free place, or where none is free in the last one, once the others moved down over the oldest
+pub record NewestKept {A : Type 0} (made : ℕ) (item before after : List A) : Type 0 where
   pub size : length after ≡ length before
-  pub below : (k : ℕ) → k < start → get_or after k none ≡ get_or before k none
-  pub moved : (k : ℕ) → start ≤ k → k < end → get_or after k none ≡ get_or before (k + by) none
-  pub above : (k : ℕ) → end ≤ k → get_or after k none ≡ get_or before k none
+  pub here : (k : ℕ) (d : A) → k < length item → get_or after (length item * min made last_cut + k) d ≡ get_or item k d
+  pub stay : made < max_cuts → (k : ℕ) (d : A) → k < length item * made → get_or after k d ≡ get_or before k d
+  pub move : max_cuts ≤ made → (k : ℕ) (d : A) → k < length item * last_cut → get_or after k d ≡ get_or before (length item + k) d
 
 -- the inputs stay, and the cut is the newest of the kept ones
 pub record RowKept (m made : ℕ) (rows cut after : List ℤ) : Type 0 where

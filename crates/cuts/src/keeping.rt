@@ -1,43 +1,41 @@
 // Keeping a cut: 'input lines and the 64 newest cuts are kept', in the rows after the inputs, oldest first.
-ghost use Rattle.std.specs.Prelude.{◌≡◌, ◌+◌, ◌*◌, ◌≤◌, ◌<◌, pos, length};
+ghost use Rattle.std.specs.Prelude.{◌≡◌, ◌+◌, ◌*◌, ◌≤◌, ◌<◌, length, IfSome};
 ghost use Rattle.model_problems.specs.Lists.{tab};
 ghost use Rattle.model_problems.specs.Ranges.{max_variables, max_constraints, max_cuts};
 ghost use Rattle.model_walk.specs.Conflict.{first_equal};
 ghost use Rattle.layout.specs.Rows.{row_length, constraint_at, row_at, max_rows, rows_length};
-ghost use Rattle.cuts.specs.Storing.{last_cut, Moved, RowKept, NumberKept, found_below};
+ghost use Rattle.cuts.specs.Storing.{NewestKept, RowKept, NumberKept, found_at};
 
-use layout::{MAX_CUTS, ROW, is_equal, store_row};
+use layout::{MAX_CUTS, ROW, is_equal};
 
 // The place of the newest cut where all are held.
 const LAST_CUT: usize = MAX_CUTS - 1;
 
-// The position of the first of the kept constraints that equals the cut, or `kept` where none does.
-pub fn equal_row<'a>(rows: &'a [i64; 4224], cut: &'a [i64; 33], n: usize, kept: usize) -> usize
+// The position of the first of the kept constraints that equals the cut.
+pub fn equal_row<'a>(
+    rows: &'a [i64; 4224],
+    cut: &'a [i64; 33],
+    n: usize,
+    kept: usize,
+) -> Option<usize>
     requires { (n ≤ max_variables) × ((kept ≤ max_rows) × ((length rows.now ≡ rows_length) × (length cut.now ≡ row_length))) }
-    ensures { first_equal 0 (tab (row_at n rows.now) 0 kept) (constraint_at n cut.now 0) ≡ found_below kept result }
+    ensures first { first_equal 0 (tab (row_at n rows.now) 0 kept) (constraint_at n cut.now 0) ≡ found_at result }
+    ensures inside { IfSome result (λ j. j < kept) }
 {
-    let mut j: usize = 0;
-    while j < kept {
-        if is_equal(cut, 0, rows, ROW * j, n) {
-            return j;
-        }
-        j += 1;
-    }
-    kept
+    (0..kept).find(|&j| is_equal(cut, 0, rows, ROW * j, n))
 }
 
-// The oldest cut goes: the rows of the others move down by one.
-fn drop_row(rows: &mut [i64; 4224], m: usize)
-    requires { (m ≤ max_constraints) × (length rows.old ≡ rows_length) }
-    ensures { Moved (pos 0) row_length (row_length * m) (row_length * (m + last_cut)) rows.old rows.new }
+// The newest of the items that `list` has room for, where `made` were made before it: where none is free the oldest goes, and the others move down.
+fn keep_newest<T: Copy>(list: &mut [T], item: &[T], made: usize)
+    requires { length list.old ≡ length item.now * max_cuts }
+    ensures { NewestKept made item.now list.old list.new }
 {
-    let end = ROW * (m + LAST_CUT);
-    let mut i = ROW * m;
-    while i < end {
-        let v = rows[i + ROW];
-        rows[i] = v;
-        i += 1;
+    let size = item.len();
+    if MAX_CUTS <= made {
+        list.copy_within(size.., 0);
     }
+    let at = size * made.min(LAST_CUT);
+    list[at..at + size].copy_from_slice(item);
 }
 
 // The cut kept as the newest, where `made` were made before it.
@@ -45,25 +43,7 @@ pub fn keep_row<'a>(rows: &'a mut [i64; 4224], cut: &'a [i64; 33], m: usize, mad
     requires { (m ≤ max_constraints) × ((length rows.old ≡ rows_length) × (length cut.now ≡ row_length)) }
     ensures { RowKept m made rows.old cut.now rows.new }
 {
-    if made < MAX_CUTS {
-        store_row(rows, cut, m + made);
-        return;
-    }
-    drop_row(rows, m);
-    store_row(rows, cut, m + LAST_CUT);
-}
-
-// The oldest number goes.
-fn drop_number(numbers: &mut [usize; 64])
-    requires { length numbers.old ≡ max_cuts }
-    ensures { Moved 0 1 0 last_cut numbers.old numbers.new }
-{
-    let mut i: usize = 0;
-    while i < LAST_CUT {
-        let v = numbers[i + 1];
-        numbers[i] = v;
-        i += 1;
-    }
+    keep_newest(&mut rows[ROW * m..ROW * (m + MAX_CUTS)], cut, made);
 }
 
 // The newest cut's number stored beside the others.
@@ -71,10 +51,5 @@ pub fn keep_number(numbers: &mut [usize; 64], made: usize, number: usize)
     requires { length numbers.old ≡ max_cuts }
     ensures { NumberKept made number numbers.old numbers.new }
 {
-    if made < MAX_CUTS {
-        numbers[made] = number;
-        return;
-    }
-    drop_number(numbers);
-    numbers[LAST_CUT] = number;
+    keep_newest(numbers, &[number], made);
 }

@@ -66,7 +66,7 @@ as-inequality : (k : Constraint) → k.divisor ≡ pos 0 → rounded_by (common_
 unfolding rounded rounded_as modulus
 as-inequality k q = ap (λ (z : ℤ). rounded_as (nat_abs z) k) (sym q)
 
-pub rounded-none : (k : Constraint) → k.divisor ≡ pos 0 → common_divisor k.coefficients ≡ 0 → k ≡ rounded k
+rounded-none : (k : Constraint) → k.divisor ≡ pos 0 → common_divisor k.coefficients ≡ 0 → k ≡ rounded k
 unfolding rounded_by
 rounded-none k q e = ap (λ (h : ℕ). rounded_by h k) (sym e) ∙ as-inequality k q
 
@@ -95,23 +95,24 @@ by_one k = constraint-eq (sym (ceil-one k.constant)) (sym (exact-ones k.coeffici
 pub rounded-by : (k : Constraint) (h : ℕ) → k.divisor ≡ pos 0 → h ≡ common_divisor k.coefficients → rounded_by h k ≡ rounded k
 rounded-by k h q e = ap (λ (d : ℕ). rounded_by d k) e ∙ as-inequality k q
 
-pub rounded-one : (k : Constraint) → k.divisor ≡ pos 0 → common_divisor k.coefficients ≡ 1 → k ≡ rounded k
+rounded-one : (k : Constraint) → k.divisor ≡ pos 0 → common_divisor k.coefficients ≡ 1 → k ≡ rounded k
 rounded-one k q e = by_one k ∙ rounded-by k 1 q (sym e)
+
+pub rounded-same : (k : Constraint) (h : ℕ) → k.divisor ≡ pos 0 → h ≡ common_divisor k.coefficients → h ≤ 1 → k ≡ rounded k
+rounded-same k zero q e l = rounded-none k q (sym e)
+rounded-same k (suc h) q e l = let o : suc h ≡ 1 = omega arith in rounded-one k q (sym e ∙ o)
 
 -- ---- and from what may be given as 1: neither k nor what it is rounded to is in range where the excess reaches the divisor
 module _ (k : Constraint) (least h : ℕ) (q : k.divisor ≡ pos 0) (x : Excess k least) (d : Above least (common_divisor k.coefficients) h) where
-  pub left-none : h ≡ 0 → RoundedOrOut k k
-  left-none z = ⊎_elim (λ e. inl (rounded-none k q (sym e ∙ z))) (λ s. absurd (omega arith)) d
-
-  pub left_one : h ≡ 1 → RoundedOrOut k k
-  left_one o =
+  pub left : h ≤ 1 → RoundedOrOut k k
+  left l =
       ⊎_elim
-      (λ e. inl (rounded-one k q (sym e ∙ o)))
+      (λ e. inl (rounded-same k h q e l))
       (λ s. inr (ap in_range (by_one k) ∙ x 1 (lit< tt) (omega arith), ap in_range (sym (as-inequality k q)) ∙ x (common_divisor k.coefficients) s.1.0 s.1.1))
       d
 
-  pub above-is : (h ≡ 1 → ⊥) → h ≡ common_divisor k.coefficients
-  above-is o = ⊎_elim (λ e. e) (λ s. absurd (o s.0)) d
+  pub above-is : 1 < h → h ≡ common_divisor k.coefficients
+  above-is l = ⊎_elim (λ e. e) (λ s. absurd (omega arith)) d
 
 -- ---- a coefficient of that size shows the excess
 exact-abs : (h : ℕ) (z : ℤ) → nat_abs (exact_div h z) ≡ nat_abs z / h

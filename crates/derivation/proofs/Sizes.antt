@@ -23,7 +23,7 @@ use Rattle.lists.proofs.Bools.{true_of, T_of, and-true, and_both, lt-or-le}
 use Rattle.lists.proofs.AllOf.{all_of-get_d, all_of-of}
 use Rattle.layout.specs.Rows.{number_in, cell, constraint_at}
 use Rattle.layout.proofs.Rows.{coefficient-at}
-use Rattle.layout.proofs.Elements.{number_read, cell-read}
+use Rattle.layout.proofs.Elements.{number_read}
 use Rattle.derivation.specs.Sized.{max_combined, Sized}
 
 -- ---- a list of coefficients, 0 past its end
@@ -65,21 +65,17 @@ sized_range k h =
     and_both (within-out max_coefficient k.constant h.constant)
     (all_of-of (within max_coefficient) k.coefficients (pos 0) (λ i l. within-out max_coefficient _ (h.coefficient i)))
 
--- ---- the numbers of a row in range, and as the code reads them
-module _ (n : ℕ) (rows : List ℤ) (start : ℕ) (e : in_range (constraint_at n rows start) ≡ true) where
-  pub constant-within : Within max_coefficient (number_in rows start)
-  unfolding constraint_at
-  constant-within = (range-sized (constraint_at n rows start) e).constant
+-- ---- the numbers of a row in range, as the code reads them
+number-within : (n : ℕ) (row : List ℤ) (i : ℕ) → i ≤ n → in_range (constraint_at n row 0) ≡ true → Within max_coefficient (number_in row i)
+unfolding constraint_at cell
+number-within n row zero l e = (range-sized (constraint_at n row 0) e).constant
+number-within n row (suc i) l e =
+    let o : 0 + 1 + i ≡ suc i = omega arith in
+    rw (coefficient-at n row 0 i (omega arith), o) at ((range-sized (constraint_at n row 0) e).coefficient i)
 
-  pub cell-within : (i : ℕ) → i < n → Within max_coefficient (cell rows start i)
-  cell-within i l = rw (← coefficient-at n rows start i l) ((range-sized (constraint_at n rows start) e).coefficient i)
-
-  pub constant-read : mag (get_or rows start (pos 0)) < 2 ^ 63 → Within max_coefficient (to_z w64 (of_z w64 (get_or rows start (pos 0))))
-  constant-read h = rw (number_read rows start h) constant-within
-
-  pub coefficient-read : (i : ℕ) → i < n → mag (get_or rows (start + 1 + i) (pos 0)) < 2 ^ 63 →
-      Within max_coefficient (to_z w64 (of_z w64 (get_or rows (start + 1 + i) (pos 0))))
-  coefficient-read i l h = rw (cell-read rows start i (start + 1 + i) refl h) (cell-within i l)
+pub number-read_within : (n : ℕ) (row : List ℤ) (i : ℕ) → i ≤ n → in_range (constraint_at n row 0) ≡ true → mag (get_or row i (pos 0)) < 2 ^ 63 →
+    Within max_coefficient (to_z w64 (of_z w64 (get_or row i (pos 0))))
+number-read_within n row i l e h = rw (number_read row i h) (number-within n row i l e)
 
 -- ---- rounding makes no number larger
 divisor-most : {b : ℕ} (cs : List ℤ) → Small b cs → common_divisor cs ≤ b

@@ -2,3 +2,6 @@
 #![tactic(auto)]
 
 pub mod advance;
+mod carried;
+mod given;
+mod walk;

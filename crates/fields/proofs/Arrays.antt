@@ -13,12 +13,11 @@ use mir.Val.{SFits, to_z, of_z}
 use mir.Facts.{to_z-of_z}
 use Rattle.model_files.specs.Bytes.{i32_at, block}
 use Rattle.model_problems.specs.Constraint.{coefficient_at}
-use Rattle.model_files.specs.File.{variables_in, bounds_offset, threshold_offset, threshold_in, coefficient_offset, divisor_offset, coefficient_in, constraint_in, constraint_of}
+use Rattle.model_files.specs.File.{variables_in, coefficient_offset, divisor_offset, coefficient_in, constraint_in, constraint_of}
 use Rattle.model_problems.specs.Lists.{tab}
 use Rattle.lists.proofs.Tab.{length-tab, get_d-tab, get_d-tab-past, tab-more}
 use Rattle.layout.specs.Rows.{row_length}
-use Rattle.fields.specs.Fields.{zeros, in_row, filled, bound_in, cell_in, divisor_in}
-use Rattle.fields.proofs.FileTests.{part, part-is}
+use Rattle.fields.specs.Fields.{zeros, in_row, filled, cell_in, divisor_in}
 
 -- ---- an array that is filled from its start
 module _ (f : ℕ → ℤ) (w : ℕ) where
@@ -52,22 +51,11 @@ module _ (f : List ℕ) (n c : ℕ) (en : n ≡ variables_in f) where
   unfolding cell_in constraint_of
   cell-past h = rw (← en) (sym (row-past n (block f (suc (c / row_length))) (c % row_length) h))
 
-  pub cell-is : (a : ℕ) (r : ℤ) → a ≡ 4 * (c % row_length) → c % row_length ≤ n → r ≡ i32_at (part f (c / row_length + 1)) a → r ≡ cell_in f c
+  pub cell-is : (b : List ℕ) (a : ℕ) (r : ℤ) → b ≡ block f (c / row_length + 1) → a ≡ 4 * (c % row_length) → c % row_length ≤ n → r ≡ i32_at b a → r ≡ cell_in f c
   unfolding cell_in constraint_of
-  cell-is a r ea h e =
-      e ∙ rw (part-is f (c / row_length + 1), ea, ← en, add-one (c / row_length)) (sym (row_number n (block f (suc (c / row_length))) (c % row_length) h))
+  cell-is b a r eb ea h e = e ∙ rw (eb, ea, ← en, add-one (c / row_length)) (sym (row_number n (block f (suc (c / row_length))) (c % row_length) h))
 
 -- ---- the divisors
-pub divisor-is : (f : List ℕ) (j : ℕ) (r : ℤ) → r ≡ i32_at (part f (j + 1)) divisor_offset → r ≡ divisor_in f j
+pub divisor-is : (f b : List ℕ) (j : ℕ) (r : ℤ) → b ≡ block f (j + 1) → r ≡ i32_at b divisor_offset → r ≡ divisor_in f j
 unfolding divisor_in constraint_of constraint_in
-divisor-is f j r e = e ∙ rw (part-is f (j + 1), add-one j)
-
--- ---- the bounds
-pub bound-is : (f : List ℕ) (side i a : ℕ) (r : ℤ) → a ≡ bounds_offset i → r ≡ i32_at f (a + side) → r ≡ bound_in f side i
-unfolding bound_in
-bound-is f side i a r ea e = rw (← ea) e
-
--- ---- the thresholds
-pub threshold-is : (f : List ℕ) (i a : ℕ) (r : ℤ) → a ≡ threshold_offset i → r ≡ i32_at f a → r ≡ threshold_in f i
-unfolding threshold_in
-threshold-is f i a r ea e = rw (← ea) e
+divisor-is f b j r eb e = e ∙ rw (eb, add-one j)

@@ -1,5 +1,5 @@
 // The sizes of a head and the block of a constraint, written into the parts of a lent buffer.
-ghost use Rattle.std.specs.Prelude.{◌≡◌, true, ◌++◌, ◌+◌, ◌*◌, ◌≤◌, length};
+ghost use Rattle.std.specs.Prelude.{◌≡◌, true, ◌++◌, ◌+◌, ◌*◌, ◌<◌, ◌≤◌, length};
 ghost use Rattle.model_problems.specs.Ranges.{max_variables};
 ghost use Rattle.model_files.specs.Bytes.{u16_bytes, u32_bytes, block_length, sealed};
 ghost use Rattle.model_problems.specs.Constraint.{in_range, is_divisor};
@@ -21,27 +21,24 @@ pub fn put_sizes(n: usize, m: usize, budget: usize, head: &mut [u8])
     build::put_u32(head, offsets::BUDGET_OFFSET, budget);
 }
 
-// Puts the constant and the n coefficients of the constraint whose row starts at `start`.
-fn put_numbers(n: usize, rows: &[i64], start: usize, block: &mut [u8])
-    requires { (n ≤ max_variables) × (start + 1 + n ≤ length rows.now) × (in_range (constraint_at n rows.now start) ≡ true) × (length block.old ≡ block_length) }
-    ensures { Placed block.old 0 (4 + 4 * n) (numbers_bytes n (constraint_at n rows.now start)) block.new }
+// Puts the constant and the n coefficients of a row.
+fn put_numbers(n: usize, row: &[i64], block: &mut [u8])
+    requires { (n ≤ max_variables) × (n < length row.now) × (in_range (constraint_at n row.now 0) ≡ true) × (length block.old ≡ block_length) }
+    ensures { Placed block.old 0 (4 + 4 * n) (numbers_bytes n (constraint_at n row.now 0)) block.new }
 {
-    build::put_i32(block, offsets::number_offset(0), rows[start]);
-    let mut i: usize = 0;
-    while i < n {
-        build::put_i32(block, offsets::number_offset(i + 1), rows[start + 1 + i]);
-        i += 1;
+    for i in 0..n + 1 {
+        build::put_i32(block, offsets::number_offset(i), row[i]);
     }
 }
 
 // Writes the block of a constraint with divisor q, block k of the file, whatever stood there.
-pub fn write_constraint(n: usize, rows: &[i64], start: usize, q: i64, k: usize, block: &mut [u8])
-    requires n_le_max_variables { (n ≤ max_variables) × (start + 1 + n ≤ length rows.now) × (in_range (constraint_at n rows.now start) ≡ true) × (length block.old ≡ block_length) }
+pub fn write_constraint(n: usize, row: &[i64], q: i64, k: usize, block: &mut [u8])
+    requires n_le_max_variables { (n ≤ max_variables) × (n < length row.now) × (in_range (constraint_at n row.now 0) ≡ true) × (length block.old ≡ block_length) }
     requires q_value { is_divisor q ≡ true }
-    ensures { block.new ≡ sealed k (constraint_bytes n (divided_at n rows.now start q)) }
+    ensures { block.new ≡ sealed k (constraint_bytes n (divided_at n row.now 0 q)) }
 {
     build::clear(block);
-    put_numbers(n, rows, start, block);
+    put_numbers(n, row, block);
     build::put_i32(block, offsets::DIVISOR_OFFSET, q);
     build::seal(block, k);
 }

@@ -5,7 +5,7 @@ use native.Mathlib.Numerals.{add-one}
 use mathlib.Core.Bool.{true}
 use mathlib.Core.Path.{◌≡◌, refl, sym, ap, ◌∙◌}
 use mathlib.Core.List.{List, ◌++◌, append_assoc, append-nil}
-use lib.IntN.{pos}
+use lib.IntN.{ℤ, pos}
 use lib.ListN.{get_or, take, drop, length, length-append, length-drop}
 use lib.Seq.{length-take-le}
 use mir.Syntax.{w64}
@@ -25,6 +25,8 @@ use Rattle.lists.proofs.Bools.{and-true}
 use Rattle.lists.proofs.Parts.{parts-append}
 use Rattle.lists.proofs.Tab.{get_d-tab}
 use Rattle.format.proofs.Within.{threshold-small}
+use Rattle.layout.proofs.Slices.{constraint-between, divided-between}
+use Rattle.std.specs.List.{between}
 use Rattle.layout.proofs.Rows.{length-box, lower-at, upper-at}
 use Rattle.layout.specs.Rows.{row_length, number_in, constraint_at, divided_at, input_at, bounds_at, box_of, thresholds_of}
 use Rattle.block.proofs.Placing.{then, none-placed, more-placed, part_placed}
@@ -53,15 +55,15 @@ module _ (p : Problem) (i : ℕ) (l : i < p.n) where
   unfolding bounds_bytes problem_of number_in
   bounds-bytes = rw (lower-at p.n p.lower p.upper i l, upper-at p.n p.lower p.upper i l)
 
-  pub bounds-more : {s t u v : List ℕ} (a : ℕ) → a ≡ bounds_offset i → SFits w64 (get_or p.lower i (pos 0)) → SFits w64 (get_or p.upper i (pos 0)) →
+  pub bounds-more : {s t u v : List ℕ} (a b : ℕ) → a ≡ bounds_offset i + 0 → b ≡ bounds_offset i + 4 → SFits w64 (get_or p.lower i (pos 0)) → SFits w64 (get_or p.upper i (pos 0)) →
       Placed s 12 (12 + 8 * i) (parts (bounds_bytes (problem_of p)) 0 i) t →
-      Placed t (a + 0) (a + 0 + 4) (i32_bytes (to_z w64 (of_z w64 (get_or p.lower i (pos 0))))) u →
-      Placed u (a + 4) (a + 4 + 4) (i32_bytes (to_z w64 (of_z w64 (get_or p.upper i (pos 0))))) v →
+      Placed t a (a + 4) (i32_bytes (to_z w64 (of_z w64 (get_or p.lower i (pos 0))))) u →
+      Placed u b (b + 4) (i32_bytes (to_z w64 (of_z w64 (get_or p.upper i (pos 0))))) v →
       Placed s 12 (12 + 8 * (i + 1)) (parts (bounds_bytes (problem_of p)) 0 (i + 1)) v
   unfolding bounds_offset
-  bounds-more {s} {t} {u} {v} a e f g x y z =
-      let low : Placed t (12 + 8 * i) (a + 4) (i32_bytes (get_or p.lower i (pos 0))) u = rw (to_z-of_z f) at (moved (12 + 8 * i) (a + 4) (omega arith) (omega arith) y) in
-      let high : Placed u (a + 4) (12 + 8 * (i + 1)) (i32_bytes (get_or p.upper i (pos 0))) v = rw (to_z-of_z g) at (moved (a + 4) (12 + 8 * (i + 1)) (omega arith) (omega arith) z) in
+  bounds-more {s} {t} {u} {v} a b e h f g x y z =
+      let low : Placed t (12 + 8 * i) b (i32_bytes (get_or p.lower i (pos 0))) u = rw (to_z-of_z f) at (moved (12 + 8 * i) b (omega arith) (omega arith) y) in
+      let high : Placed u b (12 + 8 * (i + 1)) (i32_bytes (get_or p.upper i (pos 0))) v = rw (to_z-of_z g) at (moved b (12 + 8 * (i + 1)) (omega arith) (omega arith) z) in
       more-placed (bounds_bytes (problem_of p)) i x (rw bounds-bytes (then low high))
 
 -- ---- the thresholds
@@ -108,19 +110,27 @@ placed-length {s} {b} {t} {i} {j} l p =
 
 module _ (p : Problem) where
   -- the head's part, as it comes back
-  pub head-placed : {s part : List ℕ} → block_length ≤ length s → length part ≡ length (take block_length s) → part ≡ sealed 0 (head_bytes (problem_of p)) →
+  head-placed-at : {s part : List ℕ} → block_length ≤ length s → length part ≡ length (take block_length s) → part ≡ sealed 0 (head_bytes (problem_of p)) →
       (length (put_mid 0 block_length s part) ≡ length s) × Placed s 0 block_length (block_of (problem_of p) 0) (put_mid 0 block_length s part)
   unfolding block_of
-  head-placed {s} {part} l k e = let x = part_placed s 0 block_length (omega arith) l k e in (placed-length l x, x)
+  head-placed-at {s} {part} l k e = let x = part_placed s 0 block_length (omega arith) l k e in (placed-length l x, x)
+
+  pub head-placed : {start end : ℕ} {s part : List ℕ} → (start ≡ 0) × (end ≡ block_length) → block_length ≤ length s → length part ≡ length (take (end - start) (drop start s)) →
+      part ≡ sealed 0 (head_bytes (problem_of p)) →
+      (length (put_mid start (end - start) s part) ≡ length s) × Placed s 0 block_length (block_of (problem_of p) 0) (put_mid start (end - start) s part)
+  head-placed r l k e = rw (r.0, r.1) (head-placed-at l (rw (r.0, r.1) at k) e)
 
   pub no_blocks : (s : List ℕ) → Placed s block_length block_length (parts (block_of (problem_of p)) 1 0) s
   unfolding parts
   no_blocks s = none-placed (block_of (problem_of p)) s block_length
 
   module _ (j : ℕ) (l : j < p.m) where
-    pub row-passes : constraints_in_range (problem_of p) ≡ true → in_range (constraint_at p.n p.constraints (row_length * j)) ≡ true
+    row-at : constraints_in_range (problem_of p) ≡ true → in_range (constraint_at p.n p.constraints (row_length * j)) ≡ true
     unfolding constraints_in_range problem_of in_range input_at divided_at constraint_at
-    row-passes e = every-at in_range (input_at p.n p.constraints p.divisors) p.m j e l
+    row-at e = every-at in_range (input_at p.n p.constraints p.divisors) p.m j e l
+
+    pub row-passes : (row : List ℤ) → row ≡ between (row_length * j) (row_length * (j + 1)) p.constraints → p.n ≤ max_variables → constraints_in_range (problem_of p) ≡ true → in_range (constraint_at p.n row 0) ≡ true
+    row-passes row er few e = rw (er, constraint-between p.n p.constraints (row_length * j) (row_length * (j + 1)) (omega arith)) (row-at e)
 
     pub divisor-passes : SFits w64 (get_or p.divisors j (pos 0)) → divisors_in_range (problem_of p) ≡ true → is_divisor (to_z w64 (of_z w64 (get_or p.divisors j (pos 0)))) ≡ true
     unfolding divisors_in_range divisor_in_range problem_of input_at divided_at number_in
@@ -134,20 +144,28 @@ module _ (p : Problem) where
     unfolding parts
     blocks-next = let e : 1 + j ≡ suc j = omega arith in parts-append (block_of (problem_of p)) 1 j 1 ∙ rw (append-nil, e)
 
-    -- and a constraint's
-    pub blocks_more : {s t part : List ℕ} → SFits w64 (get_or p.divisors j (pos 0)) → block_length * (p.m + 1) ≤ length t →
-        length part ≡ length (take (block_length * (j + 1) + block_length - block_length * (j + 1)) (drop (block_length * (j + 1)) t)) →
-        part ≡ sealed (j + 1) (constraint_bytes p.n (divided_at p.n p.constraints (row_length * j) (to_z w64 (of_z w64 (get_or p.divisors j (pos 0)))))) →
-        Placed s block_length (block_length * (j + 1)) (parts (block_of (problem_of p)) 1 j) t →
+    -- the part of a constraint, as it comes back, and the row that it was written from
+    blocks-more-at : {s t part : List ℕ} → block_length * (p.m + 1) ≤ length t → length part ≡ length (take (block_length * (j + 1) + block_length - block_length * (j + 1)) (drop (block_length * (j + 1)) t)) →
+        part ≡ block_of (problem_of p) (suc j) → Placed s block_length (block_length * (j + 1)) (parts (block_of (problem_of p)) 1 j) t →
         (length (put_mid (block_length * (j + 1)) (block_length * (j + 1) + block_length - block_length * (j + 1)) t part) ≡ length t) ×
         Placed s block_length (block_length * (j + 1 + 1)) (parts (block_of (problem_of p)) 1 (j + 1)) (put_mid (block_length * (j + 1)) (block_length * (j + 1) + block_length - block_length * (j + 1)) t part)
-    unfolding input_at number_in
-    blocks_more {s} {t} {part} q f k e x =
+    blocks-more-at {s} {t} {part} f k e x =
         let a = block_length * (j + 1) in
-        let z : j + 1 ≡ suc j = add-one j in
-        let g : part ≡ block_of (problem_of p) (suc j) = e ∙ rw (z, to_z-of_z q) (sym input-sealed) in
-        let next = moved a (block_length * (j + 1 + 1)) refl (omega arith) (part_placed t a (a + block_length) (omega arith) (omega arith) k g) in
+        let next = moved a (block_length * (j + 1 + 1)) refl (omega arith) (part_placed t a (a + block_length) (omega arith) (omega arith) k e) in
         (placed-length (omega arith) next, rw blocks-next (then x next))
+
+    module _ {start end : ℕ} (r : (start ≡ block_length * (j + 1)) × (end ≡ block_length * (j + 1) + block_length)) where
+      pub blocks_more : {s t part : List ℕ} (row : List ℤ) → row ≡ between (row_length * j) (row_length * (j + 1)) p.constraints → p.n ≤ max_variables → SFits w64 (get_or p.divisors j (pos 0)) →
+          block_length * (p.m + 1) ≤ length t → length part ≡ length (take (end - start) (drop start t)) →
+          part ≡ sealed (j + 1) (constraint_bytes p.n (divided_at p.n row 0 (to_z w64 (of_z w64 (get_or p.divisors j (pos 0)))))) →
+          Placed s block_length (block_length * (j + 1)) (parts (block_of (problem_of p)) 1 j) t →
+          (length (put_mid start (end - start) t part) ≡ length t) × Placed s block_length (block_length * (j + 1 + 1)) (parts (block_of (problem_of p)) 1 (j + 1)) (put_mid start (end - start) t part)
+      unfolding input_at number_in
+      blocks_more {s} {t} {part} row er few q f k e x =
+          let z : j + 1 ≡ suc j = add-one j in
+          let d = divided-between p.n p.constraints (row_length * j) (row_length * (j + 1)) (get_or p.divisors j (pos 0)) (omega arith) in
+          let g : part ≡ block_of (problem_of p) (suc j) = e ∙ rw (er, to_z-of_z q, d, z) (sym input-sealed) in
+          rw (r.0, r.1) (blocks-more-at f (rw (r.0, r.1) at k) g x)
 
   pub file-written : {s t u : List ℕ} (j : ℕ) → p.m ≤ j → j ≤ p.m → Placed s 0 block_length (block_of (problem_of p) 0) t →
       Placed t block_length (block_length * (j + 1)) (parts (block_of (problem_of p)) 1 j) u → u ≡ file_of (problem_of p) ++ drop (file_length (problem_of p)) s

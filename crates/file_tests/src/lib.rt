@@ -1,10 +1,9 @@
 // The tests on the bytes of a problem file: document 01's errors 1 to 4 and 7.
 #![tactic(auto)]
 
-ghost use Rattle.std.specs.Prelude.{◌≡◌, ◌≤◌, length};
-ghost use Rattle.model_problems.specs.Ranges.{max_variables};
-ghost use Rattle.model_files.specs.Bytes.{block_length};
-ghost use Rattle.model_files.specs.File.{whole_blocks, checks_match, magic_matches, block_padded, head_padded, padding_zero};
+ghost use Rattle.std.specs.Prelude.{◌≡◌, ◌+◌, ◌*◌, ◌<◌, ◌≤◌, length};
+ghost use Rattle.model_files.specs.Bytes.{block_length, block};
+ghost use Rattle.model_files.specs.File.{variables_in, constraints_in, whole_blocks, check_matches, checks_match, magic_matches, constraint_padded, head_padded, padding_zero};
 ghost use Rattle.fields.specs.Fields.{sizes_match, Blocks};
 
 use block::{check, number};
@@ -16,27 +15,22 @@ use layout::range::sizes_in_range;
 pub fn is_whole(file: &[u8]) -> bool
     ensures { result ≡ whole_blocks file.now }
 {
-    if file.len() < block::LENGTH {
-        return false;
-    }
-    file.len() % block::LENGTH == 0
+    block::LENGTH <= file.len() && file.len() % block::LENGTH == 0
+}
+
+// Whether block k holds its check.
+fn is_checked(file: &[u8], k: usize) -> bool
+    requires { block_length * k + block_length ≤ length file.now }
+    ensures { result ≡ check_matches file.now k }
+{
+    check::is_checked(&file[block::range(k)], k)
 }
 
 // 2, 'bad check': whether every block holds its check.
 pub fn checks_match(file: &[u8]) -> bool
     ensures { result ≡ checks_match file.now }
 {
-    let blocks = file.len() / block::LENGTH;
-    let mut k: usize = 0;
-    while k < blocks {
-        let start = block::LENGTH * k;
-        let end = start + block::LENGTH;
-        if !check::is_checked(&file[start..end], k) {
-            return false;
-        }
-        k += 1;
-    }
-    true
+    (0..file.len() / block::LENGTH).all(|k| is_checked(file, k))
 }
 
 // 3, 'not a plan': whether the letters are right.
@@ -52,35 +46,30 @@ pub fn sizes_match(file: &[u8]) -> bool
     requires { block_length ≤ length file.now }
     ensures { result ≡ sizes_match file.now }
 {
-    let n = variables_in(file);
     let m = constraints_in(file);
-    let budget = budget_in(file);
-    if !sizes_in_range(n, m, budget) {
-        return false;
-    }
-    file.len() == block::LENGTH * (m + 1)
-}
-
-// Whether the bytes of a constraint's block that should be zero are: before its divisor and after it.
-fn is_padded(b: &[u8], n: usize) -> bool
-    requires { (length b.now ≡ block_length) × (n ≤ max_variables) }
-    ensures { result ≡ block_padded n b.now }
-{
-    if !check::is_zero_between(b, offsets::number_offset(n + 1), offsets::DIVISOR_OFFSET) {
-        return false;
-    }
-    check::is_zero_from(b, offsets::DIVISOR_END)
+    sizes_in_range(variables_in(file), m, budget_in(file)) && file.len() == block::LENGTH * (m + 1)
 }
 
 // Whether the bytes of the head that should be zero are: before its thresholds and after them.
-fn is_head_padded(b: &[u8], n: usize) -> bool
-    requires { (length b.now ≡ block_length) × (n ≤ max_variables) }
-    ensures { result ≡ head_padded n b.now }
+fn is_head_padded(file: &[u8]) -> bool
+    requires { Blocks file.now }
+    ensures { result ≡ head_padded (variables_in file.now) (block file.now 0) }
 {
-    if !check::is_zero_between(b, offsets::bounds_offset(n), offsets::threshold_offset(0)) {
-        return false;
-    }
-    check::is_zero_from(b, offsets::threshold_offset(n))
+    let n = variables_in(file);
+    let b = &file[block::range(0)];
+    check::is_zero_between(b, offsets::bounds_offset(n), offsets::threshold_offset(0))
+        && check::is_zero_from(b, offsets::threshold_offset(n))
+}
+
+// Whether the bytes of the block of constraint j that should be zero are: before its divisor and after it.
+fn is_padded(file: &[u8], j: usize) -> bool
+    requires { Blocks file.now × (j < constraints_in file.now) }
+    ensures { result ≡ constraint_padded file.now j }
+{
+    let n = variables_in(file);
+    let b = &file[block::range(j + 1)];
+    check::is_zero_between(b, offsets::number_offset(n + 1), offsets::DIVISOR_OFFSET)
+        && check::is_zero_from(b, offsets::DIVISOR_END)
 }
 
 // 7, 'stray': whether every byte that should be zero is.
@@ -88,19 +77,5 @@ pub fn padding_zero(file: &[u8]) -> bool
     requires { Blocks file.now }
     ensures { result ≡ padding_zero file.now }
 {
-    let n = variables_in(file);
-    let m = constraints_in(file);
-    if !is_head_padded(&file[0..block::LENGTH], n) {
-        return false;
-    }
-    let mut j: usize = 0;
-    while j < m {
-        let start = block::LENGTH * (j + 1);
-        let end = start + block::LENGTH;
-        if !is_padded(&file[start..end], n) {
-            return false;
-        }
-        j += 1;
-    }
-    true
+    is_head_padded(file) && (0..constraints_in(file)).all(|j| is_padded(file, j))
 }

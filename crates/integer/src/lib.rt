@@ -6,18 +6,15 @@ ghost use Rattle.model_problems.specs.Division.{floor_div, ceil_div, exact_div, 
 ghost use Rattle.integer.specs.Size.{Within};
 ghost use Rattle.integer.specs.Divisor.{Above};
 
-// |z|. The negation of z + 1 fits where that of z need not.
+// |z|.
 pub fn magnitude(z: i64) -> u64
     ensures { result ≡ nat_abs z }
 {
-    if 0 <= z {
-        z as u64
-    } else {
-        (-(z + 1)) as u64 + 1
-    }
+    z.unsigned_abs()
 }
 
 // z / d rounded down. Truncating division rounds a negative z up, so it divides z + 1 and takes 1 away.
+// Stays: document 01's forms by place build floor and ceiling on truncating division, so no `div_euclid` here and in ceil_div.
 pub fn floor_div(z: i64, d: u64) -> i64
     requires { (0 < d) × (d < 2 ^ 63) }
     ensures { (result ≡ floor_div z d) × Within (nat_abs z) result }
@@ -56,15 +53,12 @@ pub fn exact_div(z: i64, d: u64) -> i64
 pub fn gcd_above(a: u64, b: u64, least: u64) -> u64
     ensures { Above least (gcd_of a b) result }
 {
-    let mut x = a;
-    let mut y = b;
+    let (mut x, mut y) = (a, b);
     while y != 0 {
         if y <= least {
             return 1;
         }
-        let rest = x % y;
-        x = y;
-        y = rest;
+        (x, y) = (y, x % y);
     }
     x
 }

@@ -3,10 +3,9 @@
 
 fn main(rt: HostRuntime) {
     let stderr = rt.stderr();
-    let mut file = [0u8; console::INPUT_LENGTH];
-    let mut failed = false;
-    let read = console::read_input(&rt, &stderr, &mut file, &mut failed);
-    if !failed {
-        console::write_journal(&rt, &stderr, &file[..read]);
-    }
+    console::on_input(
+        &rt,
+        &stderr,
+        |file| console::write_journal(&rt, &stderr, file),
+    );
 }

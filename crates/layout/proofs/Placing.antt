@@ -4,6 +4,9 @@ use native.Mathlib.Omega.{arith}
 use mathlib.Core.List.{List}
 use mathlib.Core.Path.{◌≡◌, refl, ap, ◌∙◌}
 use borrow.Author.Count.{below_more}
+use borrow.Author.Rules.{rules}
+use borrow.Rule.Slice.PartMut.{put_mid}
+use Rattle.std.proofs.lemmas.List.{places}
 use lib.IntN.{ℤ, pos}
 use lib.ListN.{length, set, length-set}
 use lib.Seq.{get_or-set_same, get_or-set_other}
@@ -27,6 +30,18 @@ module _ (start : ℕ) (row before : List ℤ) where
             (λ k b. get_or-set_other after (start + i) (start + k) v (pos 0) (λ z. omega arith) ∙ p.placed k b)
             (get_or-set_same after (start + i) v (pos 0) (omega (arith, p.size)) ∙ e);
         above = λ k b. get_or-set_other after (start + i) k v (pos 0) (λ z. omega arith) ∙ p.above k (omega arith);
+      }
+
+-- ---- the part of an array in which a row is put
+module _ (start count k : ℕ) (row before : List ℤ) (e : k ≡ count) (l : length row ≡ count) (inside : start + count ≤ length before) where
+  pub placed_part : (part : List ℤ) → part ≡ row → Placed start count row before (put_mid start k before part)
+  unfolding number_in
+  placed_part part p =
+      record {
+        size = search (rules, places);
+        below = λ i b. search (rules, places);
+        placed = λ i b. search (rules, places);
+        above = λ i b. search (rules, places);
       }
 
 -- ---- the constraint in the row, and those before it

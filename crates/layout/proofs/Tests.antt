@@ -1,48 +1,48 @@
--- The tests of a row's numbers, one after the other: its constant, then its coefficients.
-use Prim.Native.Nat.{ℕ, ◌<◌, ◌≤◌}
-use mathlib.Core.Bool.{Bool, true, false, ◌&&◌, and-false}
-use mathlib.Core.List.{List}
-use mathlib.Core.Path.{◌≡◌, refl, sym, ap}
+-- The tests of a row: of the part of the array that holds it, its constant and then its coefficients.
+use Prim.Native.Nat.{ℕ, suc, ◌+◌, ◌<◌}
+use native.Mathlib.Omega.{arith}
+use native.Mathlib.Numerals.{add-one}
+use mathlib.Core.Bool.{Bool, true, ◌&&◌}
+use mathlib.Core.List.{List, ◌∷◌}
+use mathlib.Core.Path.{◌≡◌, refl, sym, ap, ap₂, ◌∙◌}
 use lib.Dec.{eqb, eqb→eq, eqb_refl}
 use lib.IntN.{ℤ, pos, negsuc}
+use lib.ListN.{length, take, drop}
+use mir.Syntax.{w64}
+use mir.Val.{SFits, of_z}
+use borrow.Author.Tests.{eqb-true}
+use Rattle.std.specs.Cmp.Lexicographic.{pointwise}
+use Rattle.std.specs.Ordering.{int_eq}
+use Rattle.std.proofs.lemmas.Bool.Decides.{Decides-int_eq}
 use Rattle.model_problems.specs.Ranges.{within, max_coefficient}
-use Rattle.model_problems.specs.Lists.{tab, all}
+use Rattle.model_problems.specs.Lists.{tab, all, all_of, all_pairs}
 use Rattle.model_problems.specs.Constraint.{in_range, equalℤ, equal}
-use Rattle.lists.proofs.Bools.{true_of, T_of, clash, and_both}
-use Rattle.lists.proofs.All.{all_end, all-fails}
+use Rattle.integer.specs.Tests.{same}
+use Rattle.lists.proofs.Bools.{true_of, T_of, clash, same_test}
+use Rattle.lists.proofs.Tab.{tab-of-part, tab-shift}
 use Rattle.lists.proofs.AllOf.{all_of-tab}
-use Rattle.lists.proofs.AllPairs.{pairs-tab}
+use Rattle.lists.proofs.Chains.{pairs-pointwise}
 use Rattle.layout.specs.Rows.{number_in, cell, constraint_at}
 
--- ---- a test of the constant and one of each coefficient: the constant fails, coefficient i fails, all pass
-module _ (constant : Bool) (t : ℕ → Bool) (n : ℕ) where
-  fails-first : constant ≡ false → false ≡ (constant && all (tab t 0 n))
-  fails-first e = rw e
-
-  fails-at : (i : ℕ) → i < n → t i ≡ false → false ≡ (constant && all (tab t 0 n))
-  fails-at i l e = rw (all-fails t n i l e) (sym (and-false constant))
-
-  passes : (i : ℕ) → n ≤ i → i ≤ n → constant ≡ true → all (tab t 0 i) ≡ true → true ≡ (constant && all (tab t 0 n))
-  passes i l h e a = sym (and_both e (all_end t n i l h a))
+pub row_part : (n : ℕ) (rows : List ℤ) (start c : ℕ) → start + n < length rows → c ≡ n + 1 → take c (drop start rows) ≡ number_in rows start ∷ tab (cell rows start) 0 n
+unfolding tab cell number_in
+row_part n rows start c h e =
+    let shift = tab-shift (number_in rows) (cell rows start) (suc start) 0 n (λ k l. ap (number_in rows) (omega arith)) in
+    rw e (sym (tab-of-part rows (pos 0) start (n + 1) (omega arith)) ∙ rw add-one (ap (λ (l : List ℤ). number_in rows start ∷ l) shift))
 
 -- ---- the range
 unfoldable pub small_at : List ℤ → ℕ → ℕ → Bool
 small_at rows start i = within max_coefficient (cell rows start i)
 
-module _ (n : ℕ) (rows : List ℤ) (start : ℕ) where
-  pub range-tests : in_range (constraint_at n rows start) ≡ (within max_coefficient (number_in rows start) && all (tab (small_at rows start) 0 n))
-  unfolding in_range constraint_at small_at
-  range-tests = rw (all_of-tab (within max_coefficient) (cell rows start) 0 n)
+pub range-tests : (n : ℕ) (rows : List ℤ) (start : ℕ) →
+    in_range (constraint_at n rows start) ≡ (within max_coefficient (number_in rows start) && all (tab (small_at rows start) 0 n))
+unfolding in_range constraint_at small_at
+range-tests n rows start = rw (all_of-tab (within max_coefficient) (cell rows start) 0 n)
 
-  pub out_first : within max_coefficient (number_in rows start) ≡ false → false ≡ in_range (constraint_at n rows start)
-  out_first e = rw range-tests (fails-first _ (small_at rows start) n e)
-
-  pub out_at : (i : ℕ) → i < n → small_at rows start i ≡ false → false ≡ in_range (constraint_at n rows start)
-  out_at i l e = rw range-tests (fails-at (within max_coefficient (number_in rows start)) (small_at rows start) n i l e)
-
-  pub all_in : (i : ℕ) → n ≤ i → i ≤ n → within max_coefficient (number_in rows start) ≡ true → all (tab (small_at rows start) 0 i) ≡ true →
-      true ≡ in_range (constraint_at n rows start)
-  all_in i l h e a = rw range-tests (passes _ (small_at rows start) n i l h e a)
+pub part-in-range : (n : ℕ) (rows : List ℤ) (start c : ℕ) → start + n < length rows → c ≡ n + 1 →
+    all_of (within max_coefficient) (take c (drop start rows)) ≡ in_range (constraint_at n rows start)
+unfolding in_range constraint_at all_of
+part-in-range n rows start c h e = ap (all_of (within max_coefficient)) (row_part n rows start c h e)
 
 -- ---- equality
 equal-true : (a b : ℤ) → equalℤ a b ≡ true → a ≡ b
@@ -52,32 +52,24 @@ equal-true (pos a) (negsuc b) e = clash e refl
 equal-true (negsuc a) (pos b) e = clash e refl
 equal-true (negsuc a) (negsuc b) e = ap negsuc (eqb→eq a b (T_of e))
 
-pub equal-refl : (a : ℤ) → equalℤ a a ≡ true
+equal-refl : (a : ℤ) → equalℤ a a ≡ true
 unfolding equalℤ
 equal-refl (pos a) = true_of (eqb a a) (eqb_refl a)
 equal-refl (negsuc a) = true_of (eqb a a) (eqb_refl a)
 
-pub equal-not : (a b : ℤ) → (a ≡ b → ⊥) → equalℤ a b ≡ false
-equal-not a b h = go (equalℤ a b) refl
-  where
-    go : (t : Bool) → equalℤ a b ≡ t → equalℤ a b ≡ false
-    go true e = absurd (h (equal-true a b e))
-    go false e = e
+-- std's test of equal numbers is the model's
+int_eq-equal : (a b : ℤ) → int_eq a b ≡ equalℤ a b
+int_eq-equal a b =
+    same_test (int_eq a b) (equalℤ a b) (λ e. rw ((Decides-int_eq a b).0 e) (equal-refl b)) (λ e. (Decides-int_eq a b).1 (equal-true a b e))
 
-unfoldable pub same_at : List ℤ → ℕ → List ℤ → ℕ → ℕ → Bool
-same_at a at b bt i = equalℤ (cell a at i) (cell b bt i)
+-- `==` at numbers compares their bits
+pub equal-bits : {a b : ℤ} → SFits w64 a → SFits w64 b → eqb (of_z w64 a) (of_z w64 b) ≡ equalℤ a b
+equal-bits {a} {b} f g =
+    same_test (eqb (of_z w64 a) (of_z w64 b)) (equalℤ a b) (λ e. rw (same f g (eqb-true _ _ e)) (equal-refl b))
+    (λ e. rw (equal-true a b e) (true_of (eqb (of_z w64 b) (of_z w64 b)) (eqb_refl (of_z w64 b))))
 
-module _ (n : ℕ) (a : List ℤ) (at : ℕ) (b : List ℤ) (bt : ℕ) where
-  equal-tests : equal (constraint_at n a at) (constraint_at n b bt) ≡ (equalℤ (number_in a at) (number_in b bt) && all (tab (same_at a at b bt) 0 n))
-  unfolding equal constraint_at same_at
-  equal-tests = rw (pairs-tab equalℤ (cell a at) (cell b bt) 0 n, equal-refl (pos 0))
-
-  pub differ-first : equalℤ (number_in a at) (number_in b bt) ≡ false → false ≡ equal (constraint_at n a at) (constraint_at n b bt)
-  differ-first e = rw equal-tests (fails-first _ (same_at a at b bt) n e)
-
-  pub differ-at : (i : ℕ) → i < n → same_at a at b bt i ≡ false → false ≡ equal (constraint_at n a at) (constraint_at n b bt)
-  differ-at i l e = rw equal-tests (fails-at (equalℤ (number_in a at) (number_in b bt)) (same_at a at b bt) n i l e)
-
-  pub all_same : (i : ℕ) → n ≤ i → i ≤ n → equalℤ (number_in a at) (number_in b bt) ≡ true → all (tab (same_at a at b bt) 0 i) ≡ true →
-      true ≡ equal (constraint_at n a at) (constraint_at n b bt)
-  all_same i l h e p = rw equal-tests (passes _ (same_at a at b bt) n i l h e p)
+pub parts-equal : (n : ℕ) (a : List ℤ) (at : ℕ) (b : List ℤ) (bt c d : ℕ) → at + n < length a → bt + n < length b → c ≡ n + 1 → d ≡ n + 1 →
+    pointwise int_eq (take c (drop at a)) (take d (drop bt b)) ≡ equal (constraint_at n a at) (constraint_at n b bt)
+unfolding equal constraint_at all_pairs
+parts-equal n a at b bt c d h k e f =
+    pairs-pointwise int_eq equalℤ int_eq-equal _ _ ∙ ap₂ (all_pairs equalℤ) (row_part n a at c h e) (row_part n b bt d k f) ∙ rw (equal-refl (pos 0))

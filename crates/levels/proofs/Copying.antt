@@ -1,35 +1,14 @@
--- Numbers copied into a list, one by one and as a whole.
-use Prim.Native.Nat.{ℕ, ◌+◌, ◌-◌, ◌≤◌, ◌<◌}
-use native.Mathlib.Nat.{eq-or-lt_of_le}
+-- Numbers copied into a list, as a whole.
+use Prim.Native.Nat.{ℕ, ◌+◌, ◌-◌, ◌≤◌}
 use native.Mathlib.Omega.{arith}
 use mathlib.Core.List.{List, ◌++◌}
-use mathlib.Core.Logic.{⊎_elim}
-use mathlib.Core.Path.{◌≡◌, refl, sym, ap, ap₂, ◌∙◌}
+use mathlib.Core.Path.{◌≡◌, sym, ap, ap₂, ◌∙◌}
 use lib.IntN.{ℤ, pos}
-use lib.ListN.{length, set, take, drop, length-set}
-use lib.Seq.{get_or-set_same, get_or-set_other}
+use lib.ListN.{length, take, drop}
 use Rattle.model_problems.specs.Lists.{tab}
 use Rattle.lists.proofs.Tab.{tab-append, tab-drop, tab-take, tab-ext, tab-ext-0, tab-shift, tab-of}
 use Rattle.layout.specs.Rows.{number_in}
 use Rattle.levels.specs.Copied.{Copied}
-
--- one number more
-pub copied_none : (at : ℕ) (from before : List ℤ) → Copied 0 at from before before
-copied_none at from before = record { size = refl; inside = λ k h. absurd (omega arith); below = λ k h. refl; above = λ k h. refl }
-
-pub copied_more : (j at : ℕ) (from before after : List ℤ) (v : ℤ) → at + j < length after → v ≡ number_in from j → Copied j at from before after → Copied (j + 1) at from before (set after (at + j) v)
-unfolding number_in
-copied_more j at from before after v l e c =
-    record {
-      size = length-set after (at + j) v ∙ c.size;
-      inside = λ k h.
-          ⊎_elim
-          (λ (q : k ≡ j). rw q (get_or-set_same after (at + j) v (pos 0) l ∙ e))
-          (λ (q : k < j). get_or-set_other after (at + j) (at + k) v (pos 0) (λ z. omega arith) ∙ c.inside k q)
-          (eq-or-lt_of_le (omega arith));
-      below = λ k h. get_or-set_other after (at + j) k v (pos 0) (λ z. omega arith) ∙ c.below k h;
-      above = λ k h. get_or-set_other after (at + j) k v (pos 0) (λ z. omega arith) ∙ c.above k (omega arith);
-    }
 
 -- as a whole: what stands before them, they, and what stands after them
 module _ (n at : ℕ) (from before after : List ℤ) (fits : at + n ≤ length before) (c : Copied n at from before after) where

@@ -31,15 +31,16 @@ pub fn backjump_level<'a>(
     requires { DivisorFits q × ((RowFits n cut.now 0) × ((depth ≤ max_variables) × ((LevelsNested n depth lowers.now uppers.now) × (falsified (divided_at n cut.now 0 q) (box_in n lowers.now uppers.now depth) ≡ true)))) }
     ensures { (LeastFalsifying (divided_at n cut.now 0 q) n depth lowers.now uppers.now result.level) × (result.tested ≡ levels_tested depth result.level) }
 {
-    let mut level = depth + 1;
-    let mut tested: usize = 0;
-    while 0 < level {
-        let at = ROOM * (level - 1);
+    let mut tested = 0;
+    for level in (0..=depth).rev() {
+        let at = ROOM * level;
         tested += 1;
         if !is_falsified(cut, 0, q, &lowers[at..], &uppers[at..], n) {
-            return BackjumpLevel { level, tested };
+            return BackjumpLevel {
+                level: level + 1,
+                tested,
+            };
         }
-        level -= 1;
     }
-    BackjumpLevel { level, tested }
+    BackjumpLevel { level: 0, tested }
 }

@@ -13,10 +13,5 @@ pub fn copy_to(from: &[i64], count: usize, at: usize, to: &mut [i64])
     requires { (count ≤ length from.now) × (at + count ≤ length to.old) }
     ensures { Copied count at from.now to.old to.new }
 {
-    let mut j: usize = 0;
-    while j < count {
-        let v = from[j];
-        to[at + j] = v;
-        j += 1;
-    }
+    to[at..at + count].copy_from_slice(&from[..count]);
 }

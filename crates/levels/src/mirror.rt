@@ -1,4 +1,4 @@
-// The bounds of the levels in flat arrays, 32 numbers for each level: levels themselves are structs, which cannot be lent.
+// The bounds of the levels in flat arrays, 32 numbers for each level.
 ghost use Rattle.std.specs.Prelude.{◌≡◌, ℕ, ◌<◌, ◌≤◌, length};
 ghost use Rattle.model_problems.specs.Ranges.{max_variables};
 ghost use Rattle.levels.specs.Mirror.{mirror_length, BoundsKept, Mirrored};
@@ -31,10 +31,7 @@ pub fn mirror(levels: [Level; 33], depth: usize, lowers: &mut [i64; 1056], upper
     requires { (depth ≤ max_variables) × ((length lowers.old ≡ mirror_length) × (length uppers.old ≡ mirror_length)) }
     ensures { (n : ℕ) → n ≤ max_variables → Mirrored n levels lowers.new uppers.new depth }
 {
-    let mut t: usize = 0;
-    while t < depth {
-        let l = state::whole(levels[t]);
-        keep_bounds(&l.lower, &l.upper, t, lowers, uppers);
-        t += 1;
+    for (t, level) in levels[..depth].iter().enumerate() {
+        keep_bounds(&level.lower, &level.upper, t, lowers, uppers);
     }
 }

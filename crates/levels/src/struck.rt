@@ -10,10 +10,7 @@ use layout::MAX_PROPAGATIONS;
 pub fn is_last(depth: usize, struck: usize, room: usize, propagations: usize) -> bool
     ensures { result ≡ last_of depth struck room propagations }
 {
-    if depth == 0 {
-        return true;
-    }
-    struck == room || MAX_PROPAGATIONS < propagations
+    depth == 0 || struck == room || MAX_PROPAGATIONS < propagations
 }
 
 // The values of the solution that is struck out after `struck` others, n numbers after theirs.

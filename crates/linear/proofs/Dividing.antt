@@ -6,7 +6,7 @@ use mathlib.Core.Bool.{Bool, true, false, not}
 use mathlib.Core.List.{List}
 use mathlib.Core.Path.{◌≡◌, refl, sym, ap, ◌∙◌}
 use lib.Dec.{eqb}
-use lib.IntN.{ℤ, pos, negsuc, nat_abs, ◌+ℤ◌, ◌*ℤ◌}
+use lib.IntN.{ℤ, pos, nat_abs, ◌+ℤ◌, ◌*ℤ◌, +ℤ_comm}
 use lib.Signed.{lt_z}
 use Rattle.model_problems.specs.Lists.{tab}
 use Rattle.model_problems.specs.Division.{gcd, divides}
@@ -29,11 +29,6 @@ divided-test n rows start q box = by_size n rows start q box (nat_abs q)
 pub plain-test : (n : ℕ) (rows : List ℤ) (start : ℕ) (q : ℤ) (box : Box) → q ≡ pos 0 → falsified (constraint_at n rows start) box ≡ falsified (divided_at n rows start q) box
 unfolding constraint_at divided_at
 plain-test n rows start q box e = rw e
-
-pub abs-pos : (q : ℤ) → (q ≡ pos 0 → ⊥) → 0 < nat_abs q
-abs-pos (pos zero) h = absurd (h refl)
-abs-pos (pos (suc q)) h = omega arith
-abs-pos (negsuc q) h = omega arith
 
 -- ---- the variables from i on
 module _ (n : ℕ) (rows : List ℤ) (start : ℕ) (lower upper : List ℤ) where
@@ -67,9 +62,9 @@ module _ (n : ℕ) (rows : List ℤ) (start : ℕ) (lower upper : List ℤ) wher
       unfolding open_from open_divisor is_open bounds_at
       open-same q = rw (tab-down (cell rows start) n i p h, tab-down (bounds_at lower upper) n i p h, o)
 
-      pub fixed_more : cell rows start (i - 1) *ℤ number_in lower (i - 1) +ℤ fixed_from i ≡ fixed_from (i - 1)
+      pub fixed_more : fixed_from i +ℤ cell rows start (i - 1) *ℤ number_in lower (i - 1) ≡ fixed_from (i - 1)
       unfolding fixed_from fixed_terms is_open bounds_at
-      fixed_more = rw (tab-down (cell rows start) n i p h, tab-down (bounds_at lower upper) n i p h, o)
+      fixed_more = +ℤ_comm (fixed_from i) (cell rows start (i - 1) *ℤ number_in lower (i - 1)) ∙ rw (tab-down (cell rows start) n i p h, tab-down (bounds_at lower upper) n i p h, o)
 
   -- ---- once the divisor is 1 it stays 1
   one_down : (q i : ℕ) → 0 < i → i ≤ n → open_from q i ≡ 1 → open_from q (i - 1) ≡ 1

@@ -2,14 +2,13 @@
 use Prim.Native.Nat.{ℕ, zero, suc, ◌+◌, ◌*◌, ◌<◌, ◌≤◌}
 use native.Mathlib.Nat.{mul-le-mul_left}
 use native.Mathlib.Omega.{arith}
-use mathlib.Core.Bool.{true, false}
 use mathlib.Core.List.{List, [], ◌∷◌}
 use mathlib.Core.Option.{none}
-use mathlib.Core.Path.{◌≡◌, refl, sym, ap, ◌∙◌}
-use lib.Dec.{leb-zero, lit≤}
-use lib.IntN.{ℤ, pos, negsuc, nat_abs, ◌+ℤ◌, ◌-ℤ◌, ◌*ℤ◌, +ℤ_assoc, +ℤ_comm, +ℤ_idl}
+use mathlib.Core.Path.{◌≡◌, sym, ap, ◌∙◌}
+use lib.Dec.{lit≤}
+use lib.IntN.{ℤ, pos, negsuc, nat_abs, ◌+ℤ◌, ◌-ℤ◌, ◌*ℤ◌, +ℤ_assoc, +ℤ_comm}
 use lib.ListN.{get_or, set, length}
-use lib.Signed.{◌≤ℤ◌, le_z}
+use lib.Signed.{◌≤ℤ◌}
 use Rattle.model_problems.specs.Lists.{tab}
 use Rattle.model_problems.specs.Ranges.{max_coefficient}
 use Rattle.model_problems.specs.Constraint.{Constraint, Bounds, Box, coefficient_at, lower_at, upper_at, set_lower, set_upper, term, terms, activity}
@@ -18,33 +17,15 @@ use Rattle.integer.specs.Parts.{◌⊑◌, sub_parts, mul-parts, le_out}
 use Rattle.integer.specs.Expression as E
 use Rattle.integer.specs.Expression.{rep, var, nat}
 use Rattle.integer.specs.Size.{Within, weaken, add-within, mul-within, neg-within}
-use Rattle.lists.proofs.Bools.{clash}
 use Rattle.layout.specs.Rows.{cell, constraint_at, bounds_at, box_of}
 use Rattle.linear.specs.Ranges.{TermFits, RowFits, BoxFits, widest_term, widest_activity}
-use Rattle.linear.specs.Improvement.{move_of}
 use Rattle.linear.specs.Reach.{span_of, widest_span}
-use Rattle.linear.proofs.Implied.{upper-no, lower-no, none_at_zero}
+use Rattle.linear.proofs.Implied.{unimproved}
 use Rattle.linear.proofs.Ranges.{term_fits}
-
--- ---- as the code computes a span
-pub span-up : (a : ℤ) (b : Bounds) → le_z (pos 0) a ≡ true → a *ℤ (b.upper -ℤ b.lower) ≡ span_of a b
-unfolding span_of
-span-up (pos a) b e = refl
-span-up (negsuc a) b e = clash e refl
-
-pub span-down : (a : ℤ) (b : Bounds) → le_z (pos 0) a ≡ false → a *ℤ (b.lower -ℤ b.upper) ≡ span_of a b
-unfolding span_of
-span-down (pos a) b e = clash (leb-zero a) e
-span-down (negsuc a) b e = let x = var b.lower in let y = var b.upper in E.eq (search rep) (search rep) (omega arith)
 
 -- ---- where the slack is no less than the span, the variable's bounds are not improved
 pub span_none : (w a : ℤ) (b : Bounds) (j i : ℕ) → span_of a b ≤ℤ (pos 0 -ℤ w) → improvement_at j i (w -ℤ term a b) a b ≡ none
-unfolding span_of move_of
-span_none w (pos zero) b j i h = sym ((none_at_zero w b.lower b.upper (pos 0) (record { le = tt }) (record { le = tt })).0 j i)
-span_none w (pos (suc k)) b j i h = sym ((upper-no w b.lower b.upper (pos (suc k)) (E.lt (nat 0) (nat (suc k)) (omega arith)) h).0 j i)
-span_none w (negsuc k) b j i h =
-    let m : pos 0 -ℤ negsuc k ≡ pos (suc k) = +ℤ_idl (pos (suc k)) in
-    sym ((lower-no w b.lower b.upper (negsuc k) (record { lt = tt }) (rw m h)).0 j i)
+span_none w a b j i h = sym (unimproved w b.lower b.upper a h j i)
 
 -- ---- a span does not grow where the bounds close in
 pub span-nested : (a : ℤ) (b o : Bounds) → o.lower ⊑ b.lower → b.upper ⊑ o.upper → span_of a b ≤ℤ span_of a o

@@ -6,16 +6,16 @@ ghost use Rattle.layout.specs.Rows.{constraint_at, divided_at, box_of};
 ghost use Rattle.linear.specs.Ranges.{RowFits, BoxFits, DivisorFits};
 
 use crate::activity;
-use integer::{gcd, magnitude};
+use integer::gcd;
 
 // Whether the constraint whose row starts at `start`, with divisor q above 0, is falsified: the greatest common divisor of q and the open variables'
 // coefficients does not divide the rest's value. Once it is 1 it stays 1, and divides everything.
-fn is_indivisible<'a>(
-    rows: &'a [i64],
+fn is_indivisible(
+    rows: &[i64],
     start: usize,
     q: u64,
-    lower: &'a [i64],
-    upper: &'a [i64],
+    lower: &[i64],
+    upper: &[i64],
     n: usize,
 ) -> bool
     requires q_nonzero { (0 < q) × (q ≤ max_divisor) }
@@ -25,30 +25,28 @@ fn is_indivisible<'a>(
 {
     let mut g = q;
     let mut sum: i64 = 0;
-    let mut i = n;
-    while 0 < i {
+    for i in (0..n).rev() {
         if g == 1 {
             return false;
         }
-        i -= 1;
         let a = rows[start + 1 + i];
         let low = lower[i];
         if low < upper[i] {
-            g = gcd(magnitude(a), g);
+            g = gcd(a.unsigned_abs(), g);
         } else {
-            sum = a * low + sum;
+            sum += a * low;
         }
     }
-    magnitude(rows[start] + sum) % g != 0
+    (rows[start] + sum).unsigned_abs() % g != 0
 }
 
 // Whether the constraint whose row starts at `start`, with divisor q or, where q is 0, an inequality, is falsified.
-pub fn is_falsified<'a>(
-    rows: &'a [i64],
+pub fn is_falsified(
+    rows: &[i64],
     start: usize,
     q: i64,
-    lower: &'a [i64],
-    upper: &'a [i64],
+    lower: &[i64],
+    upper: &[i64],
     n: usize,
 ) -> bool
     requires divisor_fits { DivisorFits q }
@@ -59,5 +57,5 @@ pub fn is_falsified<'a>(
     if q == 0 {
         return activity::is_falsified(rows, start, lower, upper, n);
     }
-    is_indivisible(rows, start, magnitude(q), lower, upper, n)
+    is_indivisible(rows, start, q.unsigned_abs(), lower, upper, n)
 }

@@ -9,3 +9,4 @@ pub mod AnyOf
 pub mod AllPairs
 pub mod Loops
 pub mod Options
+pub mod Chains

@@ -117,6 +117,10 @@ module _ {A : Type 0} where
       tab-shift here there i 0 c (λ k l. ap here (omega arith) ∙ sym (get_or-drop i xs (0 + k) d)) ∙
       sym (tab-take there 0 c (length (drop i xs)) (omega (arith, length-drop i xs))) ∙ ap (take c) (tab-of (drop i xs) d)
 
+  -- the first n elements
+  pub tab-front : (xs : List A) (d : A) (n : ℕ) → n ≤ length xs → take n xs ≡ tab (λ k. get_or xs k d) 0 n
+  tab-front xs d n h = sym (tab-of-part xs d 0 n (omega arith))
+
   pub tab-const : (z : A) (i n : ℕ) → tab (λ k. z) i n ≡ replicate n z
   unfolding tab
   tab-const z i zero = refl

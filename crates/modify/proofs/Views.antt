@@ -33,11 +33,12 @@ module _ (p s : Problem) (j : ℕ) (row : List ℤ) (q : ℤ) (h : Stored p j ro
   stored-view m ks e =
       ap (λ (r : Problem). problem_of (with_rows r m s.constraints s.divisors)) h.stays ∙ view-with p m s.constraints s.divisors ks e
 
-  pub append-view : j ≡ p.m → problem_of (with_rows s (j + 1) s.constraints s.divisors) ≡ appended (problem_of p) (divided_at p.n row 0 q)
+  pub append-view : j ≡ p.m → problem_of (with_rows s (s.m + 1) s.constraints s.divisors) ≡ appended (problem_of p) (divided_at p.n row 0 q)
   unfolding appended problem_of
   append-view e =
+      let count : s.m ≡ j = ap (λ (r : Problem). r.m) h.stays ∙ sym e in
       let before = tab-ext-0 (input_in p s) (input_in p p) j (λ k l. h.others k (omega arith)) ∙ ap (tab (input_in p p) 0) e in
-      stored-view (j + 1) _ (tab-more (input_in p s) j ∙ ap₂ (λ (ks : List Constraint) (k : Constraint). ks ++ (k ∷ [])) before h.here)
+      rw count (stored-view (j + 1) _ (tab-more (input_in p s) j ∙ ap₂ (λ (ks : List Constraint) (k : Constraint). ks ++ (k ∷ [])) before h.here))
 
   pub replace-view : problem_of s ≡ replaced j (problem_of p) (divided_at p.n row 0 q)
   unfolding replaced problem_of

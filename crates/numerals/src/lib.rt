@@ -1,140 +1,54 @@
 // What a word says: a number, or a date.
 #![tactic(auto)]
 
-ghost use Rattle.std.specs.Prelude.{◌≡◌, ◌≤◌, ◌-◌, ◌^◌, length};
-ghost use Rattle.std.proofs.Math.Seq.{slice};
-ghost use Rattle.numerals.specs.Words.{digit_of, size_in, AtMost, plus_of, minus_of, number_in, date_in};
-
-const LARGEST: usize = 9_223_372_036_854_775_807;
-
-// The value of digits, if there are some and nothing else, and it is not too large.
-#[derive(Clone, Copy)]
-enum Size {
-    Value(usize),
-    Wrong,
-}
-
-#[derive(Clone, Copy)]
-pub enum Number {
-    Value(i64),
-    Wrong,
-}
+ghost use Rattle.std.specs.Prelude.{◌≡◌, ◌-◌, ◌^◌};
+ghost use Rattle.numerals.specs.Words.{size_in, number_in, date_in};
 
 // A date as it is written. Whether the calendar has that day is not asked.
-#[derive(Clone, Copy)]
+#[derive(Clone, Copy, Debug, PartialEq, Eq)]
 pub struct Day {
     pub year: u32,
     pub month: u32,
     pub day: u32,
 }
 
-#[derive(Clone, Copy)]
-pub enum Date {
-    Value(Day),
-    Wrong,
-}
-
-// The digit that a byte is; 10 or more for no digit.
-fn digit(byte: u8) -> usize
-    ensures { result ≡ digit_of byte }
+// The value of a word of digits, if there are some and nothing else, and it fits.
+fn size_in(word: &[u8]) -> Option<u64>
+    ensures { result ≡ size_in (2 ^ 64 - 1) word.now }
 {
-    let code = byte as usize;
-    if code < 48 {
-        return 10;
+    if word.is_empty() {
+        return None;
     }
-    code - 48
-}
-
-// The digits from one place to another, of a value up to `most`.
-fn digits(word: &[u8], from: usize, end: usize, most: usize) -> Size
-    requires { (from ≤ end) × (end ≤ length word.now) }
-    ensures { (result ≡ size_in most (slice from end word.now)) × AtMost most result }
-{
-    if from == end {
-        return Size::Wrong;
-    }
-    let mut value: usize = 0;
-    let mut i = from;
-    while i < end {
-        let next = digit(word[i]);
-        if 9 < next {
-            return Size::Wrong;
+    let mut value: u64 = 0;
+    for &byte in word {
+        if !byte.is_ascii_digit() {
+            return None;
         }
-        if most / 10 < value {
-            return Size::Wrong;
-        }
-        if most - 10 * value < next {
-            return Size::Wrong;
-        }
-        value = 10 * value + next;
-        i += 1;
+        let shifted = value.checked_mul(10)?;
+        value = shifted.checked_add(u64::from(byte - b'0'))?;
     }
-    Size::Value(value)
-}
-
-// The number of this size.
-fn plus(size: Size) -> Number
-    requires { AtMost (2 ^ 63 - 1) size }
-    ensures { result ≡ plus_of size }
-{
-    let Size::Value(v) = size else {
-        return Number::Wrong;
-    };
-    Number::Value(v as i64)
-}
-
-// Its opposite, found from -1 on: 2^63 itself is no i64.
-fn minus(size: Size) -> Number
-    requires { AtMost (2 ^ 63) size }
-    ensures { result ≡ minus_of size }
-{
-    let Size::Value(v) = size else {
-        return Number::Wrong;
-    };
-    if v == 0 {
-        return Number::Value(0);
-    }
-    Number::Value(-1 - (v - 1) as i64)
+    Some(value)
 }
 
 // The whole word as a number from -2^63 to 2^63 - 1: digits, with or without a minus before them.
-pub fn number_in(word: &[u8]) -> Number
+pub fn number_in(word: &[u8]) -> Option<i64>
     ensures { result ≡ number_in word.now }
 {
-    if word.len() == 0 {
-        return Number::Wrong;
+    match word.strip_prefix(b"-") {
+        Some(digits) => 0i64.checked_sub_unsigned(size_in(digits)?),
+        None => i64::try_from(size_in(word)?).ok(),
     }
-    if word[0] == b'-' {
-        return minus(digits(word, 1, word.len(), LARGEST + 1));
-    }
-    plus(digits(word, 0, word.len(), LARGEST))
 }
 
 // The whole word as a date, YYYY-MM-DD.
-pub fn date_in(word: &[u8]) -> Date
+pub fn date_in(word: &[u8]) -> Option<Day>
     ensures { result ≡ date_in word.now }
 {
-    if word.len() != 10 {
-        return Date::Wrong;
+    if word.len() != 10 || word[4] != b'-' || word[7] != b'-' {
+        return None;
     }
-    if word[4] != b'-' {
-        return Date::Wrong;
-    }
-    if word[7] != b'-' {
-        return Date::Wrong;
-    }
-    let Size::Value(year) = digits(word, 0, 4, 9999) else {
-        return Date::Wrong;
-    };
-    let Size::Value(month) = digits(word, 5, 7, 99) else {
-        return Date::Wrong;
-    };
-    let Size::Value(day) = digits(word, 8, 10, 99) else {
-        return Date::Wrong;
-    };
-    Date::Value(Day {
-        year: year as u32,
-        month: month as u32,
-        day: day as u32,
-    })
+    let year = size_in(&word[..4])? as u32;
+    let month = size_in(&word[5..7])? as u32;
+    let day = size_in(&word[8..10])? as u32;
+    Some(Day { year, month, day })
 }

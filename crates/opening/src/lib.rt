@@ -13,57 +13,45 @@ ghost use Rattle.opening.specs.Accepted.{Accepted};
 ghost use Rattle.opening.specs.Rounded.{RowsRounded};
 
 use derivation::rounding;
-use layout::{ROW, copy_row, store_row};
+use layout::{MAX_CUTS, MAX_VARIABLES, ROW, copy_row, store_row};
 use problem::Problem;
 use state::{Level, Search, Status};
 
 // Rounds constraint j into row j; the ones before it are there already. One with a divisor is copied as it is.
-fn round_row<'a>(
-    constraints: &'a [i64; 2112],
-    divisors: &'a [i64; 64],
-    n: usize,
-    j: usize,
-    rows: &mut [i64; 4224],
-)
-    requires { (n ≤ max_variables) × ((j < max_constraints) × ((in_range (row_at n constraints.now j) ≡ true) × RowsRounded n constraints.now divisors.now j rows.old)) }
-    ensures { RowsRounded n constraints.now divisors.now (j + 1) rows.new }
+fn round_row(p: &Problem, j: usize, rows: &mut [i64; 4224])
+    requires { (p.now.n ≤ max_variables) × ((j < max_constraints) × ((in_range (row_at p.now.n p.now.constraints j) ≡ true) × RowsRounded p.now.n p.now.constraints p.now.divisors j rows.old)) }
+    ensures { RowsRounded p.now.n p.now.constraints p.now.divisors (j + 1) rows.new }
 {
-    let row = copy_row(constraints, ROW * j, n);
-    if divisors[j] != 0 {
+    let row = copy_row(&p.constraints, ROW * j, p.n);
+    if p.divisors[j] != 0 {
         store_row(rows, &row, j);
-        return;
+    } else {
+        let rounded = rounding::round(row, p.n);
+        store_row(rows, &rounded, j);
     }
-    let rounded = rounding::round(row, n);
-    store_row(rows, &rounded, j);
 }
 
 // The rows of a search state: the constraints of the problem, the inequalities rounded.
-fn rounded_rows(p: Problem) -> [i64; 4224]
-    requires { Accepted p }
-    ensures { tab (input_at p.n result p.divisors) 0 p.m ≡ map rounded (problem_of p).constraints }
+fn rounded_rows(p: &Problem) -> [i64; 4224]
+    requires { Accepted p.now }
+    ensures { tab (input_at p.now.n result p.now.divisors) 0 p.now.m ≡ map rounded (problem_of p.now).constraints }
 {
-    let n = p.n;
-    let m = p.m;
-    let mut rows = [0i64; 4224];
-    let mut j: usize = 0;
-    while j < m {
-        round_row(&p.constraints, &p.divisors, n, j, &mut rows);
-        j += 1;
+    let mut rows = [0; 4224];
+    for j in 0..p.m {
+        round_row(p, j, &mut rows);
     }
     rows
 }
 
 // Level 0: the problem's domain.
-fn first_level(p: Problem) -> Level
-    ensures { level_of p.n result ≡ first_level (problem_of p) }
+fn first_level(p: &Problem) -> Level
+    ensures { level_of p.now.n result ≡ first_level (problem_of p.now) }
 {
-    let lower = p.lower;
-    let upper = p.upper;
     Level {
-        lower,
-        upper,
-        below: [state::DOMAIN; 32],
-        above: [state::DOMAIN; 32],
+        lower: p.lower,
+        upper: p.upper,
+        below: [state::DOMAIN; MAX_VARIABLES],
+        above: [state::DOMAIN; MAX_VARIABLES],
         decided: 0,
     }
 }
@@ -73,26 +61,19 @@ pub fn from_problem(p: Problem) -> Search
     requires { Accepted p }
     ensures { view result ≡ open_problem (problem_of p) }
 {
-    let n = p.n;
-    let m = p.m;
-    let budget = p.budget;
-    let rows = rounded_rows(p);
-    let divisors = p.divisors;
-    let thresholds = p.thresholds;
-    let first = first_level(p);
     Search {
-        n,
-        m,
-        budget,
+        n: p.n,
+        m: p.m,
+        budget: p.budget,
         conflicts: 0,
         propagations: 0,
         made: 0,
         depth: 0,
         status: Status::Undecided,
-        thresholds,
-        rows,
-        divisors,
-        numbers: [0; 64],
-        levels: [first; 33],
+        thresholds: p.thresholds,
+        rows: rounded_rows(&p),
+        divisors: p.divisors,
+        numbers: [0; MAX_CUTS],
+        levels: [first_level(&p); 1 + MAX_VARIABLES],
     }
 }

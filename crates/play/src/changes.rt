@@ -1,125 +1,140 @@
 // The commands that check, open and change the problem in hand.
-use crate::script::Outcome;
-use crate::{plan, print, script, state_words, words};
+ghost use Rattle.std.specs.Prelude.{◌≤◌, OnOk};
+
+use crate::script::{Failure, Fault, no_numbers, numbers, one_number};
+use crate::{calls, state_words};
+use problem::Problem;
+use state::Search;
 use std::io;
 
+pub(crate) enum Command {
+    Check,
+    Begin,
+    Append,
+    Replace,
+    Choose,
+    Close,
+}
+
+impl Command {
+    pub(crate) fn named(word: &[u8]) -> Option<Command> {
+        match word {
+            b"check" => Some(Command::Check),
+            b"begin" => Some(Command::Begin),
+            b"append" => Some(Command::Append),
+            b"replace" => Some(Command::Replace),
+            b"choose" => Some(Command::Choose),
+            b"close" => Some(Command::Close),
+            _ => None,
+        }
+    }
+}
+
 // check
-fn check(rt: &impl Print, list: &[usize; 2275]) -> io::Result<()> {
-    let answer = problem::check(plan::problem_of(list));
-    println!(rt; "check {}", problem::error_number(answer))
+fn check(rt: &impl Print, p: &Problem) -> io::Result<()> {
+    let error = calls::check(p);
+    println!(rt; "check {error}")
 }
 
 // begin
-fn begin(rt: &impl Print, list: &[usize; 2275], state: &mut [usize; 8649]) -> io::Result<()> {
-    let opened = search::open_problem(plan::problem_of(list));
-    state_words::put_search(state, opened.state);
-    print!(rt; "begin {}", problem::error_number(opened.answer))?;
-    print::digest(rt, state_words::add_read(0, state))?;
-    println!(rt)
+fn begin(rt: &impl Print, p: &Problem, state: &mut Search) -> io::Result<()> {
+    let (error, opened) = calls::begin(p);
+    let digest = state_words::digest(&opened)?;
+    *state = opened;
+    println!(rt; "begin {error} digest {digest}")
 }
 
-// The numbers in row j of the arrays.
-fn row_at(list: &[usize; 2275], j: usize) -> [i64; 33] {
+// What stands in row j of the arrays, with its divisor.
+fn row_at(p: &Problem, j: usize) -> Result<([i64; 33], i64), Fault> {
+    if 64 <= j {
+        return Err(Fault::Range);
+    }
     let mut row = [0i64; 33];
-    words::fill_numbers(&mut row, list, plan::ROWS + 33 * (j % 64));
-    row
+    row.copy_from_slice(&p.constraints[33 * j..33 * j + 33]);
+    Ok((row, p.divisors[j]))
 }
 
-fn divisor_at(list: &[usize; 2275], j: usize) -> i64 {
-    let mut divisor = [0i64; 1];
-    words::fill_numbers(&mut divisor, list, plan::DIVISORS + j % 64);
-    divisor[0]
+// A fault where the arrays do not hold the problem.
+fn in_arrays(p: &Problem) -> Result<(), Fault>
+    ensures { OnOk result ((p.now.n ≤ 32) × (p.now.m ≤ 64)) }
+{
+    if layout::MAX_VARIABLES < p.n || layout::MAX_CONSTRAINTS < p.m {
+        return Err(Fault::Range);
+    }
+    Ok(())
 }
 
 // append J
-fn append(list: &mut [usize; 2275], j: usize) -> Outcome {
-    let problem = plan::problem_of(list);
-    if layout::MAX_VARIABLES < problem.n {
-        return Outcome::Range;
+fn append(rest: &[u8], p: &mut Problem) -> Result<(), Fault> {
+    let j = one_number(rest)?;
+    let (row, divisor) = row_at(p, j)?;
+    if layout::MAX_VARIABLES < p.n || layout::MAX_CONSTRAINTS <= p.m {
+        return Err(Fault::Range);
     }
-    if layout::MAX_CONSTRAINTS <= problem.m {
-        return Outcome::Range;
-    }
-    let changed = modify::append(problem, row_at(list, j), divisor_at(list, j));
-    plan::put_problem(list, changed);
-    Outcome::Played
+    *p = modify::append(*p, row, divisor);
+    Ok(())
 }
 
 // replace J I
-fn replace(list: &mut [usize; 2275], j: usize, i: usize) -> Outcome {
-    let problem = plan::problem_of(list);
-    if layout::MAX_VARIABLES < problem.n {
-        return Outcome::Range;
+fn replace(rest: &[u8], p: &mut Problem) -> Result<(), Fault> {
+    let [j, i] = numbers::<2>(rest)?;
+    let (row, divisor) = row_at(p, i)?;
+    in_arrays(p)?;
+    if layout::MAX_CONSTRAINTS <= j {
+        return Err(Fault::Range);
     }
-    if layout::MAX_CONSTRAINTS < problem.m {
-        return Outcome::Range;
-    }
-    let changed = modify::replace(problem, j % 64, row_at(list, i), divisor_at(list, i));
-    plan::put_problem(list, changed);
-    Outcome::Played
+    *p = modify::replace(*p, j, row, divisor);
+    Ok(())
 }
 
 // The bits of a number, the lowest first.
 fn bits(number: usize) -> [bool; 64] {
     let mut mask = [false; 64];
-    let mut rest = number;
-    let mut j: usize = 0;
-    while j < 64 {
-        mask[j] = rest % 2 == 1;
-        rest = rest / 2;
-        j += 1;
+    for j in 0..64 {
+        mask[j] = number >> j & 1 == 1;
     }
     mask
 }
 
 // choose MASK
-fn choose(list: &mut [usize; 2275], number: usize) -> Outcome {
-    let problem = plan::problem_of(list);
-    if layout::MAX_VARIABLES < problem.n {
-        return Outcome::Range;
-    }
-    if layout::MAX_CONSTRAINTS < problem.m {
-        return Outcome::Range;
-    }
-    let changed = modify::keep(problem, bits(number));
-    plan::put_problem(list, changed);
-    Outcome::Played
+fn choose(rest: &[u8], p: &mut Problem) -> Result<(), Fault> {
+    let mask = one_number(rest)?;
+    in_arrays(p)?;
+    *p = modify::keep(*p, bits(mask));
+    Ok(())
 }
 
 // close I
-fn close(list: &mut [usize; 2275], i: usize) -> Outcome {
-    let problem = plan::problem_of(list);
-    if layout::MAX_VARIABLES < problem.n {
-        return Outcome::Range;
+fn close(rest: &[u8], p: &mut Problem) -> Result<(), Fault> {
+    let i = one_number(rest)?;
+    in_arrays(p)?;
+    if p.n <= i {
+        return Err(Fault::Range);
     }
-    if layout::MAX_CONSTRAINTS < problem.m {
-        return Outcome::Range;
-    }
-    if problem.n <= i {
-        return Outcome::Range;
-    }
-    let changed = modify::close(problem, i);
-    plan::put_problem(list, changed);
-    Outcome::Played
+    *p = modify::close(*p, i);
+    Ok(())
 }
 
 pub(crate) fn play(
     rt: &impl Print,
-    command: &[u8],
+    command: Command,
     rest: &[u8],
-    list: &mut [usize; 2275],
-    state: &mut [usize; 8649],
-) -> io::Result<Outcome> {
-    let signatures = b"check,begin,append 63,replace 63 63,choose -1,close 31";
-    let line = script::parse(signatures, command, rest, Outcome::NoCommand);
-    match line.k {
-        0 => check(rt, list)?,
-        1 => begin(rt, list, state)?,
-        2 => return Ok(append(list, line.value)),
-        3 => return Ok(replace(list, line.i, line.value)),
-        4 => return Ok(choose(list, line.value)),
-        5 => return Ok(close(list, line.value)),
-        _ => {}
+    p: &mut Problem,
+    state: &mut Search,
+) -> Result<(), Failure> {
+    match command {
+        Command::Check => {
+            no_numbers(rest)?;
+            check(rt, p)?;
+        }
+        Command::Begin => {
+            no_numbers(rest)?;
+            begin(rt, p, state)?;
+        }
+        Command::Append => append(rest, p)?,
+        Command::Replace => replace(rest, p)?,
+        Command::Choose => choose(rest, p)?,
+        Command::Close => close(rest, p)?,
     }
-    Ok(line.outcome)
+    Ok(())
 }

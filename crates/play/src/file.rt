@@ -1,16 +1,44 @@
-// The commands that make, change and read the file.
-ghost use Rattle.std.specs.Prelude.{◌≤◌, length};
-
-use crate::script::Outcome;
-use crate::words::least;
-use crate::{digest, plan, print, script, state_words};
+// The file, and the commands that make, change and read it.
+use crate::script::{Failure, Fault, at_most, next_word, no_numbers, numbers, one_number};
+use crate::{calls, plan, state_words};
 use block::build;
 use filling::read_full;
+use problem::Problem;
+use state::Search;
 use std::fs::File;
 use std::io::{Error, ErrorKind, IsTerminal};
 use std::rt::Files;
 use std::time::Clock;
 use std::{io, str};
+
+pub(crate) enum Command {
+    Load,
+    Length,
+    Byte,
+    Word,
+    Seal,
+    Read,
+    Open,
+    Verdict,
+    Solutions,
+}
+
+impl Command {
+    pub(crate) fn named(word: &[u8]) -> Option<Command> {
+        match word {
+            b"load" => Some(Command::Load),
+            b"length" => Some(Command::Length),
+            b"byte" => Some(Command::Byte),
+            b"word" => Some(Command::Word),
+            b"seal" => Some(Command::Seal),
+            b"read" => Some(Command::Read),
+            b"open" => Some(Command::Open),
+            b"verdict" => Some(Command::Verdict),
+            b"solutions" => Some(Command::Solutions),
+            _ => None,
+        }
+    }
+}
 
 // Opens a file to read it. std takes no name that is not UTF-8.
 fn open_named<R: Files>(rt: &R, name: &[u8]) -> io::Result<R::File> {
@@ -20,126 +48,113 @@ fn open_named<R: Files>(rt: &R, name: &[u8]) -> io::Result<R::File> {
     }
 }
 
-// load NAME
-fn load(
-    rt: &impl Files,
-    rest: &[u8],
-    file: &mut [u8; 65537],
-    length: &mut usize,
-) -> io::Result<Outcome> {
-    let start = script::word_start(rest);
-    let end = script::find(rest, start, b' ');
-    let Ok(mut opened) = open_named(rt, &rest[start..end]) else {
-        return Ok(Outcome::NoFile);
+// The file: the bytes that there are, and how many of them it has.
+#[derive(Clone, Copy)]
+pub(crate) struct Loaded {
+    bytes: [u8; 65537],
+    length: usize,
+}
+
+impl Loaded {
+    pub(crate) const EMPTY: Loaded = Loaded {
+        bytes: [0; 65537],
+        length: 0,
     };
-    if end < rest.len() {
-        return Ok(Outcome::Number);
-    }
-    *file = [0u8; 65537];
-    *length = read_full(&mut opened, file)?;
-    Ok(Outcome::Played)
-}
 
-// byte AT Z
-fn put_byte(file: &mut [u8; 65537], at: usize, value: usize) {
-    if at < 65537 {
-        file[at] = (value % 256) as u8;
+    fn content(&self) -> &[u8] {
+        &self.bytes[..self.length.min(65537)]
     }
-}
 
-// word AT Z
-fn put_word(file: &mut [u8], at: usize, value: usize) {
-    if 4 <= file.len() {
-        if at <= file.len() - 4 {
-            build::put_u32(file, at, value % 4_294_967_296);
-        }
+    // load NAME
+    fn load(&mut self, rt: &impl Files, rest: &[u8]) -> Result<(), Failure> {
+        let (name, rest) = next_word(rest).ok_or(Fault::NoFile)?;
+        let Ok(mut opened) = open_named(rt, name) else {
+            return Err(Failure::Fault(Fault::NoFile));
+        };
+        no_numbers(rest)?;
+        self.bytes = [0; 65537];
+        self.length = read_full(&mut opened, &mut self.bytes)?;
+        Ok(())
     }
-}
 
-// seal K J
-fn seal(file: &mut [u8], k: usize, index: usize) {
-    if k < file.len() / block::LENGTH {
-        let start = block::LENGTH * k;
-        let end = start + block::LENGTH;
-        build::seal(&mut file[start..end], index);
+    // length L
+    fn set_length(&mut self, rest: &[u8]) -> Result<(), Fault> {
+        let length = one_number(rest)?;
+        self.length = at_most(length, 65537)?;
+        Ok(())
     }
-}
 
-// How many bytes the file has: no more than there are.
-fn end_of(file: &[u8], size: usize) -> usize
-    ensures { result ≤ length file.now }
-{
-    least(size, file.len())
+    // byte AT Z
+    fn put_byte(&mut self, rest: &[u8]) -> Result<(), Fault> {
+        let [at, value] = numbers::<2>(rest)?;
+        let byte = u8::try_from(value).or(Err(Fault::Range))?;
+        *self.bytes.get_mut(at).ok_or(Fault::Range)? = byte;
+        Ok(())
+    }
+
+    // word AT Z
+    fn put_word(&mut self, rest: &[u8]) -> Result<(), Fault> {
+        let [at, value] = numbers::<2>(rest)?;
+        build::put_u32(&mut self.bytes, at_most(at, 65533)?, value);
+        Ok(())
+    }
+
+    // seal K J
+    fn seal(&mut self, rest: &[u8]) -> Result<(), Fault> {
+        let [k, index] = numbers::<2>(rest)?;
+        let (blocks, _) = self.bytes.as_chunks_mut::<512>();
+        build::seal(blocks.get_mut(k).ok_or(Fault::Range)?, index);
+        Ok(())
+    }
 }
 
 // read
-fn read(rt: &impl Print, file: &[u8], length: usize, list: &mut [usize; 2275]) -> io::Result<()> {
-    let end = end_of(file, length);
-    let reading = reading::read(&file[0..end]);
-    plan::put_problem(list, reading.problem);
-    print!(rt; "read {}", problem::error_number(reading.answer))?;
-    print::digest(rt, digest::add_words(0, list))?;
-    println!(rt)
+fn read(rt: &impl Print, file: &[u8], problem: &mut Problem) -> io::Result<()> {
+    let (error, read) = calls::read(file);
+    let digest = plan::digest(&read);
+    *problem = read;
+    println!(rt; "read {error} digest {digest}")
 }
 
 // open
-fn open(rt: &impl Print, file: &[u8], length: usize, state: &mut [usize; 8649]) -> io::Result<()> {
-    let end = end_of(file, length);
-    let opened = search::open(&file[0..end]);
-    state_words::put_search(state, opened.state);
-    print!(rt; "open {}", problem::error_number(opened.answer))?;
-    print::digest(rt, state_words::add_read(0, state))?;
-    println!(rt)
-}
-
-// verdict
-fn verdict(
-    rt: &(impl Clock + Print),
-    stderr: &(impl IsTerminal + Print),
-    file: &[u8],
-    length: usize,
-) {
-    let end = end_of(file, length);
-    console::print_verdict(rt, stderr, &file[0..end]);
-}
-
-// solutions
-fn solutions(
-    rt: &(impl Clock + Print),
-    stderr: &(impl IsTerminal + Print),
-    file: &[u8],
-    length: usize,
-) {
-    let end = end_of(file, length);
-    console::print_solutions(rt, stderr, &file[0..end]);
+fn open(rt: &impl Print, file: &[u8], state: &mut Search) -> io::Result<()> {
+    let (error, opened) = calls::open(file);
+    let digest = state_words::digest(&opened)?;
+    *state = opened;
+    println!(rt; "open {error} digest {digest}")
 }
 
 pub(crate) fn play(
     rt: &(impl Clock + Files + Print),
     stderr: &(impl IsTerminal + Print),
-    command: &[u8],
+    command: Command,
     rest: &[u8],
-    file: &mut [u8; 65537],
-    length: &mut usize,
-    problem: &mut [usize; 2275],
-    state: &mut [usize; 8649],
-) -> io::Result<Outcome> {
-    if script::is_same(command, b"load") {
-        return load(rt, rest, file, length);
+    file: &mut Loaded,
+    problem: &mut Problem,
+    state: &mut Search,
+) -> Result<(), Failure> {
+    match command {
+        Command::Load => file.load(rt, rest)?,
+        Command::Length => file.set_length(rest)?,
+        Command::Byte => file.put_byte(rest)?,
+        Command::Word => file.put_word(rest)?,
+        Command::Seal => file.seal(rest)?,
+        Command::Read => {
+            no_numbers(rest)?;
+            read(rt, file.content(), problem)?;
+        }
+        Command::Open => {
+            no_numbers(rest)?;
+            open(rt, file.content(), state)?;
+        }
+        Command::Verdict => {
+            no_numbers(rest)?;
+            console::print_verdict(rt, stderr, file.content());
+        }
+        Command::Solutions => {
+            no_numbers(rest)?;
+            console::print_solutions(rt, stderr, file.content());
+        }
     }
-    let signatures =
-        b"length 65537,byte 65536 255,word 65533 -1,seal 127 -1,read,open,verdict,solutions";
-    let line = script::parse(signatures, command, rest, Outcome::NoCommand);
-    match line.k {
-        0 => *length = line.value,
-        1 => put_byte(file, line.i, line.value),
-        2 => put_word(file, line.i, line.value),
-        3 => seal(file, line.i, line.value),
-        4 => read(rt, file, *length, problem)?,
-        5 => open(rt, file, *length, state)?,
-        6 => verdict(rt, stderr, file, *length),
-        7 => solutions(rt, stderr, file, *length),
-        _ => {}
-    }
-    Ok(line.outcome)
+    Ok(())
 }

@@ -1,20 +1,23 @@
 // Plays a script from standard input: lines that make files, problems and search states, call the product on them and print what it answers. A command is
-// a function; each module plays those of its subject and leaves the others to the next.
+// a function; each module plays those of its subject.
 #![tactic(auto)]
 
+use file::Loaded;
 use filling::read_full;
-use script::Outcome;
+use problem::Problem;
+use script::{Failure, Fault};
+use state::Search;
 use std::io;
 use std::io::{Input, IsTerminal};
 use std::rt::Files;
 use std::time::Clock;
 
+mod calls;
 mod changes;
 mod digest;
 mod file;
 mod one_call;
 mod plan;
-mod print;
 mod script;
 mod searches;
 mod state_words;
@@ -24,114 +27,107 @@ mod words;
 // The longest script.
 const LONGEST: usize = 1_048_576;
 
-fn is_known(outcome: Outcome) -> bool {
-    match outcome {
-        Outcome::NoCommand => false,
-        _ => true,
-    }
-}
-
-// Prints why a line is not played.
-fn complain(rt: &impl Print, number: usize, outcome: Outcome) -> io::Result<()> {
-    match outcome {
-        Outcome::Played => Ok(()),
-        Outcome::NoCommand => print::fault(rt, number, "no such command"),
-        Outcome::NoField => print::fault(rt, number, "no such field"),
-        Outcome::NoFile => print::fault(rt, number, "no such file"),
-        Outcome::Number => print::fault(rt, number, "number"),
-        Outcome::Range => print::fault(rt, number, "out of range"),
-    }
-}
-
 // say TEXT
-fn say(rt: &impl Print, rest: &[u8]) -> io::Result<Outcome> {
-    let start = script::word_start(rest);
-    rt.write_all(&rest[start..])?;
+fn say(rt: &impl Print, rest: &[u8]) -> Result<(), Failure> {
+    if let Some((_, text)) = rest.split_first() {
+        rt.write_all(text)?;
+    }
     println!(rt)?;
-    Ok(Outcome::Played)
+    Ok(())
 }
 
-// Plays a line by the first module that knows its command.
-fn play_line(
-    rt: &(impl Clock + Files + Print),
-    stderr: &(impl IsTerminal + Print),
-    line: &[u8],
-    file: &mut [u8; 65537],
-    length: &mut usize,
-    problem: &mut [usize; 2275],
-    state: &mut [usize; 8649],
-    kept: &mut [usize; 8649],
-) -> io::Result<Outcome> {
-    let end = script::find(line, 0, b' ');
-    let command = &line[0..end];
-    let rest = &line[end..];
-    if script::is_same(command, b"say") {
-        return say(rt, rest);
-    }
-    let by_file = file::play(rt, stderr, command, rest, file, length, problem, state)?;
-    if is_known(by_file) {
-        return Ok(by_file);
-    }
-    let by_plan = plan::play(rt, command, rest, problem)?;
-    if is_known(by_plan) {
-        return Ok(by_plan);
-    }
-    let by_changes = changes::play(rt, command, rest, problem, state)?;
-    if is_known(by_changes) {
-        return Ok(by_changes);
-    }
-    let by_states = states::play(rt, command, rest, state, kept)?;
-    if is_known(by_states) {
-        return Ok(by_states);
-    }
-    let by_calls = one_call::play(rt, command, rest, state)?;
-    if is_known(by_calls) {
-        return Ok(by_calls);
-    }
-    searches::play(rt, command, rest, state)
+// What play holds.
+#[derive(Clone, Copy)]
+struct Player {
+    file: Loaded,
+    problem: Problem,
+    state: Search,
+    kept: Search,
 }
 
-// Whether a line is empty or a comment.
-fn is_passed_over(line: &[u8]) -> bool {
-    if line.len() == 0 {
-        return true;
+impl Player {
+    const NEW: Player = Player {
+        file: Loaded::EMPTY,
+        problem: plan::ZEROS,
+        state: states::ZEROS,
+        kept: states::ZEROS,
+    };
+
+    // Plays a command by the module that knows it.
+    fn play_command(
+        &mut self,
+        rt: &(impl Clock + Files + Print),
+        stderr: &(impl IsTerminal + Print),
+        word: &[u8],
+        rest: &[u8],
+    ) -> Result<(), Failure> {
+        if let Some(command) = file::Command::named(word) {
+            return file::play(
+                rt,
+                stderr,
+                command,
+                rest,
+                &mut self.file,
+                &mut self.problem,
+                &mut self.state,
+            );
+        }
+        if let Some(command) = plan::Command::named(word) {
+            return plan::play(rt, command, rest, &mut self.problem);
+        }
+        if let Some(command) = changes::Command::named(word) {
+            return changes::play(rt, command, rest, &mut self.problem, &mut self.state);
+        }
+        if let Some(command) = states::Command::named(word) {
+            return states::play(rt, command, rest, &mut self.state, &mut self.kept);
+        }
+        if let Some(command) = one_call::Command::named(word) {
+            return one_call::play(rt, command, rest, &mut self.state);
+        }
+        if let Some(command) = searches::Command::named(word) {
+            return searches::play(rt, command, rest, &mut self.state);
+        }
+        match word {
+            b"say" => say(rt, rest),
+            _ => Err(Failure::Fault(Fault::NoCommand)),
+        }
     }
-    line[0] == b'#'
+
+    // Plays a line, unless it is empty or a comment, and prints why if it cannot be played.
+    fn play_line(
+        &mut self,
+        rt: &(impl Clock + Files + Print),
+        stderr: &(impl IsTerminal + Print),
+        number: usize,
+        line: &[u8],
+    ) -> io::Result<()> {
+        if let [] | [b'#', ..] = line {
+            return Ok(());
+        }
+        let (word, rest) = script::split_word(line);
+        match self.play_command(rt, stderr, word, rest) {
+            Ok(()) => Ok(()),
+            Err(Failure::Fault(fault)) => println!(rt; "line {number}: {fault}"),
+            Err(Failure::Io(error)) => Err(error),
+        }
+    }
 }
 
-// Plays the lines in turn.
+// Plays the lines in turn. A last one needs no newline.
 fn play(
     rt: &(impl Clock + Files + Print),
     stderr: &(impl IsTerminal + Print),
     text: &[u8],
 ) -> io::Result<()> {
-    let mut file = [0u8; 65537];
-    let mut length: usize = 0;
-    let mut problem = [0usize; 2275];
-    let mut state = [0usize; 8649];
-    let mut kept = [0usize; 8649];
-    let mut start: usize = 0;
-    let mut number: usize = 0;
-    while start < text.len() {
-        let end = script::find(text, start, b'\n');
-        let line = &text[start..end];
-        number += 1;
-        if !is_passed_over(line) {
-            let outcome = play_line(
-                rt,
-                stderr,
-                line,
-                &mut file,
-                &mut length,
-                &mut problem,
-                &mut state,
-                &mut kept,
-            )?;
-            complain(rt, number, outcome)?;
-        }
-        start = end + 1;
+    let mut player = Player::NEW;
+    let mut number: usize = 1;
+    let mut rest = text;
+    while let Some(end) = rest.iter().position(|byte| *byte == b'\n') {
+        player.play_line(rt, stderr, number, &rest[..end])?;
+        rest = &rest[end + 1..];
+        number = number.saturating_add(1);
     }
-    Ok(())
+    player.play_line(rt, stderr, number, rest)
 }
 
 // Plays standard input, if the buffer has more room than it needs.
@@ -144,7 +140,7 @@ fn play_input(
     if LONGEST < read {
         return println!(rt; "script too long");
     }
-    play(rt, stderr, &text[0..read])
+    play(rt, stderr, &text[..read])
 }
 
 // The same for a buffer whose length is known by its type. (A proof that lends a million numbers as a slice counts them.)

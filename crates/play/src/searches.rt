@@ -1,187 +1,193 @@
 // The commands that call until there is a verdict.
-ghost use Rattle.std.specs.Prelude.{◌≤◌};
-
-use crate::script::Outcome;
-use crate::words::{first, least};
-use crate::{digest, one_call, print, script, state_words};
-use answers::{Traced, Verdict};
+use crate::calls;
+use crate::digest::Digest;
+use crate::one_call::{is_refused, show_answer};
+use crate::script::{Failure, Fault, at_most, no_numbers, numbers, one_number};
+use answers::{Ran, Verdict};
 use shown::Exclusion;
 use state::Search;
 use std::io;
 
-// Where the calls have come: what the last gave, the digest of the blocks or the solutions, how many solutions were shown, whether to go on, and whether the
-// last strike said 'ended'.
+pub(crate) enum Command {
+    Steps,
+    Traces,
+    Lists,
+}
+
+impl Command {
+    pub(crate) fn named(word: &[u8]) -> Option<Command> {
+        match word {
+            b"steps" => Some(Command::Steps),
+            b"traces" => Some(Command::Traces),
+            b"lists" => Some(Command::Lists),
+            _ => None,
+        }
+    }
+}
+
+// Which call is made each time, with how many bytes or numbers lent.
+#[derive(Clone, Copy)]
+enum Way {
+    Step,
+    Trace(usize),
+    List(usize),
+}
+
+// Whether to call again; `Ended` where the last solution was struck out as the last of all.
+#[derive(Clone, Copy, PartialEq, Eq)]
+enum Next {
+    Call,
+    Stop,
+    Ended,
+}
+
+// Where the calls have come: what the last gave, the digest of the blocks or the solutions, and how many solutions were shown.
 #[derive(Clone, Copy)]
 struct Searched {
-    last: Traced,
-    sum: usize,
+    last: Ran,
+    digest: Digest,
     shown: usize,
-    goes_on: bool,
-    is_ended: bool,
+    next: Next,
 }
 
-// After a call that strikes nothing out.
-fn after_call(c: Traced, sum: usize, shown: usize) -> Searched {
-    let verdict = c.verdict;
-    Searched {
-        last: c,
-        sum,
-        shown,
-        goes_on: console::goes_on(verdict),
-        is_ended: false,
+impl Searched {
+    fn new(s: &Search) -> Searched {
+        Searched {
+            last: Ran {
+                verdict: Verdict::GoOn,
+                values: [0; 32],
+                count: 0,
+                propagations: 0,
+                state: *s,
+            },
+            digest: Digest::NONE,
+            shown: 0,
+            next: Next::Call,
+        }
     }
-}
 
-// How many numbers the solutions have that were struck out: no more than there are.
-fn struck_end(struck: usize, n: usize, most: usize) -> usize
-    ensures { result ≤ most }
-{
-    if n == 0 {
-        return 0;
+    // Takes a call's answer.
+    fn take(&mut self, ran: Ran) {
+        self.next = if console::goes_on(ran.verdict) {
+            Next::Call
+        } else {
+            Next::Stop
+        };
+        self.last = ran;
     }
-    if most / n < struck {
-        return most;
-    }
-    struck * n
-}
 
-// After a listing that answers a solution, which is struck out.
-fn strike(c: Traced, sum: usize, shown: usize) -> Searched {
-    let r = search::exclude(c.state);
-    let answer = r.answer;
-    let state = r.state;
-    let values = c.values;
-    let mut after = c;
-    after.state = state;
-    let next_sum = digest::add_numbers(sum, first(&values, state.n));
-    let mut next = after_call(after, next_sum, std::num::wrapping_add_usize(shown, 1));
-    match answer {
-        Exclusion::Struck => next.goes_on = true,
-        Exclusion::Ended => next.is_ended = true,
-        _ => {}
+    fn step(&mut self) {
+        let (ran, block) = calls::step(&self.last.state);
+        if let Some(block) = block {
+            self.digest.add_bytes(&block);
+        }
+        self.take(ran);
     }
-    next
-}
 
-fn list(s: Search, sum: usize, shown: usize, numbers: &mut [i64]) -> Searched {
-    let mut block = [0u8; 512];
-    let mut none = [0u8; 1];
-    let c = one_call::call(one_call::LIST, s, &mut block, &mut none, numbers);
-    let state = c.state;
-    let end = struck_end(c.blocks, state.n, numbers.len());
-    let next_sum = digest::add_numbers(sum, &numbers[0..end]);
-    let next_shown = std::num::wrapping_add_usize(shown, c.blocks);
-    let verdict = c.verdict;
-    match verdict {
-        Verdict::Solution => strike(c, next_sum, next_shown),
-        _ => after_call(c, next_sum, next_shown),
+    fn trace(&mut self, bytes: &mut [u8]) {
+        let (ran, blocks) = calls::trace(&self.last.state, bytes);
+        let end = blocks.saturating_mul(block::LENGTH).min(bytes.len());
+        self.digest.add_bytes(&bytes[..end]);
+        self.take(ran);
     }
-}
 
-// The digest with the block of a step, if it recorded one.
-fn add_block(sum: usize, recorded: usize, block: &[u8; 512]) -> usize {
-    if recorded == 0 {
-        return sum;
+    // A solution that ends a listing is struck out.
+    fn list(&mut self, numbers: &mut [i64]) {
+        let (ran, struck) = calls::list(&self.last.state, numbers);
+        let end = struck.saturating_mul(ran.state.n).min(numbers.len());
+        self.digest.add_words(&numbers[..end]);
+        self.shown = self.shown.saturating_add(struck);
+        self.take(ran);
+        if let Verdict::Solution = self.last.verdict {
+            self.strike();
+        }
     }
-    digest::add_bytes(sum, block)
-}
 
-// A step, or a trace with so many bytes.
-fn advance(way: usize, s: Search, sum: usize, bytes: &mut [u8]) -> Searched {
-    let mut block = [0u8; 512];
-    let mut none = [0i64; 1];
-    let c = one_call::call(way, s, &mut block, bytes, &mut none);
-    if way == one_call::STEP {
-        return after_call(c, add_block(sum, c.blocks, &block), 0);
+    fn strike(&mut self) {
+        let (answer, state) = calls::exclude(&self.last.state);
+        self.digest.add_words(&self.last.values[..state.n.min(32)]);
+        self.shown = self.shown.saturating_add(1);
+        self.last.state = state;
+        self.next = match answer {
+            Exclusion::Struck => Next::Call,
+            Exclusion::Ended => Next::Ended,
+            _ => Next::Stop,
+        };
     }
-    let end = least(block::LENGTH * least(c.blocks, 128), bytes.len());
-    after_call(c, digest::add_bytes(sum, &bytes[0..end]), 0)
-}
 
-fn turn(way: usize, at: Searched, length: usize) -> Searched {
-    let mut bytes = [0u8; 65536];
-    let mut numbers = [0i64; 8192];
-    let last = at.last;
-    if way == one_call::LIST {
-        let end = least(length, 8192);
-        return list(last.state, at.sum, at.shown, &mut numbers[0..end]);
+    fn call(&mut self, way: Way) {
+        match way {
+            Way::Step => self.step(),
+            Way::Trace(length) => {
+                let mut bytes = [0u8; 65536];
+                self.trace(&mut bytes[..length.min(65536)]);
+            }
+            Way::List(length) => {
+                let mut numbers = [0i64; 8192];
+                self.list(&mut numbers[..length.min(8192)]);
+            }
+        }
     }
-    let end = least(length, 65536);
-    advance(way, last.state, at.sum, &mut bytes[0..end])
 }
 
 // Calls until there is a verdict.
-fn search(way: usize, length: usize, s: Search) -> Searched {
-    let start = Traced {
-        verdict: Verdict::GoOn,
-        values: [0; 32],
-        count: 0,
-        propagations: 0,
-        blocks: 0,
-        state: s,
-    };
-    let mut at = after_call(start, 0, 0);
-    let mut turns: usize = 0;
-    while turns < console::MAX_TURNS {
-        at = turn(way, at, length);
-        if !at.goes_on {
-            return at;
+fn search(way: Way, s: &Search) -> Searched {
+    let mut searched = Searched::new(s);
+    for _ in 0..console::MAX_TURNS {
+        searched.call(way);
+        if searched.next != Next::Call {
+            break;
         }
-        turns += 1;
     }
-    at
+    searched
 }
 
 // steps, traces L, lists L: the last answer and the digest, with the count of solutions before it for a listing.
-fn play_search(
-    rt: &impl Print,
-    command: &[u8],
-    way: usize,
-    length: usize,
-    state: &mut [usize; 8649],
-) -> io::Result<()> {
-    let found = search(way, length, state_words::search_of(state));
-    let last = found.last;
-    state_words::put_search(state, last.state);
-    rt.write_all(command)?;
-    if one_call::is_refused(last.verdict) {
+fn play_search(rt: &impl Print, way: Way, s: &mut Search) -> io::Result<()> {
+    let searched = search(way, s);
+    *s = searched.last.state;
+    match way {
+        Way::Step => print!(rt; "steps")?,
+        Way::Trace(_) => print!(rt; "traces")?,
+        Way::List(_) => print!(rt; "lists")?,
+    }
+    if is_refused(&searched.last) {
         return println!(rt; " refused 9");
     }
-    if way == one_call::LIST {
-        print!(rt; " {}", found.shown)?;
+    if let Way::List(_) = way {
+        print!(rt; " {}", searched.shown)?;
     }
-    one_call::show_answer(rt, last)?;
-    print::digest(rt, found.sum)?;
-    if found.is_ended {
+    show_answer(rt, &searched.last)?;
+    print!(rt; " digest {}", searched.digest)?;
+    if searched.next == Next::Ended {
         print!(rt; " ended")?;
     }
     println!(rt)
 }
 
+// The length of a line that has one.
+fn length(rest: &[u8], least: usize, most: usize) -> Result<usize, Fault> {
+    let length = one_number(rest)?;
+    if length < least {
+        return Err(Fault::Range);
+    }
+    at_most(length, most)
+}
+
 pub(crate) fn play(
     rt: &impl Print,
-    command: &[u8],
+    command: Command,
     rest: &[u8],
-    state: &mut [usize; 8649],
-) -> io::Result<Outcome> {
-    let signatures = b"steps,traces 65536,lists 8192";
-    let line = script::parse(signatures, command, rest, Outcome::NoCommand);
-    let length = line.value;
-    match line.k {
-        0 => play_search(rt, command, one_call::STEP, 0, state)?,
-        1 => {
-            if length < 512 {
-                return Ok(Outcome::Range);
-            }
-            play_search(rt, command, one_call::TRACE, length, state)?;
+    s: &mut Search,
+) -> Result<(), Failure> {
+    let way = match command {
+        Command::Steps => {
+            no_numbers(rest)?;
+            Way::Step
         }
-        2 => {
-            if length == 0 {
-                return Ok(Outcome::Range);
-            }
-            play_search(rt, command, one_call::LIST, length, state)?;
-        }
-        _ => {}
-    }
-    Ok(line.outcome)
+        Command::Traces => Way::Trace(length(rest, 512, 65536)?),
+        Command::Lists => Way::List(length(rest, 1, 8192)?),
+    };
+    play_search(rt, way, s)?;
+    Ok(())
 }

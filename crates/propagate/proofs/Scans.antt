@@ -12,10 +12,11 @@ use lib.IntN.{ℤ, ◌-ℤ◌}
 use lib.Signed.{lt_z}
 use Rattle.model_problems.specs.Lists.{tab, or_else, with_default}
 use Rattle.model_problems.specs.Constraint.{Constraint, Box, modulus, term, activity}
-use Rattle.model_walk.specs.Move.{Move, conflict, decide, finish, first_falsified, improvement_at, improvement_from, improvement_by, first_improvement, first_open, next_move}
+use Rattle.model_walk.specs.Move.{Move, conflict, finish, first_falsified, improvement_at, improvement_from, improvement_by, first_improvement, first_open, next_move}
 use Rattle.lists.proofs.Tab.{tab-step, tab-end}
 use Rattle.layout.specs.Rows.{row_length, number_in, cell, constraint_at, row_at, bounds_at, box_of}
-use Rattle.propagate.specs.Moves.{hit_at}
+use Rattle.std.specs.Prelude.{Some, None}
+use Rattle.propagate.specs.Moves.{open_of, hit_at}
 
 -- ---- what the scans find from a place on
 unfoldable pub open_from : ℕ → List ℤ → List ℤ → ℕ → Option Move
@@ -43,17 +44,17 @@ module _ (n : ℕ) (lower upper : List ℤ) where
   open-start = rw sub-zero
 
   module _ (whole : Option Move) (i : ℕ) (e : whole ≡ open_from n lower upper i) where
-    pub open-hit : i < n → lt_z (number_in lower i) (number_in upper i) ≡ true → hit_at decide n i ≡ whole
-    unfolding open_from first_open hit_at bounds_at
-    open-hit h t = sym (e ∙ rw (tab-step (bounds_at lower upper) n i h, t, lt-ltb i n h))
+    pub open-hit : i < n → lt_z (number_in lower i) (number_in upper i) ≡ true → open_of (Some i) ≡ whole
+    unfolding open_from first_open open_of bounds_at
+    open-hit h t = sym (e ∙ rw (tab-step (bounds_at lower upper) n i h, t))
 
     pub open-miss : i < n → lt_z (number_in lower i) (number_in upper i) ≡ false → whole ≡ open_from n lower upper (i + 1)
     unfolding open_from first_open bounds_at
     open-miss h t = e ∙ rw (tab-step (bounds_at lower upper) n i h, t, add-one)
 
-    pub open-end : n ≤ i → hit_at decide n n ≡ whole
-    unfolding open_from first_open hit_at
-    open-end h = sym (e ∙ rw (tab-end (bounds_at lower upper) n i h, le-ltb n n (omega arith)))
+    pub open-end : n ≤ i → open_of None ≡ whole
+    unfolding open_from first_open open_of
+    open-end h = sym (e ∙ rw (tab-end (bounds_at lower upper) n i h))
 
 -- ---- move 2
 module _ (n kept : ℕ) (rows lower upper : List ℤ) where

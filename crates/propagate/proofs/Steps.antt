@@ -33,8 +33,11 @@ use Rattle.propagate.specs.declared.propagate.Found.{Found}
 use Rattle.propagate.specs.declared.propagate.Found.TheVariants.{Conflict, Decide, Finish}
 use Rattle.propagate.specs.Ready.{Ready, GapFree}
 use Rattle.propagate.specs.Tracked.{ScanFits}
-use Rattle.propagate.specs.Bounds.{Settable}
-use Rattle.propagate.proofs.Tracking.{number_same, rise-size, fall-size}
+use Rattle.linear.specs.declared.activity.Bound.{Bound}
+use Rattle.linear.specs.declared.activity.Bound.TheVariants.{Lower, Upper}
+use Rattle.linear.specs.Improvement.{move_at}
+use Rattle.propagate.specs.Bounds.{Settable, SettableAt, rise_of, fall_of, bounded, past_gap}
+use Rattle.propagate.proofs.Tracking.{number_same, rise-size, fall-size, Closes, raised-closes, lowered-closes}
 use Rattle.propagate.proofs.Fuel.{propagation-next}
 use Rattle.propagate.proofs.Numbers.{number-reason}
 
@@ -59,6 +62,14 @@ pub record Next (ts : List ℤ) (ks : List Constraint) (n m made : ℕ) (rows : 
   pub gap_free : GapFree n ts k.lower k.upper
   pub same : (count : ℕ) → answer ts ks n m made l count ≡ answer ts ks n m made k (count + 1)
   pub less : slack (box_at n k) < slack (box_at n l)
+
+-- constraint j sets the bound b of variable i
+pub record Sets (ts : List ℤ) (ks : List Constraint) (n m made : ℕ) (rows : List ℤ) (l : Level) (j i : ℕ) (b : Bound) : Type 0 where
+  pub next : Next ts ks n m made rows l j i (bounded l i b (number_for m made j))
+  pub settable : SettableAt i b l
+  pub rise : Within widest_change (rise_of i b l.lower)
+  pub fall : Within widest_change (fall_of i b l.upper)
+  pub closes : Closes n rows l.lower l.upper (bounded l i b (number_for m made j)).lower (bounded l i b (number_for m made j)).upper i (rise_of i b l.lower) (fall_of i b l.upper)
 
 module _ (ts : List ℤ) (ks : List Constraint) (n m made : ℕ) (rows : List ℤ) (long : length ks ≡ m + kept_cuts made) (l : Level) (r : Ready n m made rows l) (a : GapFree n ts l.lower l.upper) where
   ordered : Ordered (box_at n l)
@@ -118,7 +129,7 @@ module _ (ts : List ℤ) (ks : List Constraint) (n m made : ℕ) (rows : List �
     unfolding propagate_by answer
     raised-answer count = follows count (new_lower j i v) e ∙ ap₂ (propagation (thresholds_of n ts) ks (number_for m made)) (sym raised-level) (sym (add-one count))
 
-    pub raise-next : Next ts ks n m made rows l j i (raised l i raised_to (number_for m made j))
+    raise-next : Next ts ks n m made rows l j i (raised l i raised_to (number_for m made j))
     raise-next =
         let w = r.whole in
         let box = box_at n l in
@@ -129,15 +140,15 @@ module _ (ts : List ℤ) (ks : List Constraint) (n m made : ℕ) (rows : List �
         (record { lower = length-set l.lower i raised_to ∙ w.lower; upper = w.upper; below = length-set l.below i k ∙ w.below; above = w.above })
         (rw b (raise-shrinks (thresholds_of n ts) ks box j i v ordered outside raises)) raised-answer
 
-    pub raise-better : number_in l.lower i ⊑ raised_to
+    raise-better : number_in l.lower i ⊑ raised_to
     raise-better = omega (arith, (lifts (number_in ts i) v).above, rw (lower-at n l.lower l.upper i raise-places.1) at raises.better)
 
-    pub raise-rise : Within widest_change (raised_to -ℤ number_in l.lower i)
+    raise-rise : Within widest_change (raised_to -ℤ number_in l.lower i)
     raise-rise =
         rw (number_same l.lower i raised_to (omega (arith, r.whole.lower, r.few, raise-places.1))) at
         (rise-size (scan-fits n m made rows l r) (scan-fits n m made rows (raised l i raised_to (number_for m made j)) raise-next.ready) i raise-places.1)
 
-    pub raise-settable : Settable i raised_to l.lower l.below
+    raise-settable : Settable i raised_to l.lower l.below
     raise-settable =
         record {
           variable = omega (arith, r.few, raise-places.1);
@@ -164,7 +175,7 @@ module _ (ts : List ℤ) (ks : List Constraint) (n m made : ℕ) (rows : List �
     unfolding propagate_by answer
     lowered-answer count = follows count (new_upper j i v) e ∙ ap₂ (propagation (thresholds_of n ts) ks (number_for m made)) (sym lowered-level) (sym (add-one count))
 
-    pub lower-next : Next ts ks n m made rows l j i (lowered l i lowered_to (number_for m made j))
+    lower-next : Next ts ks n m made rows l j i (lowered l i lowered_to (number_for m made j))
     lower-next =
         let w = r.whole in
         let box = box_at n l in
@@ -175,21 +186,41 @@ module _ (ts : List ℤ) (ks : List Constraint) (n m made : ℕ) (rows : List �
         (record { lower = w.lower; upper = length-set l.upper i lowered_to ∙ w.upper; below = w.below; above = length-set l.above i k ∙ w.above })
         (rw b (lower-shrinks (thresholds_of n ts) ks box j i v ordered outside lowers)) lowered-answer
 
-    pub lower-better : lowered_to ⊑ number_in l.upper i
+    lower-better : lowered_to ⊑ number_in l.upper i
     lower-better = omega (arith, (sinks (number_in ts i) v).below, rw (upper-at n l.lower l.upper i lower-places.1) at lowers.better)
 
-    pub lower-fall : Within widest_change (lowered_to -ℤ number_in l.upper i)
+    lower-fall : Within widest_change (lowered_to -ℤ number_in l.upper i)
     lower-fall =
         rw (number_same l.upper i lowered_to (omega (arith, r.whole.upper, r.few, lower-places.1))) at
         (fall-size (scan-fits n m made rows l r) (scan-fits n m made rows (lowered l i lowered_to (number_for m made j)) lower-next.ready) i lower-places.1)
 
-    pub lower-settable : Settable i lowered_to l.upper l.above
+    lower-settable : Settable i lowered_to l.upper l.above
     lower-settable =
         record {
           variable = omega (arith, r.few, lower-places.1);
           old = weaken (lit≤ tt) (upper-within n l.lower l.upper (true_of _ r.bounds) i lower-places.1);
           change = lower-fall;
         }
+
+  -- on either side
+  pub sets : (j i : ℕ) (b : Bound) → move_at j i b ≡ next_move ks (box_at n l) → Sets ts ks n m made rows l j i (past_gap (number_in ts i) b)
+  unfolding move_at
+  sets j i (Lower v) e =
+      record {
+        next = raise-next j i v e;
+        settable = raise-settable j i v e;
+        rise = raise-rise j i v e;
+        fall = record { within = omega arith };
+        closes = raised-closes n rows l.lower l.upper i (lifted (number_in ts i) v) (raise-places j i v e).1 (omega (arith, r.whole.lower, r.few)) (raise-better j i v e);
+      }
+  sets j i (Upper v) e =
+      record {
+        next = lower-next j i v e;
+        settable = lower-settable j i v e;
+        rise = record { within = omega arith };
+        fall = lower-fall j i v e;
+        closes = lowered-closes n rows l.lower l.upper i (sunk (number_in ts i) v) (lower-places j i v e).1 (omega (arith, r.whole.upper, r.few)) (lower-better j i v e);
+      }
 
   -- where the next move sets no bound, it is the answer
   pub stop-answer : (found : Found) (count : ℕ) → stop_of found ≡ next_move ks (box_at n l) → propagation_of n l (record { found = found; count = count }) ≡ answer ts ks n m made l count

@@ -10,7 +10,7 @@ use lib.Dec.{lit≤}
 use lib.IntN.{ℤ, pos, ◌+ℤ◌, ◌-ℤ◌}
 use lib.ListN.{length, set, length-set}
 use lib.Seq.{get_or-set_same, get_or-set_other}
-use lib.Signed.{◌≤ℤ◌}
+use lib.Signed.{◌≤ℤ◌, ◌<ℤ◌}
 use Rattle.model_problems.specs.Lists.{tab}
 use Rattle.model_problems.specs.Ranges.{max_variables}
 use Rattle.model_problems.specs.Constraint.{in_range, activity, term}
@@ -79,6 +79,55 @@ module _ (xs : List ℤ) (j : ℕ) (v : ℤ) where
   pub number-other : (k : ℕ) → (k ≡ j → ⊥) → number_in (set xs j v) k ≡ number_in xs k
   unfolding number_in
   number-other k e = get_or-set_other xs j k v (pos 0) e
+
+-- ---- the activities as a bound changes: those before j have changed, and none of them is above 0
+pub record Shifting (i : ℕ) (rise fall : ℤ) (rows old new : List ℤ) (j : ℕ) : Type 0 where
+  pub room : length new ≡ max_rows
+  pub at : (k : ℕ) → k < j → number_in new k ≡ number_in old k +ℤ term (cell rows (row_length * k) i) (record { lower = rise; upper = fall })
+  pub low : (k : ℕ) → k < j → number_in new k ≤ℤ pos 0
+  pub rest : (k : ℕ) → j ≤ k → number_in new k ≡ number_in old k
+
+module _ (i : ℕ) (rise fall : ℤ) (rows old : List ℤ) where
+  pub shifting-start : length old ≡ max_rows → Shifting i rise fall rows old old 0
+  shifting-start e = record { room = e; at = λ k h. absurd (omega arith); low = λ k h. absurd (omega arith); rest = λ k h. refl }
+
+  -- the next activity, v now
+  module _ (new : List ℤ) (j : ℕ) (v : ℤ) (s : Shifting i rise fall rows old new j) (l : j < max_rows)
+      (e : v ≡ number_in new j +ℤ term (cell rows (row_length * j) i) (record { lower = rise; upper = fall })) where
+    here : v ≡ number_in old j +ℤ term (cell rows (row_length * j) i) (record { lower = rise; upper = fall })
+    here = e ∙ rw (s.rest j (omega arith))
+
+    earlier : (P : ℕ → ℤ → Type 0) → ((k : ℕ) → k < j → P k (number_in new k)) → (k : ℕ) → k < j → P k (number_in (set new j v) k)
+    earlier P q k h = rw (number-other new j v k (λ z. omega arith)) (q k h)
+
+    pub shifting-more : v ≤ℤ pos 0 → Shifting i rise fall rows old (set new j v) (j + 1)
+    shifting-more h =
+        record {
+          room = length-set new j v ∙ s.room;
+          at = more (λ (k : ℕ) (w : ℤ). w ≡ number_in old k +ℤ term (cell rows (row_length * k) i) (record { lower = rise; upper = fall })) s.at here;
+          low = more (λ (k : ℕ) (w : ℤ). w ≤ℤ pos 0) s.low h;
+          rest = λ k q. number-other new j v k (λ z. omega arith) ∙ s.rest k (omega arith);
+        }
+      where
+        more : (P : ℕ → ℤ → Type 0) → ((k : ℕ) → k < j → P k (number_in new k)) → P j v → (k : ℕ) → k < j + 1 → P k (number_in (set new j v) k)
+        more P q p k h =
+            ⊎_elim
+            (λ (z : k ≡ j). subst (λ (x : ℕ). P x (number_in (set new j v) x)) (sym z) (rw (number_same new j v (omega (arith, s.room))) p))
+            (λ (z : k < j). earlier P q k z)
+            (eq-or-lt_of_le (omega arith))
+
+    pub shifting-hit : (kept : ℕ) → j < kept → pos 0 <ℤ v → Shifted kept i rise fall rows old (set new j v) j
+    shifting-hit kept h p =
+        record {
+          room = length-set new j v ∙ s.room;
+          most = omega arith;
+          at = earlier (λ (k : ℕ) (w : ℤ). w ≡ number_in old k +ℤ term (cell rows (row_length * k) i) (record { lower = rise; upper = fall })) s.at;
+          low = earlier (λ (k : ℕ) (w : ℤ). w ≤ℤ pos 0) s.low;
+          here = λ q. rw here at p;
+        }
+
+  pub shifting-end : (new : List ℤ) (kept : ℕ) → Shifting i rise fall rows old new kept → Shifted kept i rise fall rows old new kept
+  shifting-end new kept s = record { room = s.room; most = omega arith; at = s.at; low = s.low; here = λ q. absurd (omega arith) }
 
 -- ---- tracked, one by one
 module _ (n : ℕ) (rows lower upper : List ℤ) where

@@ -26,6 +26,11 @@ use Rattle.state.specs.View.{kept_cuts, divisor_for}
 use Rattle.validity.proofs.Every.{Every}
 use Rattle.validity.proofs.Constraints.{Inequality, lower-unseen, upper-unseen}
 use Rattle.validity.proofs.Blank.{Blank, blank-clear, BlankOf, whole, blank, Blanked, blanked-same, blanked-append, improvement-blanked}
+use Rattle.linear.specs.declared.activity.Bound.{Bound}
+use Rattle.linear.specs.declared.activity.Bound.TheVariants.{Lower, Upper}
+use Rattle.layout.proofs.Rows.{box-lower, box-upper}
+use Rattle.state.specs.declared.Level.{Level}
+use Rattle.propagate.specs.Bounds.{bounded}
 use Rattle.propagate.specs.Moves.{hit_at}
 use Rattle.propagate.specs.Ready.{kept_rows}
 use Rattle.propagate.specs.Tracked.{Told}
@@ -241,3 +246,12 @@ module _ (n m : ℕ) (lines divisors lower upper : List ℤ) (clear : (j : ℕ) 
 
   pub lower-spared : (j : ℕ) → j < m → cell lines (row_length * j) i ≡ pos 0 → falsified (input_at n lines divisors j) (set_upper i v (box_of n lower upper)) ≡ false
   lower-spared j l e = upper-unseen (input_at n lines divisors j) i v (box_of n lower upper) (input-coefficient n lines divisors j i h ∙ e) ∙ clear j l
+
+-- on either side
+pub bounded-spared : (n m : ℕ) (lines divisors : List ℤ) (l : Level) (i k : ℕ) (b : Bound) → i < n → n ≤ length l.lower → n ≤ length l.upper →
+    ((j : ℕ) → j < m → falsified (input_at n lines divisors j) (box_of n l.lower l.upper) ≡ false) →
+    (j : ℕ) → j < m → cell lines (row_length * j) i ≡ pos 0 → falsified (input_at n lines divisors j) (box_of n (bounded l i b k).lower (bounded l i b k).upper) ≡ false
+bounded-spared n m lines divisors l i k (Lower v) h p q clear j d e =
+    rw (box-lower n l.lower l.upper i v h (omega arith)) (raise-spared n m lines divisors l.lower l.upper clear i v h j d e)
+bounded-spared n m lines divisors l i k (Upper v) h p q clear j d e =
+    rw (box-upper n l.lower l.upper i v h (omega arith)) (lower-spared n m lines divisors l.lower l.upper clear i v h j d e)

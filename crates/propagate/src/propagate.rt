@@ -13,16 +13,18 @@ ghost use Rattle.propagate.specs.Tracked.{Tracked};
 ghost use Rattle.bits.specs.Divided.{Columns};
 ghost use Rattle.propagate.specs.Apart.{kept_over, Apart, Warned};
 ghost use Rattle.bits.specs.Masks.{Masked};
+ghost use Rattle.propagate.specs.Bounds.{past_gap};
 
-use crate::bounds::{lower_upper, raise_lower};
-use crate::scan::{Move, first_improvement, first_open};
+use crate::bounds::set_bound;
+use crate::scan::{first_improvement, first_open};
 use bits::divided::first_indivisible;
 use bits::masks::open_mask;
+use linear::activity::Bound;
 use state::kept::{kept_count, number_of};
 use threshold::{lift, sink};
 
 // Where propagation stops: at a conflict in the constraint at a position, at a decision at a variable, or at the solution.
-#[derive(Clone, Copy)]
+#[derive(Clone, Copy, Debug, PartialEq, Eq)]
 pub enum Found {
     Conflict(usize),
     Decide(usize),
@@ -30,38 +32,47 @@ pub enum Found {
 }
 
 // That, and the count of bounds that constraints set so far.
-#[derive(Clone, Copy)]
+#[derive(Clone, Copy, Debug, PartialEq, Eq)]
 pub struct Propagated {
     pub found: Found,
     pub count: usize,
 }
 
 // Where no constraint sets a bound: a decision at the first open variable, or the solution.
-fn decide_or_finish<'a>(lower: &'a [i64; 32], upper: &'a [i64; 32], n: usize) -> Found
+fn decide_or_finish(lower: &[i64; 32], upper: &[i64; 32], n: usize) -> Found
     requires { n ≤ max_variables }
     ensures { stop_of result ≡ with_default finish (first_open 0 (box_of n lower.now upper.now)) }
 {
-    let i = first_open(lower, upper, n);
-    if i < n {
-        return Found::Decide(i);
+    match first_open(lower, upper, n) {
+        Some(i) => Found::Decide(i),
+        None => Found::Finish,
     }
-    Found::Finish
+}
+
+// The bound, jumped over the gap that the threshold t leaves below it.
+fn past_gap(t: i64, bound: Bound) -> Bound
+    ensures { result ≡ past_gap t bound }
+{
+    match bound {
+        Bound::Lower(v) => Bound::Lower(lift(t, v)),
+        Bound::Upper(v) => Bound::Upper(sink(t, v)),
+    }
 }
 
 // Move 2, repeated on the level in hand until the next move is a conflict, a decision or the end. `told` is the position of the first constraint that
 // the level falsifies. What is kept of each inequality follows the level; at a conflict it is stale. A divisor constraint is tested where a bound of one
 // of its variables is set: `columns` has those that mention each variable. Each bound that is set is counted, on top of the `earlier` ones.
-pub fn propagate<'a>(
-    rows: &'a [i64; 4224],
-    lines: &'a [i64; 4224],
-    divisors: &'a [i64; 64],
-    columns: &'a [usize; 32],
+pub fn propagate(
+    rows: &[i64; 4224],
+    lines: &[i64; 4224],
+    divisors: &[i64; 64],
+    columns: &[usize; 32],
     n: usize,
     m: usize,
     made: usize,
-    inputs: &'a [usize; 64],
-    cuts: &'a [usize; 64],
-    thresholds: &'a [i64; 32],
+    inputs: &[usize; 64],
+    cuts: &[usize; 64],
+    thresholds: &[i64; 32],
     told: usize,
     earlier: usize,
     lower: &mut [i64; 32],
@@ -84,31 +95,20 @@ pub fn propagate<'a>(
     let mut falsified = told;
     let mut count = earlier;
     while falsified == kept {
-        let better = first_improvement(
+        let Some(better) = first_improvement(
             rows, lower, upper, n, m, kept, inputs, cuts, open, activities, reaches,
+        ) else {
+            let found = decide_or_finish(lower, upper, n);
+            return Propagated { found, count };
+        };
+        let i = better.variable;
+        let bound = past_gap(thresholds[i], better.bound);
+        let reason = number_of(m, made, better.constraint);
+        let first = set_bound(
+            rows, i, bound, reason, kept, lower, upper, below, above, activities,
         );
-        match better {
-            Move::Lower(j, i, v) => {
-                let number = number_of(m, made, j);
-                let raised = lift(thresholds[i], v);
-                let first = raise_lower(rows, i, raised, number, kept, lower, below, activities);
-                let due = columns[i];
-                falsified = first_indivisible(lines, divisors, due, lower, upper, n, m, first);
-                count += 1;
-            }
-            Move::Upper(j, i, v) => {
-                let number = number_of(m, made, j);
-                let lowered = sink(thresholds[i], v);
-                let first = lower_upper(rows, i, lowered, number, kept, upper, above, activities);
-                let due = columns[i];
-                falsified = first_indivisible(lines, divisors, due, lower, upper, n, m, first);
-                count += 1;
-            }
-            Move::Nothing => {
-                let found = decide_or_finish(lower, upper, n);
-                return Propagated { found, count };
-            }
-        }
+        falsified = first_indivisible(lines, divisors, columns[i], lower, upper, n, m, first);
+        count += 1;
     }
     let found = Found::Conflict(falsified);
     Propagated { found, count }

@@ -5,7 +5,7 @@ ghost use Rattle.model_files.specs.File.{problem_in};
 ghost use Rattle.fields.specs.Fields.{Blocks};
 ghost use Rattle.problem.specs.View.{packed};
 
-use fields::offsets;
+use fields::offsets::Side;
 use fields::reader::{
     bounds_in, budget_in, constraints_in, divisors_in, rows_in, thresholds_in, variables_in,
 };
@@ -19,8 +19,8 @@ pub(crate) fn problem_in(file: &[u8]) -> Problem
     let n = variables_in(file);
     let m = constraints_in(file);
     let budget = budget_in(file);
-    let lower = bounds_in(file, n, offsets::LOWER);
-    let upper = bounds_in(file, n, offsets::UPPER);
+    let lower = bounds_in(file, n, Side::Lower);
+    let upper = bounds_in(file, n, Side::Upper);
     let constraints = rows_in(file, n, m);
     let divisors = divisors_in(file, m);
     let thresholds = thresholds_in(file, n);

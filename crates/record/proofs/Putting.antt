@@ -1,10 +1,12 @@
 -- The fields of a record as they are put in place: those of a loop, 4 bytes each, and the content as a whole.
 use Prim.Native.Nat.{ℕ, ◌+◌, ◌*◌, ◌^◌, ◌<◌, ◌≤◌}
 use native.Mathlib.Omega.{arith}
-use mathlib.Core.Path.{◌≡◌, refl, ap}
+use mathlib.Core.Path.{◌≡◌, refl, ap, ◌∙◌}
 use mathlib.Core.List.{List, append_assoc}
 use lib.IntN.{ℤ, pos}
-use lib.ListN.{get_or}
+use lib.ListN.{get_or, drop}
+use borrow.Rule.Slice.PartMut.{mid_of}
+use Rattle.std.proofs.lemmas.List.{get_or-take, get_or-drop}
 use mir.Syntax.{w64}
 use mir.Val.{to_z, of_z}
 use Rattle.model_problems.specs.Lists.{tab, parts}
@@ -28,6 +30,10 @@ module _ (f : ℕ → List ℕ) {s t : List ℕ} (a i : ℕ) (p : Placed s a (a 
 
   pub all_placed : (j : ℕ) → a + 4 * max_variables ≡ j → max_variables ≤ i → i ≤ max_variables → Placed s a j (parts f 0 max_variables) t
   all_placed j e h l = let z : i ≡ 32 = omega arith in rw (← e) (rw z at p)
+
+-- a coefficient among those after the constant
+pub rest-at : (cut : List ℤ) (i : ℕ) → i < max_variables → get_or (mid_of 1 max_variables cut) i (pos 0) ≡ get_or cut (1 + i) (pos 0)
+rest-at cut i h = get_or-take max_variables (drop 1 cut) i (pos 0) h ∙ get_or-drop 1 cut i (pos 0)
 
 -- ---- the cut, whose numbers come to `put_i32` as bits
 module _ (cut : List ℤ) (fits : CutFits cut) where

@@ -1,4 +1,4 @@
--- The room that a line takes in the lent buffer.
+-- The room that a line takes in the buffer.
 use Rattle.std.specs.Prelude.{ℕ, ◌+◌, ◌*◌, ◌≤◌}
 
 -- the most characters of a number: 20 digits hold 64 bits
@@ -13,10 +13,6 @@ longest_signed = 21
 abbrev pub shown_bytes : ℕ
 shown_bytes = 20
 
--- either half of an `end` line has three fields at most
-abbrev pub longest_half : ℕ
-longest_half = 80
-
 -- a value has a space before it
 abbrev pub longest_value : ℕ
 longest_value = 1 + longest_signed
@@ -24,9 +20,13 @@ longest_value = 1 + longest_signed
 abbrev pub longest_values : ℕ
 longest_values = 32 * longest_value
 
--- the longest line: 'solution', 32 values and the line's end
+-- the longest line but for its end: 'solution' and 32 values
+abbrev pub longest_content : ℕ
+longest_content = 8 + longest_values
+
+-- the longest line
 abbrev pub longest_line : ℕ
-longest_line = 8 + longest_values + 1
+longest_line = longest_content + 1
 
 -- what was put from place `at` on, of at most `longest` bytes, ends before place r
 abbrev pub Ends : ℕ → ℕ → ℕ → Type 0

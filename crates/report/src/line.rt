@@ -1,166 +1,126 @@
-// The lines of the programs `verdict`, document 01's 'Writer and program', and `solutions`. Each function puts a line into a lent buffer from a place on and
-// answers the place after it.
+// The lines of the programs `verdict`, document 01's 'Writer and program', and `solutions`.
 ghost use Rattle.std.specs.Prelude.{◌+◌, ◌≤◌, length};
-ghost use Rattle.report.specs.Room.{longest_number, shown_bytes, longest_half, longest_value, longest_values, longest_line, Ends};
+ghost use Rattle.report.specs.Room.{longest_number, shown_bytes, longest_content, longest_line, Ends};
 
-use crate::text;
+use crate::text::Text;
 use block::{journal, number};
 
 // How many values a solution can have.
 const MAX_VARIABLES: usize = 32;
 
-// Puts a number with a word before it.
-fn put_field(out: &mut [u8], at: usize, word: &[u8], v: usize) -> usize
-    requires { at + length word.now + longest_number ≤ length out.old }
-    ensures { Ends (length word.now + longest_number) at result }
-{
-    let next = text::put_text(out, at, word);
-    text::put_number(out, next, v)
+#[derive(Clone, Copy)]
+pub enum Line<'a> {
+    // `plan 2 2 5`: n, m and B.
+    Plan {
+        n: usize,
+        m: usize,
+        budget: usize,
+    },
+    // `end 1 line 2 cut 3 depth 1 back 1`: the count, the falsified constraint, the cut, the depth met and d.
+    End {
+        count: usize,
+        constraint: usize,
+        cut: usize,
+        depth: usize,
+        level: usize,
+    },
+    // `solution 1 0`: the values of the variables, 32 at most.
+    Solution(&'a [i64]),
+    // `none`: there is no solution.
+    None,
+    // `spent`: the budget is used up.
+    Spent,
+    // `ended`: no decision led to the last solution, so none comes after it.
+    Ended,
+    // `ends 1`: the count of conflicts, document 01's 'dead ends'.
+    Ends(usize),
+    // `struck 1`: the count of solutions struck out.
+    Struck(usize),
+    // `set 1`: the count of bounds that constraints set, document 02's N5.
+    Set(usize),
+    // `refused 4`: an error's number in the documents' tables.
+    Refused(usize),
 }
 
-// Puts a line's last number, and ends the line.
-fn put_last(out: &mut [u8], at: usize, word: &[u8], v: usize) -> usize
-    requires { at + length word.now + longest_number + 1 ≤ length out.old }
-    ensures { Ends (length word.now + longest_number + 1) at result }
-{
-    let next = put_field(out, at, word, v);
-    text::put_text(out, next, b"\n")
-}
-
-// `plan 2 2 5`: n, m and B.
-pub fn plan_line(out: &mut [u8], at: usize, n: usize, m: usize, budget: usize) -> usize
-    requires { at + longest_line ≤ length out.old }
-    ensures { Ends longest_line at result }
-{
-    let after_n = put_field(out, at, b"plan ", n);
-    let after_m = put_field(out, after_n, b" ", m);
-    put_last(out, after_m, b" ", budget)
-}
-
-// The first half of an `end` line: the count, the falsified constraint and the cut.
-fn put_conflict(out: &mut [u8], at: usize, block: &[u8]) -> usize
-    requires { (at + longest_half ≤ length out.old) × (shown_bytes ≤ length block.now) }
-    ensures { Ends longest_half at result }
-{
-    let count = number::u32_at(block, journal::COUNT);
-    let constraint = number::u32_at(block, journal::FALSIFIED);
-    let cut = number::u32_at(block, journal::NUMBER);
-    let after_count = put_field(out, at, b"end ", count);
-    let after_constraint = put_field(out, after_count, b" line ", constraint);
-    put_field(out, after_constraint, b" cut ", cut)
-}
-
-// The second half: the depth met and d, and the end of the line.
-fn put_backjump(out: &mut [u8], at: usize, block: &[u8]) -> usize
-    requires { (at + longest_half ≤ length out.old) × (shown_bytes ≤ length block.now) }
-    ensures { Ends longest_half at result }
-{
-    let depth = number::u16_at(block, journal::DEPTH);
-    let level = number::u16_at(block, journal::BACK);
-    let after_depth = put_field(out, at, b" depth ", depth);
-    put_last(out, after_depth, b" back ", level)
-}
-
-// `end 1 line 2 cut 3 depth 1 back 1`, from a journal block.
-pub fn end_line(out: &mut [u8], at: usize, block: &[u8]) -> usize
-    requires { (at + longest_line ≤ length out.old) × (shown_bytes ≤ length block.now) }
-    ensures { Ends longest_line at result }
-{
-    let half = put_conflict(out, at, block);
-    put_backjump(out, half, block)
-}
-
-// Puts a value with a space before it.
-fn put_value(out: &mut [u8], at: usize, value: i64) -> usize
-    requires { at + longest_value ≤ length out.old }
-    ensures { Ends longest_value at result }
-{
-    let next = text::put_text(out, at, b" ");
-    text::put_signed(out, next, value)
-}
-
-// Puts the first n values, of those that are there.
-fn put_values(out: &mut [u8], at: usize, values: &[i64], n: usize) -> usize
-    requires { at + longest_values ≤ length out.old }
-    ensures { Ends longest_values at result }
-{
-    let mut next = at;
-    let mut i: usize = 0;
-    while i < MAX_VARIABLES {
-        if i == n {
-            return next;
+impl Line<'_> {
+    // The `end` line of a journal block.
+    pub fn end(block: &[u8]) -> Self
+        requires { shown_bytes ≤ length block.now }
+    {
+        Line::End {
+            count: number::u32_at(block, journal::COUNT),
+            constraint: number::u32_at(block, journal::FALSIFIED),
+            cut: number::u32_at(block, journal::NUMBER),
+            depth: number::u16_at(block, journal::DEPTH),
+            level: number::u16_at(block, journal::BACK),
         }
-        if i == values.len() {
-            return next;
-        }
-        next = put_value(out, next, values[i]);
-        i += 1;
     }
-    next
 }
 
-// `solution 1 0`: the values of n variables.
-pub fn solution_line(out: &mut [u8], at: usize, values: &[i64], n: usize) -> usize
-    requires { at + longest_line ≤ length out.old }
-    ensures { Ends longest_line at result }
-{
-    let after_word = text::put_text(out, at, b"solution");
-    let after_values = put_values(out, after_word, values, n);
-    text::put_text(out, after_values, b"\n")
-}
+impl<const N: usize> Text<N> {
+    // Puts a line.
+    pub fn put(&mut self, line: Line)
+        requires { self.old.end + longest_line ≤ N }
+        ensures { Ends longest_line self.old.end self.new.end }
+    {
+        self.put_content(line);
+        self.push(b"\n");
+    }
 
-// `none`: there is no solution.
-pub fn none_line(out: &mut [u8], at: usize) -> usize
-    requires { at + longest_line ≤ length out.old }
-    ensures { Ends longest_line at result }
-{
-    text::put_text(out, at, b"none\n")
-}
+    // Puts a line but for its end.
+    fn put_content(&mut self, line: Line)
+        requires { self.old.end + longest_content ≤ N }
+        ensures { Ends longest_content self.old.end self.new.end }
+    {
+        match line {
+            Line::Plan { n, m, budget } => {
+                self.put_field(b"plan ", n);
+                self.put_field(b" ", m);
+                self.put_field(b" ", budget);
+            }
+            Line::End {
+                count,
+                constraint,
+                cut,
+                depth,
+                level,
+            } => {
+                self.put_field(b"end ", count);
+                self.put_field(b" line ", constraint);
+                self.put_field(b" cut ", cut);
+                self.put_field(b" depth ", depth);
+                self.put_field(b" back ", level);
+            }
+            Line::Solution(values) => self.put_solution(values),
+            Line::None => self.push(b"none"),
+            Line::Spent => self.push(b"spent"),
+            Line::Ended => self.push(b"ended"),
+            Line::Ends(count) => self.put_field(b"ends ", count),
+            Line::Struck(count) => self.put_field(b"struck ", count),
+            Line::Set(count) => self.put_field(b"set ", count),
+            Line::Refused(error) => self.put_field(b"refused ", error),
+        }
+    }
 
-// `spent`: the budget is used up.
-pub fn spent_line(out: &mut [u8], at: usize) -> usize
-    requires { at + longest_line ≤ length out.old }
-    ensures { Ends longest_line at result }
-{
-    text::put_text(out, at, b"spent\n")
-}
+    // Puts a number with a word before it.
+    fn put_field(&mut self, word: &[u8], v: usize)
+        requires { self.old.end + length word.now + longest_number ≤ N }
+        ensures { Ends (length word.now + longest_number) self.old.end self.new.end }
+    {
+        self.push(word);
+        self.push_number(v);
+    }
 
-// `ended`: no decision led to the last solution, so none comes after it.
-pub fn ended_line(out: &mut [u8], at: usize) -> usize
-    requires { at + longest_line ≤ length out.old }
-    ensures { Ends longest_line at result }
-{
-    text::put_text(out, at, b"ended\n")
-}
-
-// `ends 1`: the count of conflicts, document 01's 'dead ends'.
-pub fn ends_line(out: &mut [u8], at: usize, count: usize) -> usize
-    requires { at + longest_line ≤ length out.old }
-    ensures { Ends longest_line at result }
-{
-    put_last(out, at, b"ends ", count)
-}
-
-// `struck 1`: the count of solutions struck out.
-pub fn struck_line(out: &mut [u8], at: usize, count: usize) -> usize
-    requires { at + longest_line ≤ length out.old }
-    ensures { Ends longest_line at result }
-{
-    put_last(out, at, b"struck ", count)
-}
-
-// `set 1`: the count of bounds that constraints set, document 02's N5.
-pub fn set_line(out: &mut [u8], at: usize, count: usize) -> usize
-    requires { at + longest_line ≤ length out.old }
-    ensures { Ends longest_line at result }
-{
-    put_last(out, at, b"set ", count)
-}
-
-// `refused 4`: an error's number in the documents' tables.
-pub fn refused_line(out: &mut [u8], at: usize, error: usize) -> usize
-    requires { at + longest_line ≤ length out.old }
-    ensures { Ends longest_line at result }
-{
-    put_last(out, at, b"refused ", error)
+    // Puts the first 32 values, or those that are there.
+    fn put_solution(&mut self, values: &[i64])
+        requires { self.old.end + longest_content ≤ N }
+        ensures { Ends longest_content self.old.end self.new.end }
+    {
+        self.push(b"solution");
+        let shown = &values[..values.len().min(MAX_VARIABLES)];
+        for &value in shown {
+            self.push(b" ");
+            self.push_number(value);
+        }
+    }
 }

@@ -1,60 +1,62 @@
-// Text and numbers put into a lent buffer from a place on. Each function answers the place after what it put.
-ghost use Rattle.std.specs.Prelude.{◌≡◌, ◌+◌, ◌≤◌, length};
-ghost use Rattle.report.specs.Room.{longest_number, longest_signed, Ends};
+// Text, gathered in a buffer of N bytes.
+ghost use Rattle.std.specs.Prelude.{◌≡◌, ◌+◌, ◌≤◌, ◌<◌, length, MatchBool};
+ghost use Rattle.report.specs.Room.{longest_line, Ends};
 
-// How many digits a number of 64 bits can have.
-const LONGEST_NUMBER: usize = 20;
+use crate::LONGEST_LINE;
+use itoa::{Buffer, Integer};
 
-pub fn put_text(out: &mut [u8], at: usize, text: &[u8]) -> usize
-    requires { at + length text.now ≤ length out.old }
-    ensures { result ≡ at + length text.now }
-{
-    let mut i: usize = 0;
-    while i < text.len() {
-        out[at + i] = text[i];
-        i += 1;
-    }
-    at + i
+#[derive(Drop)]
+pub struct Text<const N: usize> {
+    bytes: [u8; N],
+    end: usize,
+    ghost within: { end ≤ N },
 }
 
-// The last decimal digit of a number.
-fn last_digit(v: usize) -> u8 {
-    48 + (v % 10) as u8
-}
-
-// Puts a number in decimal. Its digits are found last first, so they are gathered at the end of a local array.
-pub fn put_number(out: &mut [u8], at: usize, v: usize) -> usize
-    requires { at + longest_number ≤ length out.old }
-    ensures { Ends longest_number at result }
-{
-    let mut digits = [0u8; LONGEST_NUMBER];
-    let mut first = LONGEST_NUMBER - 1;
-    let mut rest = v / 10;
-    digits[first] = last_digit(v);
-    while 0 < rest {
-        first -= 1;
-        digits[first] = last_digit(rest);
-        rest /= 10;
+impl<const N: usize> Text<N> {
+    pub fn new() -> Self
+        ensures { result.end ≡ 0 }
+    {
+        Text {
+            bytes: [0; N],
+            end: 0,
+        }
     }
-    put_text(out, at, &digits[first..])
-}
 
-// How far a signed number is from zero. That of a negative one is found from -1 on, for the least i64 has no opposite.
-fn magnitude(z: i64) -> usize {
-    if 0 <= z {
-        return z as usize;
+    pub fn as_bytes(&self) -> &[u8]
+        ensures { length result.now ≡ self.now.end }
+    {
+        &self.bytes[..self.end]
     }
-    (-1 - z) as usize + 1
-}
 
-// Puts a signed number in decimal.
-pub fn put_signed(out: &mut [u8], at: usize, z: i64) -> usize
-    requires { at + longest_signed ≤ length out.old }
-    ensures { Ends longest_signed at result }
-{
-    if 0 <= z {
-        return put_number(out, at, magnitude(z));
+    pub fn clear(&mut self)
+        ensures { self.new.end ≡ 0 }
+    {
+        self.end = 0;
     }
-    let next = put_text(out, at, b"-");
-    put_number(out, next, magnitude(z))
+
+    // Whether there is room for a line.
+    pub fn has_room(&self) -> bool
+        ensures { MatchBool result (self.now.end + longest_line ≤ N) (N < self.now.end + longest_line) }
+    {
+        LONGEST_LINE <= N - self.end
+    }
+
+    pub(crate) fn push(&mut self, text: &[u8])
+        requires { self.old.end + length text.now ≤ N }
+        ensures { self.new.end ≡ self.old.end + length text.now }
+    {
+        let start = self.end;
+        let end = start + text.len();
+        let bytes = &mut self.bytes[..];
+        bytes[start..end].copy_from_slice(text);
+        self.end = end;
+    }
+
+    // Puts a number in decimal.
+    pub(crate) fn push_number<I: Integer>(&mut self, n: I)
+        requires { self.old.end + I.MAX_STR_LEN ≤ N }
+        ensures { Ends I.MAX_STR_LEN self.old.end self.new.end }
+    {
+        self.push(Buffer::new().format(n).as_bytes());
+    }
 }

@@ -5,19 +5,13 @@ ghost use Rattle.layout.specs.Rows.{max_rows};
 ghost use Rattle.state.specs.View.{kept_cuts, dropped_cuts, divisor_for, number_for};
 ghost use Rattle.state.specs.Position.{PositionOf};
 
-use layout::{MAX_CUTS, MAX_ROWS};
-
-// The position of a constraint that is not kept: there are fewer rows.
-pub const ABSENT: usize = MAX_ROWS;
+use layout::MAX_CUTS;
 
 // How many cuts are kept.
 pub fn kept_cuts(made: usize) -> usize
     ensures { (result ≡ kept_cuts made) × (result ≤ max_cuts) }
 {
-    if made < MAX_CUTS {
-        return made;
-    }
-    MAX_CUTS
+    made.min(MAX_CUTS)
 }
 
 // How many constraints are kept.
@@ -32,10 +26,7 @@ pub fn kept_count(m: usize, made: usize) -> usize
 pub fn dropped(made: usize) -> usize
     ensures { result ≡ dropped_cuts made }
 {
-    if made < MAX_CUTS {
-        return 0;
-    }
-    made - MAX_CUTS
+    made.saturating_sub(MAX_CUTS)
 }
 
 // The divisor of the kept constraint at position j: a cut has none.
@@ -43,10 +34,7 @@ pub fn divisor_of(divisors: &[i64; 64], m: usize, j: usize) -> i64
     requires { m ≤ max_constraints }
     ensures { result ≡ divisor_for m divisors.now j }
 {
-    if j < m {
-        return divisors[j];
-    }
-    0
+    if j < m { divisors[j] } else { 0 }
 }
 
 // The number of the kept constraint at position j.
@@ -54,29 +42,20 @@ pub fn number_of(m: usize, made: usize, j: usize) -> usize
     requires { (j < max_rows) × (made ≤ max_budget) }
     ensures { result ≡ number_for m made j }
 {
-    if j < m {
-        return j + 1;
-    }
-    j + dropped(made) + 1
+    if j < m { j + 1 } else { j + dropped(made) + 1 }
 }
 
-// The position of the kept constraint with a number, or ABSENT where none has it.
-pub fn position_of(m: usize, made: usize, number: usize) -> usize
+// The position of the kept constraint with a number, if one has it.
+pub fn position_of(m: usize, made: usize, number: usize) -> Option<usize>
     requires { (m ≤ max_constraints) × (made ≤ max_budget) }
     ensures { PositionOf m made number result }
 {
-    if number == 0 {
-        return ABSENT;
-    }
-    if number <= m {
-        return number - 1;
-    }
     let gone = dropped(made);
-    if number <= m + gone {
-        return ABSENT;
+    if 0 < number && number <= m {
+        Some(number - 1)
+    } else if m + gone < number && number <= m + made {
+        Some(number - gone - 1)
+    } else {
+        None
     }
-    if number <= m + made {
-        return number - gone - 1;
-    }
-    ABSENT
 }

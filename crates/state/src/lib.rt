@@ -7,11 +7,12 @@ ghost use Rattle.state.specs.Change.{Whole};
 pub mod kept;
 
 // Why a bound is held: one of these, or the number of a constraint.
+// Stays: numbers and no enum, for the state is kept by value with flat arrays of numbers (document 01's forms by place).
 pub const DOMAIN: usize = 0;
 
-pub const DECISION: usize = 18446744073709551615;
+pub const DECISION: usize = usize::MAX;
 
-pub const FLIPPED: usize = 18446744073709551614;
+pub const FLIPPED: usize = usize::MAX - 1;
 
 // A decision level ('frame'): the bounds, the reason of each, and the decision variable, which has no meaning at level 0.
 #[derive(Clone, Copy)]

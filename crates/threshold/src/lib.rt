@@ -8,36 +8,31 @@ ghost use Rattle.model_problems.specs.Threshold.{in_gap, lifted, sunk, next_valu
 pub mod range;
 
 // Whether a number lies in the gap of threshold t: 1 to t − 1.
+#[tactic(auto, unfolding(model_problems::specs::Threshold::in_gap))]
 fn is_in_gap(t: i64, x: i64) -> bool
     ensures { result ≡ in_gap t x }
 {
-    if x < 1 {
-        return false;
-    }
-    x < t
+    (1..t).contains(&x)
 }
 
 // Where a lower bound rises that would become v.
+#[tactic(auto, unfolding(model_problems::specs::Threshold::lifted))]
 pub fn lift(t: i64, v: i64) -> i64
     ensures { result ≡ lifted t v }
 {
-    if is_in_gap(t, v) {
-        return t;
-    }
-    v
+    if is_in_gap(t, v) { t } else { v }
 }
 
 // Where an upper bound falls that would become v.
+#[tactic(auto, unfolding(model_problems::specs::Threshold::sunk))]
 pub fn sink(t: i64, v: i64) -> i64
     ensures { result ≡ sunk t v }
 {
-    if is_in_gap(t, v) {
-        return 0;
-    }
-    v
+    if is_in_gap(t, v) { 0 } else { v }
 }
 
 // The value after v: where a flipped decision goes on.
+#[tactic(auto, unfolding(model_problems::specs::Threshold::next_value))]
 pub fn next_value(t: i64, v: i64) -> i64
     requires { Within (2 ^ 62) v }
     ensures { result ≡ next_value t v }

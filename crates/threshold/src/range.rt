@@ -12,35 +12,23 @@ use layout::range::is_none_or_from_two;
 fn fits(t: i64, lower: i64, upper: i64) -> bool
     ensures { result ≡ threshold_fits t (record { lower = lower; upper = upper }) }
 {
-    if !is_none_or_from_two(upper, t) {
-        return false;
-    }
-    if t == 0 {
-        return true;
-    }
-    lower == 0
+    is_none_or_from_two(upper, t) && (t == 0 || lower == 0)
 }
 
 // Whether a problem may have the thresholds of n variables beside their limits.
-pub fn all_fit<'a>(thresholds: &'a [i64], lower: &'a [i64], upper: &'a [i64], n: usize) -> bool
+pub fn all_fit(thresholds: &[i64], lower: &[i64], upper: &[i64], n: usize) -> bool
     requires { (n ≤ length thresholds.now) × ((n ≤ length lower.now) × (n ≤ length upper.now)) }
     ensures { result ≡ all_pairs threshold_fits (thresholds_of n thresholds.now) (box_of n lower.now upper.now) }
 {
-    let mut i: usize = 0;
-    while i < n {
-        if !fits(thresholds[i], lower[i], upper[i]) {
-            return false;
-        }
-        i += 1;
-    }
-    true
+    (0..n).all(|i| fits(thresholds[i], lower[i], upper[i]))
 }
 
 // Whether a search state may carry this threshold.
+#[tactic(auto, unfolding(model_problems::specs::Threshold::is_threshold))]
 fn is_threshold(t: i64) -> bool
     ensures { result ≡ is_threshold t }
 {
-    is_none_or_from_two(MAX_BOUND as i64, t)
+    is_none_or_from_two(i64::from(MAX_BOUND), t)
 }
 
 // Whether a search state may carry the thresholds of n variables.
@@ -48,37 +36,21 @@ pub fn are_thresholds(thresholds: &[i64], n: usize) -> bool
     requires { n ≤ length thresholds.now }
     ensures { result ≡ all_of is_threshold (thresholds_of n thresholds.now) }
 {
-    let mut i: usize = 0;
-    while i < n {
-        if !is_threshold(thresholds[i]) {
-            return false;
-        }
-        i += 1;
-    }
-    true
+    thresholds[..n].iter().all(|t| is_threshold(*t))
 }
 
 // Whether neither bound of a variable lies in the gap.
+#[tactic(auto, unfolding(model_problems::specs::Threshold::allowed, model_problems::specs::Threshold::outside_gap))]
 fn is_outside(t: i64, lower: i64, upper: i64) -> bool
     ensures { result ≡ outside_gap t (record { lower = lower; upper = upper }) }
 {
-    if is_in_gap(t, lower) {
-        return false;
-    }
-    !is_in_gap(t, upper)
+    !is_in_gap(t, lower) && !is_in_gap(t, upper)
 }
 
 // Whether no bound of n variables lies in the gap.
-pub fn are_outside<'a>(thresholds: &'a [i64], lower: &'a [i64], upper: &'a [i64], n: usize) -> bool
+pub fn are_outside(thresholds: &[i64], lower: &[i64], upper: &[i64], n: usize) -> bool
     requires { (n ≤ length thresholds.now) × ((n ≤ length lower.now) × (n ≤ length upper.now)) }
     ensures { result ≡ all_pairs outside_gap (thresholds_of n thresholds.now) (box_of n lower.now upper.now) }
 {
-    let mut i: usize = 0;
-    while i < n {
-        if !is_outside(thresholds[i], lower[i], upper[i]) {
-            return false;
-        }
-        i += 1;
-    }
-    true
+    (0..n).all(|i| is_outside(thresholds[i], lower[i], upper[i]))
 }

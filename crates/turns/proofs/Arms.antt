@@ -6,16 +6,16 @@ use mathlib.Core.List.{List, [], append-nil}
 use mathlib.Core.Option.{none, some}
 use mathlib.Core.Path.{◌≡◌, refl, sym, ap, ◌∙◌}
 use lib.IntN.{ℤ}
-use lib.ListN.{set, length}
+use lib.ListN.{length}
 use Rattle.model_walk.specs.Search as model
 use Rattle.model_walk.specs.Move.{conflict, finish, follow, descend, propagations_by}
 use Rattle.model_walk.specs.Step.{Outcome, block_in, propagated, solved_by, budget_spent}
 use Rattle.model_walk.specs.Trace.{with_blocks, last_step, advance}
+use Rattle.validity.proofs.Steps.{impossible}
 use Rattle.state.specs.declared.Level.{Level}
-use Rattle.state.proofs.Cores.{levels-above}
 use Rattle.turns.specs.Advancing.{verdict_of, Buffered}
 use Rattle.turns.specs.declared.Ending.{Ending}
-use Rattle.turns.specs.declared.Ending.TheVariants.{GoOn, OutOfBudget, Solution}
+use Rattle.turns.specs.declared.Ending.TheVariants.{GoOn, NoSolution, OutOfBudget, Solution}
 use Rattle.turns.proofs.OneStep.{advance-finishes, advance-spent}
 use Rattle.turns.proofs.Running.{Running, Propagates, step_start, core_here, ends-tally}
 
@@ -30,12 +30,6 @@ pub record Reaches (s : model.Search) (limit : ℕ) (keep : Bool) (ending : Endi
   pub many : done ≡ length blocks
   pub trace : record { verdict = verdict_of ending t; count = t.conflicts; propagations = t.propagations; blocks = blocks; state = t } ≡ advance limit s
   pub buffer : Buffered keep blocks old now
-
--- the level in hand is stored beside itself
-pub at_level : {s : model.Search} {limit : ℕ} {keep : Bool} {ending : Ending} {done : ℕ} {old now : List ℕ} (thresholds lines divisors : List ℤ) (n m budget conflicts made depth : ℕ) (status : model.Status) (rows : List ℤ) (numbers : List ℕ) (levels : List Level) (k l : Level) (tally : ℕ) →
-    Reaches s limit keep ending done (state_at thresholds lines divisors n m budget conflicts made depth status rows numbers levels l tally) old now →
-    Reaches s limit keep ending done (state_at thresholds lines divisors n m budget conflicts made depth status rows numbers (set levels depth k) l tally) old now
-at_level thresholds lines divisors n m budget conflicts made depth status rows numbers levels k l tally r = rw (levels-above n levels depth depth k (omega arith)) r
 
 module _ {s : model.Search} {old : List ℕ} {limit : ℕ} {keep : Bool} {thresholds lines divisors : List ℤ} {n m budget : ℕ} {now : List ℕ} {rows : List ℤ} {numbers : List ℕ} {levels : List Level} {made conflicts depth : ℕ}
     {level before : Level} {start done earlier tally : ℕ} (r : Running s old limit keep thresholds lines divisors n m budget now rows numbers levels made conflicts depth level before start done earlier tally) where
@@ -65,7 +59,7 @@ module _ {s : model.Search} {old : List ℕ} {limit : ℕ} {keep : Bool} {thresh
   -- out of budget: the turn that was begun is put back
   pub spends : (here : Level) (j tally₁ : ℕ) → done < limit → conflicts ≡ budget →
       Propagates (core_here thresholds lines divisors n m rows numbers levels made depth level) (core_here thresholds lines divisors n m rows numbers levels made depth here) (conflict j) tally tally₁ →
-      Reaches s limit keep OutOfBudget done (state_at thresholds lines divisors n m budget conflicts made start model.undecided rows numbers (set levels depth here) before earlier) old now
+      Reaches s limit keep OutOfBudget done (state_at thresholds lines divisors n m budget conflicts made start model.undecided rows numbers levels before earlier) old now
   unfolding verdict_of with_blocks last_step budget_spent block_in follow
   spends here j tally₁ h e p =
       let t = step_start thresholds lines divisors n m budget conflicts rows numbers levels made before start earlier in
@@ -74,7 +68,7 @@ module _ {s : model.Search} {old : List ℕ} {limit : ℕ} {keep : Bool} {thresh
       record {
         blocks = r.blocks;
         many = sym r.many;
-        trace = rw (levels-above n levels start depth here r.from) (sym (last-trace (budget_spent t) h (advance-spent (limit - done - 1) t c j refl d e) ∙ rw append-nil));
+        trace = sym (last-trace (budget_spent t) h (advance-spent (limit - done - 1) t c j refl d e) ∙ rw append-nil);
         buffer = r.buffer;
       }
 
@@ -91,3 +85,16 @@ module _ {s : model.Search} {old : List ℕ} {limit : ℕ} {keep : Bool} {thresh
         trace = sym (rw z at a ∙ rw append-nil);
         buffer = r.buffer;
       }
+
+-- every other ending is final
+abbrev pub Unsolved : Ending → Type 0
+Unsolved GoOn = Unit {0}
+Unsolved NoSolution = Unit {0}
+Unsolved OutOfBudget = Unit {0}
+Unsolved Solution = ⊥
+
+pub unsolved : {A : Type 0} (e : Ending) → Unsolved e → e ≡ Solution → A
+unsolved GoOn u f = impossible (cc)
+unsolved NoSolution u f = impossible (cc)
+unsolved OutOfBudget u f = impossible (cc)
+unsolved Solution u f = absurd u

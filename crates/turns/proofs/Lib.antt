@@ -17,7 +17,5 @@ pub mod Returning
 pub mod Counting
 pub mod Counted
 pub mod Striking
-pub mod Leaving
 pub mod Masking
-pub mod Looping
 pub mod Setting

@@ -27,7 +27,6 @@ use Rattle.backtrack.specs.Jumps.{Flippable, next_in}
 use Rattle.levels.specs.Mirror.{Mirrored}
 use Rattle.backtrack.proofs.Saving.{saved-moved, saved-stored, saved-less}
 use Rattle.turns.proofs.Running.{core_here}
-use Rattle.turns.specs.Returning.{Returnable, Returned}
 use Rattle.turns.proofs.Carrying.{ClearFrom, Carried, tracked-none, clear-stored, clear-back}
 use Rattle.turns.proofs.Stored.{stored-range, stored-under}
 
@@ -87,71 +86,3 @@ module _ {thresholds lines divisors : List ℤ} {n m : ℕ} {rows : List ℤ} {n
       let i : variable ≡ (level_at n stored (suc (back - 1))).decided = unfold level_at level_of in ap (λ (d : ℕ). (get_or stored d no_level).decided) one_more in
       let e : level_of n outer ≡ level_at n stored (back - 1) = unfold level_at in refl in
       level-flipped n outer k.whole k.few thresholds variable variable-fits ∙ ap₂ (model.flip_at (thresholds_of n thresholds)) i e
-
-  -- what going back there asks, of what the loop carries; o and i are the level and the variable as the code holds them
-  module _ {columns : List ℕ} {divided low : ℕ} {lower upper activities reaches : List ℤ} {told : ℕ} {olds limits : List ℤ} {gones counts : List ℕ} {lowers uppers : List ℤ} {inputs cuts : List ℕ}
-      (v : Carried lines divisors columns divided low n m rows levels made depth lower upper activities reaches told olds limits gones counts lowers uppers inputs cuts)
-      (o : Level) (i : ℕ) (e : o ≡ outer) (f : i ≡ variable) where
-    above : back - 1 < depth
-    above = omega (arith, k.reach, k.some)
-
-    saved-all : Saved n m made₁ rows₁ stored olds limits gones counts depth
-    saved-all = saved-moved n m olds limits gones counts made made₁ rows rows₁ stored depth k.shifted (saved-stored n m olds limits gones counts made rows levels depth depth here (omega arith) v.saved)
-
-    clear-all : ClearFrom n m lines divisors stored low depth
-    clear-all = clear-stored n m lines divisors levels low depth here v.clear
-
-    flippable : Ready n m made₁ rows₁ flipped_to → Flippable n m made₁ thresholds rows₁ o.lower o.upper i (back - 1) olds limits gones counts
-    unfolding level_at level_of
-    flippable next =
-        rw (e, f)
-        (record {
-          inputs = next.inputs;
-          cuts = next.cuts;
-          fits =
-              record {
-                few = next.few;
-                count = (scan-fits _ _ _ _ _ next).count;
-                constraints = next.constraints;
-                bounds = stored-range thresholds lines divisors n m rows numbers levels made depth here inside k.fits (back - 1) (omega (arith, k.reach));
-              };
-          next = scan-fits _ _ _ _ _ next;
-          lowers = k.whole.lower;
-          uppers = k.whole.upper;
-          variable = variable-fits;
-          deep = omega (arith, k.reach, k.deep);
-          room = v.room;
-          saved = saved-all.at (back - 1) above;
-        })
-
-    pub returnable : Ready n m made₁ rows₁ flipped_to → Apart n m rows₁ lines divisors → length rows₁ ≡ 4224 → {activities₁ reaches₁ : List ℤ} → length activities₁ ≡ max_rows → length reaches₁ ≡ max_rows → Due m divisors Everyone divided → Columns n m lines divisors columns →
-        Returnable n m made₁ i (back - 1) low divided columns thresholds rows₁ lines divisors o.lower o.upper olds limits gones counts activities₁ reaches₁
-    returnable next a long x y every mentions =
-        record {
-          few = k.few;
-          flippable = flippable next;
-          lengths = tracked-none _ _ _ _ _ _ long x y;
-          apart = a;
-          every = every;
-          mentions = mentions;
-          clear = λ h j g. subst (λ (z : Level). falsified (input_at n lines divisors j) (box_of n z.lower z.upper) ≡ false) (sym e) (clear-all _ h above j g);
-        }
-
-    -- the level there, as the arrays in hand hold it
-    pub returned-level : {lower₁ : List ℤ} {below₁ : List ℕ} {activities₁ reaches₁ : List ℤ} {told₁ : ℕ} → Returned n m made₁ i thresholds rows₁ lines divisors o.lower o.upper o.below lower₁ below₁ activities₁ reaches₁ told₁ →
-        flipped_to ≡ held lower₁ o.upper below₁ o.above o.decided
-    returned-level w = rw (← e, ← f, w.bound, w.why)
-
-    -- and what the loop carries there
-    pub carried-back : {lower₁ : List ℤ} {below₁ : List ℕ} {activities₁ reaches₁ : List ℤ} {low₁ told₁ : ℕ} → Returned n m made₁ i thresholds rows₁ lines divisors o.lower o.upper o.below lower₁ below₁ activities₁ reaches₁ told₁ →
-        (back - 1 ≤ low → low₁ ≡ back - 1) × (low ≤ back - 1 → low₁ ≡ low) → {lowers₁ uppers₁ : List ℤ} → Mirrored n stored lowers₁ uppers₁ (back - 1) → {cuts₁ : List ℕ} → Masked n m (m + kept_cuts made₁) rows₁ inputs cuts₁ →
-        Carried lines divisors columns divided low₁ n m rows₁ stored made₁ (back - 1) lower₁ o.upper activities₁ reaches₁ told₁ olds limits gones counts lowers₁ uppers₁ inputs cuts₁
-    carried-back {low₁ = low₁} w y bounds masks =
-        record {
-          falsified = w.falsifies;
-          room = v.room;
-          saved = saved-less n m olds limits gones counts made₁ rows₁ stored depth (back - 1) (omega (arith, above)) saved-all;
-          bounds = bounds;
-          masks = masks;
-          clear = clear-back n m lines divisors stored low depth (back - 1) low₁ above y.0 y.1 clear-all;
-        }

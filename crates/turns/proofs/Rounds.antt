@@ -25,7 +25,7 @@ use Rattle.validity.proofs.Moves.{Clear, Chosen}
 use Rattle.validity.proofs.Shrinking.{Shrinks, raise-shrinks, lower-shrinks}
 use Rattle.validity.proofs.States.{deepest-ordered, deepest-outside}
 use Rattle.state.specs.View.{level_of, levels_from, core_over, number_for}
-use Rattle.state.specs.Change.{Whole, decided_at}
+use Rattle.state.specs.Change.{Whole, held, decided_at}
 use Rattle.state.specs.declared.Level.{Level}
 use Rattle.state.proofs.Levels.{level-decided}
 use Rattle.propagate.specs.Moves.{stop_of}
@@ -64,6 +64,19 @@ clear_at : (ks : List Constraint) (box : Box) (j : ℕ) → Clear ks box → j <
 clear_at [] box j c h = absurd (omega arith)
 clear_at (k ∷ ks) box zero c h = not-true (falsified k box) (true_of _ c.0)
 clear_at (k ∷ ks) box (suc j) c h = clear_at ks box j c.1 (omega arith)
+
+-- whatever the decision variable is
+pub ready_with : {n m made : ℕ} {rows lower upper : List ℤ} {below above : List ℕ} {d : ℕ} (e : ℕ) → Ready n m made rows (held lower upper below above d) → Ready n m made rows (held lower upper below above e)
+ready_with e r =
+    let w = r.whole in
+    record {
+      few = r.few;
+      inputs = r.inputs;
+      cuts = r.cuts;
+      whole = record { lower = w.lower; upper = w.upper; below = w.below; above = w.above };
+      constraints = r.constraints;
+      bounds = r.bounds;
+    }
 
 module _ {s : model.Search} {old : List ℕ} {limit : ℕ} {keep : Bool} {thresholds lines divisors : List ℤ} {n m budget : ℕ} {now : List ℕ} {rows : List ℤ} {numbers : List ℕ} {levels : List Level} {made conflicts depth : ℕ}
     {level before : Level} {start done earlier tally : ℕ} (r : Running s old limit keep thresholds lines divisors n m budget now rows numbers levels made conflicts depth level before start done earlier tally) where

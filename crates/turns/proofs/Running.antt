@@ -80,6 +80,12 @@ pub record Running (s : model.Search) (old : List ℕ) (limit : ℕ) (keep : Boo
   pub ahead : advance limit s ≡ with_blocks blocks (advance (limit - done) (step_start thresholds lines divisors n m budget conflicts rows numbers levels made before start earlier))
   pub buffer : Buffered keep blocks old now
 
+-- at an equal level
+pub running-with : {s : model.Search} {old : List ℕ} {limit : ℕ} {keep : Bool} {thresholds lines divisors : List ℤ} {n m budget : ℕ} {now : List ℕ} {rows : List ℤ} {numbers : List ℕ} {levels : List Level} {made conflicts depth : ℕ}
+    {l k a b : Level} {start done earlier tally : ℕ} → l ≡ k → a ≡ b → Running s old limit keep thresholds lines divisors n m budget now rows numbers levels made conflicts depth l a start done earlier tally →
+    Running s old limit keep thresholds lines divisors n m budget now rows numbers levels made conflicts depth k b start done earlier tally
+running-with e f r = rw (← e, ← f) r
+
 -- ---- where propagation left the level, and the move that comes next
 pub record Propagates (c d : model.Core) (m : Move) (tally tally₁ : ℕ) : Type 0 where
   pub fits : CoreFits d

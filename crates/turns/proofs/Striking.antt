@@ -162,11 +162,6 @@ module _ {s : model.Search} {limit room n : ℕ} {old : List ℤ} where
           here = h;
         }
 
--- what holds of the state after the last strike
-pub go_from : {s : model.Search} {limit room n : ℕ} {old : List ℤ} {left many : ℕ} {now : List ℤ} {base : model.Search} → Struck s limit room n old left many now (λ b. b ≡ base) → {There : model.Search → Type 0} → There base →
-    Struck s limit room n old left many now There
-go_from k {There} h = go_on_lem k (subst There (sym k.here) h)
-
 -- ---- the end: what the code's state shows
 ending-solution : (e : Ending) (t : model.Search) (x : Point) → verdict_of e t ≡ solution x → e ≡ Solution
 unfolding verdict_of

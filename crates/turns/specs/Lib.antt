@@ -1,5 +1,4 @@
 -- What the search's contracts say.
 pub mod Advancing
 pub mod Setting
-pub mod Tracking
-pub mod Returning
+pub mod Marking

@@ -1,11 +1,11 @@
-// What turns repeated in place stand on: how they end, the divisor constraints set apart, going back, and what is tracked. The loop itself is `engine`.
+// What turns repeated in place stand on: how they end, the divisor constraints set apart, and the variables that the constraints mention. The loop itself
+// is `engine`.
 #![tactic(auto)]
 
 use state::Search;
 
 pub mod apart;
-pub mod back;
-pub mod track;
+pub mod masks;
 
 // How turns repeated end: after as many as were asked for, or with a verdict.
 #[derive(Clone, Copy)]

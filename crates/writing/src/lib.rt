@@ -17,6 +17,6 @@ pub fn write(problem: Problem, buffer: &mut [u8]) -> Result<(), Refusal>
     if buffer.len() / block::LENGTH <= problem.m {
         return Err(Refusal::ShortBuffer);
     }
-    writer::write_blocks(problem, buffer);
+    writer::write_blocks(&problem, buffer);
     Ok(())
 }

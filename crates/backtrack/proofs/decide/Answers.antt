@@ -4,10 +4,12 @@ use native.Mathlib.Omega.{arith}
 use mathlib.Core.List.{List}
 use mathlib.Core.Path.{◌≡◌, ◌∙◌}
 use lib.Dec.{lit<}
-use lib.IntN.{ℤ}
+use lib.IntN.{ℤ, ◌-ℤ◌}
 use lib.ListN.{length-set}
 use mir.Syntax.{w64}
 use mir.Val.{to_z, of_z}
+use mir.Facts.{to_z-of_z}
+use borrow.Author.Rules.{sfits_of}
 use Rattle.integer.specs.Tests.{back}
 use Rattle.lists.proofs.Bools.{true_of}
 use Rattle.linear.proofs.Ranges.{lower-within}
@@ -18,6 +20,7 @@ use Rattle.propagate.proofs.Tracking.{shiftable, told-set, lowered-closes}
 use Rattle.backtrack.proofs.Moving.{decided-below, decided-fits, decided-settable}
 use Rattle.backtrack.proofs.Saving.{saved-decided}
 use Rattle.backtrack.proofs.decide.Goals as goal
+use Rattle.backtrack.proofs.decide.Goals.{After-set-fall}
 
 -- the lower bound as it is read
 value : {n kept : ℕ} {rows lower upper : List ℤ} (i : ℕ) → ScanFits n kept rows lower upper → i < n → to_z w64 (of_z w64 (number_in lower i)) ≡ number_in lower i
@@ -36,24 +39,32 @@ fewer h s =
       room = s.room;
     }
 
-pub lower_upper-requires : goal.lower_upper-requires
-unfolding number_in kept_cuts
-lower_upper-requires c =
+pub set-fall-requires : goal.set-fall-requires
+unfolding number_in
+set-fall-requires c =
     let p = c.requires in
-    rw (value c.args.i p.fits p.variable) (
-      decided-settable _ _ _ _ _ _ _ p.fits p.variable p.uppers,
-      fewer (omega (arith, c.kept_count-count.ensures))
-          (shiftable _ _ _ _ _ _ _ _ _ _ p.fits p.tracked p.variable (record { within = omega arith }) (decided-settable _ _ _ _ _ c.args.above.now _ p.fits p.variable p.uppers).change),
-    )
+    rw (value c.args.i p.fits p.variable) (decided-settable _ _ _ _ _ _ _ p.fits p.variable p.uppers)
+
+-- by how much the upper bound falls
+falls : (c : After-set-fall) → to_z w64 (of_z w64 c.set-fall.result) ≡ number_in c.args.lower.now c.args.i -ℤ number_in c.args.upper.now c.args.i
+unfolding number_in
+falls c = to_z-of_z {w = w64} (sfits_of c.set-fall.type_inv) ∙ rw (value c.args.i c.requires.fits c.requires.variable) at c.set-fall.ensures.0
+
+pub shift-requires : goal.shift-requires
+unfolding kept_cuts
+shift-requires c =
+    let p = c.requires in
+    rw (falls (goal.at.shift-requires c).After-set-fall)
+    (fewer (omega (arith, c.kept_count-count.ensures))
+    (shiftable _ _ _ _ _ _ _ _ _ _ p.fits p.tracked p.variable (record { within = omega arith }) (decided-settable _ _ _ _ _ c.args.above.now _ p.fits p.variable p.uppers).change))
 
 pub returns-clause-decided : goal.returns-clause-decided
 unfolding number_in
 returns-clause-decided c =
     let a = c.args in
     let p = c.requires in
-    let v = value a.i p.fits p.variable in
-    let set = rw v at c.lower_upper.ensures.0 in
-    let t = rw (v, c.kept_count-count.ensures) at c.lower_upper.ensures.1 in
+    let set = rw (value a.i p.fits p.variable) at c.set-fall.ensures.1 in
+    let t = rw (falls (goal.at.returns-clause-decided c).After-set-fall, c.kept_count-count.ensures) at c.shift.ensures in
     record {
       bound = set.bound;
       why = set.why;

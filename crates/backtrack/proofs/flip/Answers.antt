@@ -31,16 +31,16 @@ module _ (lower : List ℤ) (i : ℕ) (w : Within widest_bound (number_in lower 
       let t = to_z-of_z u in
       to_z-of_z f ∙ cc
 
-pub next_value-v-requires : goal.next_value-v-requires
+pub next_value-next-requires : goal.next_value-next-requires
 unfolding number_in
-next_value-v-requires c = rw (value c.args.lower.now c.args.i c.requires.1.0) (weaken (lit≤ tt) c.requires.1.0)
+next_value-next-requires c = rw (value c.args.lower.now c.args.i c.requires.1.0) (weaken (lit≤ tt) c.requires.1.0)
 
 pub set-requires : goal.set-requires
 set-requires c =
     let p = c.requires in
-    rw (next c.args.lower.now c.args.i p.1.0 c.args.thresholds.now (search rules) (search rules) c.next_value-v.ensures) (record { variable = p.0; old = p.1.0; change = p.1.1 })
+    rw (next c.args.lower.now c.args.i p.1.0 c.args.thresholds.now (search rules) (search rules) c.next_value-next.ensures) (record { variable = p.0; old = p.1.0; change = p.1.1 })
 
 pub returns : goal.returns
 returns c =
     let f : SFits w64 c.set.result = search rules in
-    rw (to_z-of_z f, ← next c.args.lower.now c.args.i c.requires.1.0 c.args.thresholds.now (search rules) (search rules) c.next_value-v.ensures) c.set.ensures
+    rw (to_z-of_z f, ← next c.args.lower.now c.args.i c.requires.1.0 c.args.thresholds.now (search rules) (search rules) c.next_value-next.ensures) c.set.ensures

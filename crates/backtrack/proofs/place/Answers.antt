@@ -6,5 +6,5 @@ use Rattle.backtrack.proofs.place.Goals as goal
 pub returns-then-j-m : goal.returns-then-j-m
 returns-then-j-m c = sym (place-less _ _ _ c.if-j-m.true)
 
-pub returns : goal.returns
-returns c = sym (place-more _ _ _ c.if-j-m.false)
+pub returns-else-j-m : goal.returns-else-j-m
+returns-else-j-m c = sym (place-more _ _ _ c.if-j-m.false)

@@ -44,7 +44,5 @@ loop-j-preserved c =
     let e : c.place-p.result ≡ place_of a.m (dropped_cuts a.made - a.earlier) j = rw c.dropped.ensures at c.place-p.ensures in
     -- what was saved of constraint j
     let k : Known a.n a.rows.now a.lower.now a.upper.now j (get_or a.olds.now p (pos 0)) (get_or a.limits.now p (pos 0)) = rw e (c.requires.0.at j q (omega (arith, e, c.if-count-p.false))) in
-    rw (back (lit< tt) k.size, back (lit< tt) k.reach.size) (
-      omega (arith, q),
-      tracked-more _ _ _ _ _ _ j _ _ (omega (arith, few _ c.args.made c.loop-j-test.true c.kept_count-kept.ensures c.requires.1.0)) c.loop-j.invariant.1 k.same k.size k.reach,
-    )
+    rw (back (lit< tt) k.size, back (lit< tt) k.reach.size)
+    (tracked-more _ _ _ _ _ _ j _ _ (omega (arith, few _ c.args.made c.loop-j-test.true c.kept_count-kept.ensures c.requires.1.0)) c.loop-j.invariant k.same k.size k.reach)

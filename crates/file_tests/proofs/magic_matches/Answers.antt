@@ -1,5 +1,4 @@
 use native.Mathlib.Omega.{arith}
-use borrow.Author.Rules.{rules}
 use Rattle.format.proofs.ByteLaws.{bytes_of}
 use Rattle.fields.proofs.FileTests.{magic-test}
 use Rattle.file_tests.proofs.magic_matches.Goals as goal

@@ -1,24 +1,15 @@
-use Prim.Native.Nat.{◌-◌, ◌≤◌}
-use mathlib.Core.Bool.{true}
-use mathlib.Core.Path.{◌≡◌}
-use borrow.Author.Rules.{rules}
-use Rattle.model_files.specs.File.{constraint_padded}
-use Rattle.model_problems.specs.Lists.{tab, all}
-use Rattle.lists.proofs.All.{all_none}
-use Rattle.fields.proofs.FileTests.{head-nonzero, padding-end, padding-more, padding-nonzero}
+use Rattle.std.proofs.Common.{refl, rules}
+use Rattle.model_files.specs.File.{constraints_in, constraint_padded}
+use Rattle.lists.proofs.Chains.{every}
+use Rattle.fields.proofs.FileTests.{padding-is}
+use Rattle.file_tests.proofs.Both.{both-passed, first-failed}
 use Rattle.file_tests.proofs.padding_zero.Goals as goal
 
-pub returns-then-not-is_head_padded : goal.returns-then-not-is_head_padded
-returns-then-not-is_head_padded c = search (rules, head-nonzero)
+pub returns-then-is_head_padded : goal.returns-then-is_head_padded
+returns-then-is_head_padded c =
+    let f = c.args.file.now in
+    let all = every (constraints_in f) (constraint_padded f) (λ j. j) c.all.ensures.ran (cc) (λ j b q h. search rules) in
+    both-passed c.if-is_head_padded.true (padding-is f _ _ c.is_head_padded.ensures all)
 
-pub loop-j-init : goal.loop-j-init
-loop-j-init c = search (rules, all_none)
-
-pub returns-then-not-is_padded : goal.returns-then-not-is_padded
-returns-then-not-is_padded c = search (rules, padding-nonzero)
-
-pub loop-j-preserved : goal.loop-j-preserved
-loop-j-preserved c = search (rules, padding-more)
-
-pub returns : goal.returns
-returns c = search (rules, padding-end)
+pub returns-else-is_head_padded : goal.returns-else-is_head_padded
+returns-else-is_head_padded c = first-failed _ c.if-is_head_padded.false (padding-is c.args.file.now _ _ c.is_head_padded.ensures refl)

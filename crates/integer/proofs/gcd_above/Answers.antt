@@ -1,24 +1,12 @@
 -- `integer::gcd_above` meets its contract: the greatest common divisor of what is left is that of the arguments. Assumes nothing.
-use native.Mathlib.Omega.{arith}
-use native.Mathlib.Nat.{mod-lt}
-use mathlib.Core.Logic.{inl, inr}
-use mathlib.Core.Path.{◌≡◌, refl, sym, ◌∙◌}
+use Rattle.std.proofs.Common.{◌≡◌, refl, sym, ◌∙◌, inl, inr, arith}
 use Rattle.integer.specs.Divisor.{gcd-step, gcd-zero, gcd-small}
 use Rattle.integer.proofs.gcd_above.Goals as goal
-
-pub loop-y-init : goal.loop-y-init
-loop-y-init c = refl
 
 pub returns-then-y-least : goal.returns-then-y-least
 returns-then-y-least c =
     let l = c.loop-y in
     inr (refl, rw l.invariant (gcd-small l.x l.y _ (omega arith) (omega arith)))
-
-pub nonzero_rem-rest : goal.nonzero_rem-rest
-nonzero_rem-rest c = omega arith
-
-pub loop-y-smaller : goal.loop-y-smaller
-loop-y-smaller c = mod-lt _ (omega arith)
 
 pub loop-y-preserved : goal.loop-y-preserved
 loop-y-preserved c = let l = c.loop-y in l.invariant ∙ gcd-step l.x l.y (omega arith)

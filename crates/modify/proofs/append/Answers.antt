@@ -1,6 +1,5 @@
 -- `modify::append` meets its contract. Assumes nothing.
 use mathlib.Core.Path.{refl}
-use borrow.Author.Rules.{rules}
 use mir.Facts.{to_z-of_z}
 use Rattle.modify.proofs.Views.{append-view}
 use Rattle.modify.proofs.append.Goals as goal

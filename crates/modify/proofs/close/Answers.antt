@@ -1,5 +1,4 @@
 -- `modify::close` meets its contract. Assumes nothing.
-use borrow.Author.Rules.{rules}
 use Rattle.modify.proofs.Views.{close-view}
 use Rattle.modify.proofs.close.Goals as goal
 

@@ -1,5 +1,4 @@
 -- `modify::replace` meets its contract. Assumes nothing.
-use borrow.Author.Rules.{rules}
 use mir.Facts.{to_z-of_z}
 use Rattle.modify.proofs.Views.{replace-view}
 use Rattle.modify.proofs.replace.Goals as goal

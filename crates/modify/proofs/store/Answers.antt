@@ -9,7 +9,7 @@ pub returns : goal.returns
 returns c =
     let s = c in
     let p = s.args.problem in
-    let h = c.put_row.ensures in
+    let h = c.store_row.ensures in
     rw (to_z-of_z s.ranges.divisor)
     (record {
       stays = refl;

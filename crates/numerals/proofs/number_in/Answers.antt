@@ -1,12 +1,21 @@
-use borrow.Author.Rules.{rules}
-use Rattle.numerals.proofs.Reading.{number-none, number-minus, number-plus}
+use Rattle.std.proofs.Common.{◌∙◌}
+use Rattle.numerals.proofs.Reading.{minus-none, minus-number, plus-none, plus-number}
 use Rattle.numerals.proofs.number_in.Goals as goal
 
-pub returns-then-word-eq0 : goal.returns-then-word-eq0
-returns-then-word-eq0 c = search (rules, number-none)
+pub returns-in_err-size_in-in-Some : goal.returns-in_err-size_in-in-Some
+returns-in_err-size_in-in-Some c =
+    let h = c.in-Some.ensures.cases in
+    c.from_residual.ensures ∙ minus-none _ _ h.0 h.1 c.in_err-size_in-in-Some.ensures
 
-pub returns-then-word-eq45 : goal.returns-then-word-eq45
-returns-then-word-eq45 c = search (rules, number-minus)
+pub returns-in_err-size_in-in-None : goal.returns-in_err-size_in-in-None
+returns-in_err-size_in-in-None c =
+    c.from_residual-in_err-size_in-in-None.ensures ∙ plus-none _ c.in-None.ensures.cases c.in_err-size_in-in-None.ensures
 
-pub returns : goal.returns
-returns c = search (rules, number-plus)
+pub returns-in_ok-size_in-in-Some : goal.returns-in_ok-size_in-in-Some
+returns-in_ok-size_in-in-Some c =
+    let h = c.in-Some.ensures.cases in
+    minus-number _ _ h.0 h.1 _ _ c.in_ok-size_in-in-Some.ensures c.checked_sub_unsigned.ensures
+
+pub returns-in_ok-size_in-in-None : goal.returns-in_ok-size_in-in-None
+returns-in_ok-size_in-in-None c =
+    c.ok.ensures.value ∙ plus-number _ c.in-None.ensures.cases _ _ c.in_ok-size_in-in-None.ensures c.try_from.ensures

@@ -6,5 +6,5 @@ use Rattle.analyze.proofs.analysis.used_reason.Goals as goal
 pub returns-then-a-lt0 : goal.returns-then-a-lt0
 returns-then-a-lt0 c = let s = c in reason-negative s.args.a s.args.below s.args.above (simp (to_z-of_z, s.ranges.a) at c.if-a-lt0.true)
 
-pub returns : goal.returns
-returns c = let s = c in reason-positive s.args.a s.args.below s.args.above (simp (to_z-of_z, s.ranges.a) at c.if-a-lt0.false)
+pub returns-else-a-lt0 : goal.returns-else-a-lt0
+returns-else-a-lt0 c = let s = c in reason-positive s.args.a s.args.below s.args.above (simp (to_z-of_z, s.ranges.a) at c.if-a-lt0.false)

@@ -1,5 +1,5 @@
 -- `bits::divided::columns` meets its contract. Assumes nothing.
-use Prim.Native.Nat.{ℕ, ◌-◌, ◌≤◌, ◌<◌}
+use Prim.Native.Nat.{ℕ, ◌<◌}
 use mathlib.Core.Path.{◌≡◌}
 use lib.ListN.{get_or, length}
 use Rattle.model_problems.specs.Ranges.{max_variables}
@@ -7,8 +7,7 @@ use Rattle.bits.specs.Divided.{Due, Unmentioned}
 use Rattle.bits.proofs.divided.columns.Given as goal
 
 abbrev pub invariant-loop-i : goal.invariant-loop-i
-invariant-loop-i l =
-    (l.i ≤ l.n) × ((length l.columns ≡ max_variables) × ((k : ℕ) → k < l.i → Due l.m l.divisors (Unmentioned l.lines k) (get_or l.columns k 0)))
-
-abbrev pub decreases-loop-i : goal.decreases-loop-i
-decreases-loop-i l = l.n - l.i
+invariant-loop-i l = record {
+  long : length l.columns ≡ max_variables;
+  at : (k : ℕ) → k < l.i → Due l.m l.divisors (Unmentioned l.lines k) (get_or l.columns k 0);
+}

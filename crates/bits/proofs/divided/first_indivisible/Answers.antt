@@ -24,41 +24,42 @@ tested : (n j : ℕ) (lines divisors lower upper : List ℤ) {b : Bool} → mag 
 unfolding input_at
 tested n j lines divisors lower upper h e = rw (number_read divisors j h) at e
 
-pub is_falsified-requires : goal.is_falsified-requires
-is_falsified-requires c =
+pub is_falsified-requires-clause-divisor_fits : goal.is_falsified-requires-clause-divisor_fits
+is_falsified-requires-clause-divisor_fits c = rw (number_read c.args.divisors.now c.in-Some.j (omega arith)) (c.requires.fits _ (c.in-Some.ensures.steps.0.inside _ c.loop-j.invariant.inside))
+
+pub is_falsified-requires-clause-row_fits : goal.is_falsified-requires-clause-row_fits
+is_falsified-requires-clause-row_fits c =
     let p = c.requires in
-    let j = c.first-j.result in
-    -- the constraint found is one of the inputs
-    let inside : j < c.args.m = c.first-j.ensures.inside _ c.loop-left.invariant.0 in
-    record {
-      divisor_fits = rw (number_read c.args.divisors.now j c.is_falsified-arg-in-loop-left-1.given) (p.fits j inside);
-      row_fits = row_fits _ _ _ p.few (omega (arith, p.lines_long, p.few, p.most, inside)) (unfold row_at in p.range j inside);
-      box_fits = p.box;
-    }
+    let h : c.in-Some.j < c.args.m = c.in-Some.ensures.steps.0.inside _ c.loop-j.invariant.inside in
+    row_fits _ _ _ p.few (omega arith) (unfold row_at in p.range c.in-Some.j h)
 
 pub returns-then-is_falsified : goal.returns-then-is_falsified
 returns-then-is_falsified c =
+    let s = c.in-Some.ensures.steps.0 in
+    let j = c.in-Some.j in
     record {
-      most = omega (arith, c.if-limit-j.false);
-      before = λ k h. c.loop-left.invariant.1 k (c.first-j.ensures.before k h);
-      here = λ h. (c.first-j.ensures.inside _ c.loop-left.invariant.0, sym (tested _ c.first-j.result _ c.args.divisors.now _ _ c.is_falsified-arg-in-loop-left-1.given c.is_falsified.ensures) ∙ c.if-is_falsified.true);
+      most = omega arith;
+      before = λ k h. c.loop-j.invariant.gone k (s.before k h);
+      here = λ h. (s.inside _ c.loop-j.invariant.inside, sym (tested _ j _ c.args.divisors.now _ _ (omega arith) c.is_falsified.ensures) ∙ c.if-is_falsified.true);
     }
 
-pub loop-left-preserved : goal.loop-left-preserved
-loop-left-preserved c =
-    let r = c.rest-left.ensures in
-    let o = c.first-j.ensures in
-    let t = c.first-j.result in (
-      omega (arith, r.less, c.loop-left.invariant.0),
-      λ j z.
+pub loop-j-preserved : goal.loop-j-preserved
+loop-j-preserved c =
+    let s = c.in-Some.ensures.steps in
+    let j = c.in-Some.j in
+    record {
+      inside = omega (arith, s.1.less);
+      gone = λ k z.
           ⊎_elim
-          (λ (h : j < t). c.loop-left.invariant.1 j (o.before j h))
-          (λ (h : t ≤ j). ⊎_elim
-          (λ (e : t ≡ j). inr (rw (← e) (sym (tested _ t _ c.args.divisors.now _ _ c.is_falsified-arg-in-loop-left-1.given c.is_falsified.ensures) ∙ c.if-is_falsified.false)))
-          (λ (g : t < j). c.loop-left.invariant.1 j (sym (r.kept t o j g) ∙ z))
+          (λ (h : k < j). c.loop-j.invariant.gone k (s.0.before k h))
+          (λ (h : j ≤ k). ⊎_elim
+          (λ (e : j ≡ k). inr (rw (← e) (sym (tested _ j _ c.args.divisors.now _ _ (omega arith) c.is_falsified.ensures) ∙ c.if-is_falsified.false)))
+          (λ (g : j < k). c.loop-j.invariant.gone k (sym (s.1.kept j s.0 k g) ∙ z))
           (eq-or-lt_of_le h))
-          (lt-or-le j t),
-    )
+          (lt-or-le k j);
+    }
 
 pub returns : goal.returns
-returns c = record { most = omega arith; before = λ k h. c.loop-left.invariant.1 k (rw c.loop-left-test.false (bit_past 0 k 0 (omega arith) (omega arith))); here = λ h. absurd (omega arith) }
+returns c =
+    let z : c.loop-j.j-iterator.0 ≡ 0 = c.in-None.ensures.steps in
+    record { most = omega arith; before = λ k h. c.loop-j.invariant.gone k (rw z (bit_past 0 k 0 (omega arith) (omega arith))); here = λ h. absurd (omega arith) }

@@ -8,9 +8,8 @@ use Rattle.layout.specs.Rows.{input_at, box_of}
 use Rattle.bits.specs.Masks.{bit}
 use Rattle.bits.proofs.divided.first_indivisible.Given as goal
 
-abbrev pub invariant-loop-left : goal.invariant-loop-left
-invariant-loop-left l =
-    (l.left < 2 ^ l.m) × ((j : ℕ) → bit l.left j ≡ 0 → (bit l.mask j ≡ 0) ⊎ (falsified (input_at l.n l.lines l.divisors j) (box_of l.n l.lower l.upper) ≡ false))
-
-abbrev pub decreases-loop-left : goal.decreases-loop-left
-decreases-loop-left l = l.left
+abbrev pub invariant-loop-j : goal.invariant-loop-j
+invariant-loop-j l = record {
+  inside : l.j-iterator.0 < 2 ^ l.m;
+  gone : (j : ℕ) → bit l.j-iterator.0 j ≡ 0 → (bit l.mask j ≡ 0) ⊎ (falsified (input_at l.n l.lines l.divisors j) (box_of l.n l.lower l.upper) ≡ false);
+}

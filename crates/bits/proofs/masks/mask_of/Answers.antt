@@ -7,8 +7,8 @@ use Rattle.bits.proofs.masks.mask_of.Goals as goal
 pub returns-then-j-m : goal.returns-then-j-m
 returns-then-j-m c = λ n kept rows k h. k.input _ c.if-j-m.true
 
-pub returns : goal.returns
-returns c =
+pub returns-else-j-m : goal.returns-else-j-m
+returns-else-j-m c =
     let a = c.args in
     let e : a.m + (a.j - a.m) ≡ a.j = omega arith in
     λ n kept rows k h. rw e at (k.cut (a.j - a.m) (omega arith))

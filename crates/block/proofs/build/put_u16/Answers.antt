@@ -1,9 +1,7 @@
-use Rattle.std.proofs.Common.{arith, length-set, rules}
-use Rattle.block.proofs.Placing.{u16-placed}
+use Rattle.std.proofs.Common.{ap, take, ◌∙◌}
+use Rattle.model_files.specs.Bytes.{u16_bytes}
+use Rattle.block.proofs.Placing.{bytes-placed, length-u16, low-u16}
 use Rattle.block.proofs.build.put_u16.Goals as goal
 
-pub bounds-s-at-2 : goal.bounds-s-at-2
-bounds-s-at-2 c = simp length-set (omega arith)
-
 pub returns : goal.returns
-returns c = search (rules, u16-placed)
+returns c = let v = c.args.v in bytes-placed (u16_bytes v) (ap (take 2) c.to_le_bytes.ensures ∙ low-u16 v) (length-u16 v) c.put.ensures

@@ -1,9 +1,6 @@
-use Rattle.std.proofs.Common.{◌≡◌, ◌-◌, ◌≤◌}
+use Rattle.std.proofs.Common.{◌≡◌}
 use Rattle.block.proofs.Checking.{sum_to}
 use Rattle.block.proofs.check.checksum.Given as goal
 
 abbrev pub invariant-loop-w : goal.invariant-loop-w
-invariant-loop-w l = (l.w ≤ 127) × (l.total ≡ sum_to l.b l.k l.w)
-
-abbrev pub decreases-loop-w : goal.decreases-loop-w
-decreases-loop-w l = 127 - l.w
+invariant-loop-w l = l.total ≡ sum_to l.b l.k l.w

@@ -1,6 +1,6 @@
-use Rattle.std.proofs.Common.{rules}
+use Rattle.std.proofs.Common.{◌∙◌, arith}
 use Rattle.block.proofs.Reading.{u32-is}
 use Rattle.block.proofs.number.u32_at.Goals as goal
 
 pub returns : goal.returns
-returns c = search (rules, u32-is)
+returns c = (c.from_le_bytes.ensures ∙ u32-is c.args.s.now c.bytes_at.result c.args.i c.bytes_at.ensures, omega arith)

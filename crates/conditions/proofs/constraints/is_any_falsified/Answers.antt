@@ -1,28 +1,23 @@
--- `conditions::constraints::is_any_falsified` meets its contract: no constraint before row j is falsified. Assumes nothing.
-use Rattle.conditions.proofs.RowLoops.{clear-end, clear-more, clear_none, falsified-found, row-passed, divisor-passed}
-use mathlib.Core.Path.{◌∙◌}
-use mir.Facts.{to_z-of_z}
-use mir.Syntax.{w64}
-use borrow.Author.Rules.{rules, sfits_of}
+-- `conditions::constraints::is_any_falsified` meets its contract. Assumes nothing.
+use Prim.Native.Nat.{◌+◌}
+use borrow.Author.Rules.{rules}
+use mathlib.Core.Path.{sym, ◌∙◌, ap}
+use Rattle.model_problems.specs.Lists.{any_of}
+use Rattle.model_walk.specs.Validity.{falsifies, any_falsified}
+use Rattle.std.proofs.lemmas.Iterator.{serves_from_Range}
+use Rattle.lists.proofs.Chains.{some}
+use Rattle.layout.specs.Rows.{box_of}
+use Rattle.state.specs.View.{kept_at, level_of, kept_cuts}
+use Rattle.conditions.proofs.Views.{kept-view}
 use Rattle.conditions.proofs.constraints.is_any_falsified.Goals as goal
 
-pub loop-j-init : goal.loop-j-init
-loop-j-init c = search (rules, clear_none)
-
-pub is_falsified-requires-clause-row_fits : goal.is_falsified-requires-clause-row_fits
-is_falsified-requires-clause-row_fits c = search (rules, row-passed)
-
-pub is_falsified-requires-clause-divisor_fits : goal.is_falsified-requires-clause-divisor_fits
-is_falsified-requires-clause-divisor_fits c = search (rules, divisor-passed)
-
-pub returns-then-is_falsified : goal.returns-then-is_falsified
-returns-then-is_falsified c = search (rules, falsified-found)
-
-pub loop-j-preserved : goal.loop-j-preserved
-loop-j-preserved c =
-    let q = c.divisor_of-q in
-    let l = c in
-    (search rules, clear-more _ _ _ _ _ l.loop-j.j _ (to_z-of_z {w = w64} (sfits_of q.type_inv) ∙ q.ensures) _ c.is_falsified.ensures l.loop-j.invariant.1 c.if-is_falsified.false)
+pub any-requires-clause-callable : goal.any-requires-clause-callable
+any-requires-clause-callable c = serves_from_Range (λ j q k. search rules) (λ j l h. search rules)
 
 pub returns : goal.returns
-returns c = search (rules, clear-end)
+unfolding any_falsified level_of
+returns c =
+    let s = c.args.s.now in
+    let l = c.args.l.now in
+    some (s.m + kept_cuts s.made) (falsifies (box_of s.n l.lower l.upper)) (kept_at s.n s.m s.rows s.divisors) c.any.ensures.ran (cc) (λ j b q k. search rules) ∙
+    ap (any_of (falsifies (box_of s.n l.lower l.upper))) (sym (kept-view s))

@@ -1,18 +1,16 @@
--- `conditions::scalars::are_numbers_valid` meets its contract: the numbers below p have passed. Assumes nothing.
-use Rattle.conditions.proofs.Numbers.{numbers-end, numbers-fail, numbers_more, numbers-none, numbers_to}
+-- `conditions::scalars::are_numbers_valid` meets its contract. Assumes nothing.
+use Prim.Native.Nat.{◌+◌}
 use borrow.Author.Rules.{rules}
+use mathlib.Core.Path.{sym, ◌∙◌}
+use lib.Dec.{eqb}
+use Rattle.lists.proofs.Chains.{every_pair}
+use Rattle.state.specs.View.{stored_number, dropped_cuts, kept_cuts}
+use Rattle.conditions.proofs.Views.{numbers-view}
 use Rattle.conditions.proofs.scalars.are_numbers_valid.Goals as goal
 
-pub loop-p-init : goal.loop-p-init
-loop-p-init c = search (rules, numbers-none)
-
-pub returns-then-numbers-p : goal.returns-then-numbers-p
-unfolding numbers_to
-returns-then-numbers-p c = search (rules, numbers-fail)
-
-pub loop-p-preserved : goal.loop-p-preserved
-loop-p-preserved c = search (rules, numbers_more)
-
 pub returns : goal.returns
-unfolding numbers_to
-returns c = search (rules, numbers-end)
+unfolding stored_number
+returns c =
+    let s = c.args.s.now in
+    every_pair (kept_cuts s.made) eqb (stored_number s.numbers) (λ p. s.m + dropped_cuts s.made + 1 + p) c.all.ensures.ran (cc) (λ p b q k. search rules) ∙
+    sym (numbers-view s)

@@ -1,16 +1,12 @@
--- `conditions::status::is_any_open` meets its contract: no variable below i is open. Assumes nothing.
-use Rattle.conditions.proofs.Marks.{open-end, open-found, open_more, open_none}
+-- `conditions::status::is_any_open` meets its contract. Assumes nothing.
 use borrow.Author.Rules.{rules}
+use Rattle.model_problems.specs.Constraint.{is_open}
+use Rattle.lists.proofs.Chains.{some}
+use Rattle.layout.specs.Rows.{number_in, bounds_at, box_of}
 use Rattle.conditions.proofs.status.is_any_open.Goals as goal
 
-pub loop-i-init : goal.loop-i-init
-loop-i-init c = search (rules, open_none)
-
-pub returns-then-lower-i : goal.returns-then-lower-i
-returns-then-lower-i c = search (rules, open-found)
-
-pub loop-i-preserved : goal.loop-i-preserved
-loop-i-preserved c = search (rules, open_more)
-
 pub returns : goal.returns
-returns c = search (rules, open-end)
+unfolding is_open box_of bounds_at number_in
+returns c =
+    let l = c.args.l.now in
+    some c.args.n is_open (bounds_at l.lower l.upper) c.any.ensures.ran (cc) (λ i b q k. search rules)

@@ -1,16 +1,31 @@
--- `conditions::status::is_status_valid` meets its contract: each mark in its turn. Assumes nothing.
-use Rattle.conditions.proofs.Marks.{mark-infeasible, mark-open, mark-solved, mark-undecided}
+-- `conditions::status::is_status_valid` meets its contract. Assumes nothing.
+use native.Mathlib.Omega.{arith}
 use borrow.Author.Rules.{rules}
+use Rattle.model_walk.specs.Validity.{status_valid}
+use Rattle.state.specs.View.{level_of, level_at, status_of, core_of, core_over}
+use Rattle.conditions.proofs.Marks.{outer-is, box-passed}
 use Rattle.conditions.proofs.status.is_status_valid.Goals as goal
 
-pub returns-then-is_any_open : goal.returns-then-is_any_open
-returns-then-is_any_open c = search (rules, mark-open)
+pub is_any_falsified-requires-clause-bounds : goal.is_any_falsified-requires-clause-bounds
+unfolding level_at level_of
+is_any_falsified-requires-clause-bounds c = box-passed _ _ (omega arith) c.requires.levels
+
+pub is_any_falsified-requires-then-not-is_any_open-clause-bounds : goal.is_any_falsified-requires-then-not-is_any_open-clause-bounds
+unfolding level_at level_of
+is_any_falsified-requires-then-not-is_any_open-clause-bounds c = box-passed _ _ (omega arith) c.requires.levels
 
 pub returns-in-Undecided : goal.returns-in-Undecided
-returns-in-Undecided c = search (rules, mark-undecided)
+unfolding status_valid status_of
+returns-in-Undecided c = search rules
 
 pub returns-in-Infeasible : goal.returns-in-Infeasible
-returns-in-Infeasible c = search (rules, mark-infeasible)
+unfolding status_valid status_of level_at
+returns-in-Infeasible c = let o = outer-is c.args.s.now in search rules
 
-pub returns-else-is_any_open : goal.returns-else-is_any_open
-returns-else-is_any_open c = search (rules, mark-solved)
+pub returns-then-not-is_any_open : goal.returns-then-not-is_any_open
+unfolding status_valid status_of core_of core_over level_at level_of
+returns-then-not-is_any_open c = search rules
+
+pub returns-else-not-is_any_open : goal.returns-else-not-is_any_open
+unfolding status_valid status_of core_of core_over level_at level_of
+returns-else-not-is_any_open c = search rules

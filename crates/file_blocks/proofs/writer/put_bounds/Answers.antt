@@ -1,14 +1,5 @@
-use Prim.Native.Nat.{◌+◌, ◌*◌, ◌-◌, ◌≤◌}
-use native.Mathlib.Omega.{arith}
-use mathlib.Core.Path.{◌≡◌}
-use lib.ListN.{length}
-use borrow.Author.Rules.{sfits_of, rules}
-use Rattle.model_files.specs.Bytes.{block_length}
-use Rattle.model_files.specs.File.{bounds_bytes}
-use Rattle.model_problems.specs.Lists.{parts}
+use Rattle.std.proofs.Common.{rules, arith}
 use Rattle.block.proofs.Placing.{none-placed}
-use Rattle.block.specs.Placed.{Placed}
-use Rattle.problem.specs.View.{problem_of}
 use Rattle.file_blocks.proofs.Writing.{lower-room, upper-room, bounds-more, fields-end}
 use Rattle.file_blocks.proofs.writer.put_bounds.Goals as goal
 
@@ -23,15 +14,16 @@ put_i32-requires-in-loop-i c = (search rules, upper-room _ _ c.loop-i-test.true 
 
 pub loop-i-preserved : goal.loop-i-preserved
 loop-i-preserved c = (
-  search rules,
-  omega (arith, c.put_i32-in-loop-i.auto.s, c.put_i32.auto.s, c.loop-i.invariant.1),
+  omega (arith, c.put_i32-in-loop-i.auto.s, c.put_i32.auto.s, c.loop-i.invariant.0),
   bounds-more _ _
       c.loop-i-test.true
       _
-      c.bounds_offset-at.ensures.0
+      _
+      c.bound_offset.ensures.0
+      c.bound_offset-in-loop-i.ensures.0
       (search rules)
       (search rules)
-      c.loop-i.invariant.2
+      c.loop-i.invariant.1
       c.put_i32.ensures
       c.put_i32-in-loop-i.ensures,
 )

@@ -1,13 +1,5 @@
-use Prim.Native.Nat.{◌+◌, ◌*◌, ◌-◌, ◌≤◌}
-use mathlib.Core.Path.{◌≡◌}
-use lib.ListN.{length}
-use borrow.Author.Rules.{rules}
-use Rattle.model_files.specs.Bytes.{block_length}
-use Rattle.model_files.specs.File.{threshold_bytes}
-use Rattle.model_problems.specs.Lists.{parts}
+use Rattle.std.proofs.Common.{rules}
 use Rattle.block.proofs.Placing.{none-placed}
-use Rattle.block.specs.Placed.{Placed}
-use Rattle.problem.specs.View.{problem_of}
 use Rattle.file_blocks.proofs.Writing.{threshold-room, thresholds-more, fields-end}
 use Rattle.file_blocks.proofs.writer.put_thresholds.Goals as goal
 

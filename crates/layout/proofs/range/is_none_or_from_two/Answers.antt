@@ -1,13 +1,11 @@
--- `layout::range::is_none_or_from_two` meets its contract. Assumes nothing.
-use borrow.Author.Rules.{rules}
-use Rattle.layout.proofs.Limits.{is_none, below_two, from-two}
+use Rattle.std.proofs.Common.{rules}
+use Rattle.model_problems.specs.Constraint.{none_or_from_two, equalℤ}
 use Rattle.layout.proofs.range.is_none_or_from_two.Goals as goal
 
-pub returns-then-is_same : goal.returns-then-is_same
-returns-then-is_same c = search (rules, is_none)
+pub returns-then-q-eq0 : goal.returns-then-q-eq0
+unfolding none_or_from_two equalℤ
+returns-then-q-eq0 c = search rules
 
-pub returns-then-q-lt2 : goal.returns-then-q-lt2
-returns-then-q-lt2 c = search (rules, below_two)
-
-pub returns : goal.returns
-returns c = search (rules, from-two)
+pub returns-else-q-eq0 : goal.returns-else-q-eq0
+unfolding none_or_from_two equalℤ
+returns-else-q-eq0 c = search rules

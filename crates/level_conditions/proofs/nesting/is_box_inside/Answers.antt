@@ -1,16 +1,13 @@
--- `level_conditions::nesting::is_box_inside` meets its contract: the bounds below i have passed. Assumes nothing.
-use Rattle.level_conditions.proofs.Inside.{inside-end, inside-fails, inside-more, inside-none}
+-- `level_conditions::nesting::is_box_inside` meets its contract. Assumes nothing.
 use borrow.Author.Rules.{rules}
+use Rattle.model_walk.specs.Validity.{inside, box_inside}
+use Rattle.lists.proofs.Chains.{every_pair}
+use Rattle.layout.specs.Rows.{number_in, bounds_at, box_of}
 use Rattle.level_conditions.proofs.nesting.is_box_inside.Goals as goal
 
-pub loop-i-init : goal.loop-i-init
-loop-i-init c = search (rules, inside-none)
-
-pub returns-then-not-are_bounds_inside : goal.returns-then-not-are_bounds_inside
-returns-then-not-are_bounds_inside c = search (rules, inside-fails)
-
-pub loop-i-preserved : goal.loop-i-preserved
-loop-i-preserved c = search (rules, inside-more)
-
 pub returns : goal.returns
-returns c = search (rules, inside-end)
+unfolding inside box_inside box_of bounds_at number_in
+returns c =
+    let l = c.args.l.now in
+    let outer = c.args.outer.now in
+    every_pair c.args.n inside (bounds_at l.lower l.upper) (bounds_at outer.lower outer.upper) c.all.ensures.ran (cc) (λ i b q k. search rules)

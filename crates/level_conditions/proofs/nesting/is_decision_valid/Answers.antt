@@ -1,16 +1,19 @@
--- `level_conditions::nesting::is_decision_valid` meets its contract: each test in its turn. Assumes nothing.
-use Rattle.level_conditions.proofs.Decision.{decided-lower, decided-past, decided-shut, decided-upper}
+-- `level_conditions::nesting::is_decision_valid` meets its contract. Assumes nothing.
 use borrow.Author.Rules.{rules}
+use Rattle.layout.proofs.Tests.{equal-bits}
+use Rattle.level_conditions.proofs.Decision.{decided}
 use Rattle.level_conditions.proofs.nesting.is_decision_valid.Goals as goal
 
-pub returns-then-n-i : goal.returns-then-n-i
-returns-then-n-i c = search (rules, decided-past)
+pub returns-then-l-i : goal.returns-then-l-i
+returns-then-l-i c =
+    let l = c.args.l.now in
+    let outer = c.args.outer.now in
+    let tests = decided c.args.n l.decided l.lower l.upper outer.lower outer.upper in
+    search (rules, equal-bits)
 
-pub returns-then-top-i : goal.returns-then-top-i
-returns-then-top-i c = search (rules, decided-shut)
-
-pub returns-then-lower-i : goal.returns-then-lower-i
-returns-then-lower-i c = search (rules, decided-lower)
-
-pub returns : goal.returns
-returns c = search (rules, decided-upper)
+pub returns-else-l-i : goal.returns-else-l-i
+returns-else-l-i c =
+    let l = c.args.l.now in
+    let outer = c.args.outer.now in
+    let tests = decided c.args.n l.decided l.lower l.upper outer.lower outer.upper in
+    search (rules, equal-bits)

@@ -1,29 +1,19 @@
 -- `levels::level::backjump_level` meets its contract: every level passed falsifies the constraint, and where one does not, none above it does. Assumes
 -- nothing.
-use Prim.Native.Nat.{ℕ, ◌+◌, ◌-◌, ◌≤◌}
-use native.Mathlib.Omega.{arith}
+use Prim.Native.Nat.{ℕ, ◌+◌, ◌≤◌, ◌<◌}
 use mathlib.Core.Bool.{true}
-use mathlib.Core.Path.{◌≡◌}
 use mathlib.Core.List.{List}
+use mathlib.Core.Path.{◌≡◌}
 use lib.IntN.{ℤ}
-use lib.ListN.{length, drop, take, length-drop}
-use lib.Seq.{take_all}
 use Rattle.model_problems.specs.Constraint.{Constraint, falsified}
 use Rattle.layout.specs.Rows.{divided_at}
 use Rattle.levels.specs.Mirror.{box_in}
 use Rattle.levels.proofs.level.backjump_level.Given as goal
 
--- the levels from `level` on were tested, and falsify the constraint
+-- the levels deeper than `level` were tested, and falsify the constraint
 pub record Passed (k : Constraint) (n depth : ℕ) (lowers uppers : List ℤ) (level tested : ℕ) : Type 0 where
-  pub count : tested + level ≡ depth + 1
-  pub falsifies : (t : ℕ) → level ≤ t → t ≤ depth → falsified k (box_in n lowers uppers t) ≡ true
+  pub count : tested + level ≡ depth
+  pub falsifies : (t : ℕ) → level < t → t ≤ depth → falsified k (box_in n lowers uppers t) ≡ true
 
 abbrev pub invariant-loop-level : goal.invariant-loop-level
 invariant-loop-level l = Passed (divided_at l.n l.cut 0 l.q) l.n l.depth l.lowers l.uppers l.level l.tested
-
-abbrev pub decreases-loop-level : goal.decreases-loop-level
-decreases-loop-level l = l.level
-
--- the part of an array from a place on
-pub whole_part : (xs : List ℤ) (k : ℕ) → take (length xs - k) (drop k xs) ≡ drop k xs
-whole_part xs k = take_all (length xs - k) (drop k xs) (omega (arith, length-drop k xs))

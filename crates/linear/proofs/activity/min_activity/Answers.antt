@@ -3,7 +3,6 @@ use Prim.Native.Nat.{ℕ, ◌+◌, ◌≤◌, ◌<◌, ◌*◌}
 use native.Mathlib.Omega.{arith}
 use mathlib.Core.List.{List}
 use mathlib.Core.Path.{◌≡◌, ap, sym, ◌∙◌}
-use borrow.Author.Rules.{rules}
 use lib.Dec.{lit<}
 use lib.IntN.{ℤ, ◌+ℤ◌}
 use mir.Syntax.{w64}
@@ -21,18 +20,16 @@ use Rattle.linear.proofs.activity.min_activity.Goals as goal
 pub loop-i-init : goal.loop-i-init
 unfolding number_in
 loop-i-init c =
-    let s = c in
-    let a = s.args in
-    rw (constant-back s.requires.row_fits)
-    (search rules, rest-start a.n a.rows.now a.start a.lower.now a.upper.now, weaken (omega arith) s.requires.row_fits.constant)
+    let a = c.args in
+    rw (constant-back c.requires.row_fits)
+    (record { all = rest-start a.n a.rows.now a.start a.lower.now a.upper.now; size = weaken (omega arith) c.requires.row_fits.constant })
 
 pub term-sum-requires : goal.term-sum-requires
 unfolding cell number_in
 term-sum-requires c =
-    let l = c in
-    let p = l.requires in
-    let i = l.loop-i.i in
-    let h : i < l.args.n = c.loop-i-test.true in
+    let p = c.requires in
+    let i = c.loop-i.i in
+    let h : i < c.args.n = c.loop-i-test.true in
     rw (coefficient-back p.row_fits i h, lower-back p.box_fits i h, upper-back p.box_fits i h) (change-fits (term_fits p.row_fits p.box_fits i h))
 
 -- variable i's term
@@ -52,28 +49,29 @@ pub overflow_add-sum : goal.overflow_add-sum
 unfolding number_in
 overflow_add-sum c =
     let t = sized _ c.requires.box_fits c.loop-i-test.true c.term-sum.ensures.by_index in
-    rw (to_z-of_z (fits (lit< tt) t)) (fitting _ c.requires.row_fits.few c.loop-i-test.true c.loop-i.invariant.2 t)
+    rw (to_z-of_z (fits (lit< tt) t)) (fitting _ c.requires.row_fits.few c.loop-i-test.true c.loop-i.invariant.size t)
 
 pub loop-i-preserved : goal.loop-i-preserved
 unfolding cell number_in bounds_at
 loop-i-preserved c =
-    let l = c in
-    let s = l in
-    let a = s.args in
-    let p = s.requires in
-    let i = l.loop-i.i in
+    let a = c.args in
+    let p = c.requires in
+    let i = c.loop-i.i in
     let h : i < a.n = c.loop-i-test.true in
     let e : c.term-sum.result ≡ term (cell a.rows.now a.start i) (bounds_at a.lower.now a.upper.now i) =
     rw (coefficient-back p.row_fits i h, lower-back p.box_fits i h, upper-back p.box_fits i h) at c.term-sum.ensures.value in
-    let t = sized _ c.requires.box_fits h c.term-sum.ensures.by_index in
-    rw (to_z-of_z (fits (lit< tt) t), to_z-of_z (fitting _ c.requires.row_fits.few h c.loop-i.invariant.2 t)) (
-      omega arith,
-      ap (λ (z : ℤ). ((to_z w64 l.loop-i.sum-bits) +ℤ z) +ℤ rest a.n a.rows.now a.start a.lower.now a.upper.now (i + 1)) e
-          ∙ sym (rest-step a.n a.rows.now a.start a.lower.now a.upper.now (to_z w64 l.loop-i.sum-bits) i h) ∙ l.loop-i.invariant.1,
-      added _ c.loop-i.invariant.2 t,
-    )
+    let t = sized _ p.box_fits h c.term-sum.ensures.by_index in
+    rw (to_z-of_z (fits (lit< tt) t), to_z-of_z (fitting _ p.row_fits.few h c.loop-i.invariant.size t)) (record {
+      all = ap (λ (z : ℤ). ((to_z w64 c.loop-i.sum-bits) +ℤ z) +ℤ rest a.n a.rows.now a.start a.lower.now a.upper.now (i + 1)) e
+          ∙ sym (rest-step a.n a.rows.now a.start a.lower.now a.upper.now (to_z w64 c.loop-i.sum-bits) i h) ∙ c.loop-i.invariant.all;
+      size = added _ c.loop-i.invariant.size t;
+    })
 
 pub returns : goal.returns
 returns c =
-    let l = c in
-    let a = l.args in record { value = sym (rest_end a.n a.rows.now a.start a.lower.now a.upper.now (to_z w64 l.loop-i.sum-bits) l.loop-i.i c.loop-i-test.false) ∙ l.loop-i.invariant.1; within = weaken (omega (arith, l.loop-i.invariant.0, l.requires.row_fits.few)) l.loop-i.invariant.2 }
+    let a = c.args in
+    let i = c.loop-i.i in
+    record {
+      value = sym (rest_end a.n a.rows.now a.start a.lower.now a.upper.now (to_z w64 c.loop-i.sum-bits) i c.loop-i-test.false) ∙ c.loop-i.invariant.all;
+      within = weaken (omega (arith, c.requires.row_fits.few)) c.loop-i.invariant.size;
+    }

@@ -1,5 +1,5 @@
 -- `linear::activity::min_activity` meets its contract: the sum, and what the variables left add, is the activity. Assumes nothing.
-use Prim.Native.Nat.{◌+◌, ◌≤◌, ◌-◌, ◌*◌}
+use Prim.Native.Nat.{◌+◌, ◌*◌}
 use mathlib.Core.Path.{◌≡◌}
 use lib.IntN.{◌+ℤ◌}
 use Rattle.model_problems.specs.Ranges.{max_coefficient}
@@ -11,8 +11,7 @@ use Rattle.linear.proofs.Terms.{rest}
 use Rattle.linear.proofs.activity.min_activity.Given as goal
 
 abbrev pub invariant-loop-i : goal.invariant-loop-i
-invariant-loop-i l =
-    (l.i ≤ l.n) × (l.sum +ℤ rest l.n l.rows l.start l.lower l.upper l.i ≡ activity (constraint_at l.n l.rows l.start) (box_of l.n l.lower l.upper)) × Within (max_coefficient + l.i * widest_term) l.sum
-
-abbrev pub decreases-loop-i : goal.decreases-loop-i
-decreases-loop-i l = l.n - l.i
+invariant-loop-i l = record {
+  all : l.sum +ℤ rest l.n l.rows l.start l.lower l.upper l.i ≡ activity (constraint_at l.n l.rows l.start) (box_of l.n l.lower l.upper);
+  size : Within (max_coefficient + l.i * widest_term) l.sum;
+}

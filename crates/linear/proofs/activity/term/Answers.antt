@@ -27,11 +27,11 @@ returns-then-a-ge0 c =
       by_index = λ w l u. rw (to_z-of_z s.ranges.a, to_z-of_z s.ranges.lower, to_z-of_z (product s.requires.coefficient s.requires.up)) (mul-within s.requires.coefficient l);
     }
 
-pub overflow_mul-result-2 : goal.overflow_mul-result-2
-overflow_mul-result-2 c = fits! (search exps depth 8) tt
+pub overflow_mul-result-else-a-ge0 : goal.overflow_mul-result-else-a-ge0
+overflow_mul-result-else-a-ge0 c = fits! (search exps depth 8) tt
 
-pub returns : goal.returns
-returns c =
+pub returns-else-a-ge0 : goal.returns-else-a-ge0
+returns-else-a-ge0 c =
     let s = c in record {
       value = eq! (search exps depth 8) (search exps depth 8) tt (omega arith) ∙
           term-upper s.args.a (record { lower = s.args.lower; upper = s.args.upper }) (simp (to_z-of_z, s.ranges.a) at c.if-a-ge0.false);

@@ -7,7 +7,8 @@ use mir.Val.{of_z}
 use mir.Facts.{to_z-of_z}
 use Rattle.integer.specs.Size.{size, fits}
 use Rattle.integer.specs.Tests.{same}
-use Rattle.linear.proofs.Dividing.{divided-test, plain-test, abs-pos}
+use Rattle.linear.proofs.Dividing.{divided-test, plain-test}
+use Rattle.linear.proofs.Quotients.{nonzero-size}
 use Rattle.linear.proofs.divisibility.is_falsified.Goals as goal
 
 pub returns-then-q-eq0 : goal.returns-then-q-eq0
@@ -18,9 +19,9 @@ returns-then-q-eq0 c =
 pub is_indivisible-requires : goal.is_indivisible-requires
 is_indivisible-requires c =
     let s = c in
-    let e = rw (to_z-of_z s.ranges.q) at c.magnitude.ensures in
+    let e = rw (to_z-of_z s.ranges.q) at c.unsigned_abs.ensures.value in
     record {
-      q_nonzero = (rw e (abs-pos s.args.q (λ z. c.if-q-eq0.false (ap (of_z w64) z))), rw e s.requires.divisor_fits);
+      q_nonzero = (rw e (nonzero-size s.args.q (λ z. c.if-q-eq0.false (ap (of_z w64) z))), rw e s.requires.divisor_fits);
       row_fits = s.requires.row_fits;
       box_fits = s.requires.box_fits;
     }
@@ -28,4 +29,4 @@ is_indivisible-requires c =
 pub returns : goal.returns
 returns c =
     let s = c in
-    c.is_indivisible.ensures ∙ rw (c.magnitude.ensures, to_z-of_z s.ranges.q) (divided-test _ _ _ s.args.q _)
+    c.is_indivisible.ensures ∙ rw (c.unsigned_abs.ensures.value, to_z-of_z s.ranges.q) (divided-test _ _ _ s.args.q _)

@@ -1,14 +1,13 @@
 -- `propagate::propagate::decide_or_finish` meets its contract. Assumes nothing.
 use mathlib.Core.Path.{sym}
-use borrow.Author.Tests.{lt-ltb, le-ltb}
 use Rattle.model_problems.specs.Lists.{with_default}
-use Rattle.propagate.specs.Moves.{stop_of, hit_at}
+use Rattle.propagate.specs.Moves.{stop_of, open_of}
 use Rattle.propagate.proofs.propagate.decide_or_finish.Goals as goal
 
-pub returns-then-i-n : goal.returns-then-i-n
-unfolding stop_of hit_at with_default
-returns-then-i-n c = rw (sym c.first_open-i.ensures, lt-ltb _ _ c.if-i-n.true)
+pub returns-in-Some : goal.returns-in-Some
+unfolding stop_of open_of with_default
+returns-in-Some c = rw (sym c.in-Some.ensures)
 
-pub returns : goal.returns
-unfolding stop_of hit_at with_default
-returns c = rw (sym c.first_open-i.ensures, le-ltb _ _ c.if-i-n.false)
+pub returns-in-None : goal.returns-in-None
+unfolding stop_of open_of with_default
+returns-in-None c = rw (sym c.in-None.ensures)

@@ -8,6 +8,6 @@ pub returns-then-j-m : goal.returns-then-j-m
 unfolding number_for
 returns-then-j-m c = rw (lt-ltb _ _ c.if-j-m.true) (omega arith)
 
-pub returns : goal.returns
+pub returns-else-j-m : goal.returns-else-j-m
 unfolding number_for
-returns c = rw (le-ltb _ _ c.if-j-m.false) (omega arith)
+returns-else-j-m c = rw (le-ltb _ _ c.if-j-m.false) (omega arith)

@@ -1,16 +1,12 @@
--- `threshold::range::are_outside` meets its contract: the variables below i have passed. Assumes nothing.
+-- `threshold::range::are_outside` meets its contract. Assumes nothing.
 use borrow.Author.Rules.{rules}
-use Rattle.threshold.proofs.Loops.{beside_none, beside-more, beside_end, beside-fails}
+use Rattle.model_problems.specs.Threshold.{outside_gap}
+use Rattle.lists.proofs.Chains.{every_pair}
+use Rattle.layout.specs.Rows.{number_in, bounds_at, box_of, thresholds_of}
 use Rattle.threshold.proofs.range.are_outside.Goals as goal
 
-pub loop-i-init : goal.loop-i-init
-loop-i-init c = search (rules, beside_none)
-
-pub returns-then-not-is_outside : goal.returns-then-not-is_outside
-returns-then-not-is_outside c = search (rules, beside-fails)
-
-pub loop-i-preserved : goal.loop-i-preserved
-loop-i-preserved c = search (rules, beside-more)
-
 pub returns : goal.returns
-returns c = search (rules, beside_end)
+unfolding thresholds_of box_of bounds_at number_in
+returns c =
+    let a = c.args in
+    every_pair a.n outside_gap (number_in a.thresholds.now) (bounds_at a.lower.now a.upper.now) c.all.ensures.ran (cc) (λ i b q k. search rules)

@@ -1,16 +1,16 @@
--- `threshold::range::are_thresholds` meets its contract: the thresholds below i have passed. Assumes nothing.
+-- `threshold::range::are_thresholds` meets its contract. Assumes nothing.
 use borrow.Author.Rules.{rules}
-use Rattle.threshold.proofs.Loops.{each_none, each_more, each-end, each-fails}
+use mathlib.Core.Path.{ap, ◌∙◌}
+use lib.IntN.{pos}
+use Rattle.model_problems.specs.Lists.{all_of}
+use Rattle.model_problems.specs.Threshold.{is_threshold}
+use Rattle.lists.proofs.Tab.{tab-front}
+use Rattle.lists.proofs.Chains.{each}
+use Rattle.layout.specs.Rows.{number_in, thresholds_of}
 use Rattle.threshold.proofs.range.are_thresholds.Goals as goal
 
-pub loop-i-init : goal.loop-i-init
-loop-i-init c = search (rules, each_none)
-
-pub returns-then-not-is_threshold : goal.returns-then-not-is_threshold
-returns-then-not-is_threshold c = search (rules, each-fails)
-
-pub loop-i-preserved : goal.loop-i-preserved
-loop-i-preserved c = search (rules, each_more)
-
 pub returns : goal.returns
-returns c = search (rules, each-end)
+unfolding thresholds_of number_in
+returns c =
+    let first = tab-front c.args.thresholds.now (pos 0) c.args.n c.requires in
+    each is_threshold _ c.all.ensures.ran c.iter.ensures.rest (λ x b q k. search rules) ∙ ap (all_of is_threshold) first

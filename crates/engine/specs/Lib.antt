@@ -1,0 +1,3 @@
+-- What the loop's contracts say.
+pub mod Given
+pub mod Walk

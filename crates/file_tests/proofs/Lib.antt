@@ -1,0 +1,2 @@
+-- Laws that the answers share.
+pub mod Both

@@ -1,3 +1,0 @@
--- Laws of the functions that put numbers.
-pub mod Digits
-pub mod Magnitude
