@@ -65,6 +65,18 @@ fn deepest_lowers(s: Search) -> [i64; 32]
     lowers(s.levels[depth], s.n)
 }
 
+// Where no turn is taken: the state stays.
+fn at_rest(state: Search, ending: Ending) -> Advanced
+    ensures { result ≡ record { ending = ending; struck = 0; blocks = 0; state = state } }
+{
+    Advanced {
+        ending,
+        struck: 0,
+        blocks: 0,
+        state,
+    }
+}
+
 // At most `limit` turns from a valid state, to a verdict, with strikes while there is room; a marked one gives its verdict again.
 pub fn proceed(
     s: Search,
@@ -78,28 +90,12 @@ pub fn proceed(
     ensures { Advances (view s) limit keep (room_at (status_of s.status) room) result buffer.old buffer.new solutions.old solutions.new }
 {
     if limit == 0 {
-        return Advanced {
-            ending: Ending::GoOn,
-            struck: 0,
-            blocks: 0,
-            state: s,
-        };
+        return at_rest(s, Ending::GoOn);
     }
-    let status = s.status;
-    match status {
+    match s.status {
         Status::Undecided => advance(s, buffer, limit, keep, room, solutions),
-        Status::Infeasible => Advanced {
-            ending: Ending::NoSolution,
-            struck: 0,
-            blocks: 0,
-            state: s,
-        },
-        Status::Solved => Advanced {
-            ending: Ending::Solution,
-            struck: 0,
-            blocks: 0,
-            state: s,
-        },
+        Status::Infeasible => at_rest(s, Ending::NoSolution),
+        Status::Solved => at_rest(s, Ending::Solution),
     }
 }
 

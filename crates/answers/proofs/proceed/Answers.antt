@@ -4,7 +4,7 @@ use Rattle.answers.proofs.Proceeding.{room-undecided, no_step, none-again, solut
 use Rattle.answers.proofs.proceed.Goals as goal
 
 pub returns-then-limit-eq0 : goal.returns-then-limit-eq0
-returns-then-limit-eq0 c = no_step _ _ _ _ _ _ (search rules)
+returns-then-limit-eq0 c = rw c.at_rest.ensures (no_step _ _ _ _ _ _ (search rules))
 
 pub returns-in-Undecided : goal.returns-in-Undecided
 returns-in-Undecided c =
@@ -13,7 +13,7 @@ returns-in-Undecided c =
     rw (room-undecided a.s.status a.room (search rules)) l.advance.ensures
 
 pub returns-in-Infeasible : goal.returns-in-Infeasible
-returns-in-Infeasible c = none-again _ _ _ _ _ _ (search rules) (search rules)
+returns-in-Infeasible c = rw c.at_rest-in-Infeasible.ensures (none-again _ _ _ _ _ _ (search rules) (search rules))
 
 pub returns-in-Solved : goal.returns-in-Solved
-returns-in-Solved c = solution-again _ _ _ _ _ _ (search rules) (search rules)
+returns-in-Solved c = rw c.at_rest-in-Solved.ensures (solution-again _ _ _ _ _ _ (search rules) (search rules))
