@@ -1,6 +1,6 @@
 -- `backtrack::Saved::save` meets its contract. Assumes nothing.
 use native.Mathlib.Omega.{arith}
-use mathlib.Core.Path.{◌≡◌, ◌∙◌}
+use mathlib.Core.Path.{◌∙◌}
 use lib.ListN.{length-set}
 use Rattle.state.specs.View.{kept_cuts}
 use Rattle.backtrack.proofs.Saving.{saved-decided}

@@ -1,5 +1,5 @@
 -- `propagate::propagate::propagate` meets its contract: `Looping` has the invariant, and what a turn keeps of it. Assumes nothing.
-use Prim.Native.Nat.{ℕ, ◌+◌}
+use Prim.Native.Nat.{◌+◌}
 use native.Mathlib.Nat.{eq-or-lt_of_le}
 use native.Mathlib.Omega.{arith}
 use mathlib.Core.Logic.{⊎_elim}
