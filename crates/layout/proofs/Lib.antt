@@ -7,3 +7,4 @@ pub mod Ranges
 pub mod Tests
 pub mod Copying
 pub mod Placing
+pub mod Slices
