@@ -44,7 +44,7 @@ fn used_reason(a: i64, below: usize, above: usize) -> usize
     if a < 0 { above } else { below }
 }
 
-impl<'a> Core<'a> {
+impl Core<'_> {
     // Whether a constraint is in range and not falsified. Rounding changes neither, so what is combined is tried before it is rounded. Only in range does the
     // lowest value fit.
     fn is_holding(&self, c: &[i64; 33]) -> bool

@@ -18,7 +18,7 @@ pub fn divided_mask(divisors: &[i64; 64], m: usize) -> usize
 }
 
 // The inputs that carry a divisor and mention variable i.
-fn column_mask<'a>(lines: &'a [i64; 4224], divisors: &'a [i64; 64], m: usize, i: usize) -> usize
+fn column_mask(lines: &[i64; 4224], divisors: &[i64; 64], m: usize, i: usize) -> usize
     requires { (m ≤ max_constraints) × ((i < max_variables) × ((length lines.now ≡ rows_length) × (length divisors.now ≡ max_constraints))) }
     ensures { Due m divisors.now (Unmentioned lines.now i) result }
 {
@@ -26,9 +26,9 @@ fn column_mask<'a>(lines: &'a [i64; 4224], divisors: &'a [i64; 64], m: usize, i:
 }
 
 // Those of every variable; none where no input carries a divisor.
-pub fn columns<'a>(
-    lines: &'a [i64; 4224],
-    divisors: &'a [i64; 64],
+pub fn columns(
+    lines: &[i64; 4224],
+    divisors: &[i64; 64],
     n: usize,
     m: usize,
     divided: usize,
@@ -46,12 +46,12 @@ pub fn columns<'a>(
 }
 
 // The position of the first constraint of a mask that these bounds falsify, if it stands before `limit`; else `limit`.
-pub fn first_indivisible<'a>(
-    lines: &'a [i64; 4224],
-    divisors: &'a [i64; 64],
+pub fn first_indivisible(
+    lines: &[i64; 4224],
+    divisors: &[i64; 64],
     mask: usize,
-    lower: &'a [i64; 32],
-    upper: &'a [i64; 32],
+    lower: &[i64; 32],
+    upper: &[i64; 32],
     n: usize,
     m: usize,
     limit: usize,

@@ -29,7 +29,7 @@ pub fn row_mask(rows: &[i64], start: usize, n: usize) -> usize
 }
 
 // The variables with L < U.
-pub fn open_mask<'a>(lower: &'a [i64; 32], upper: &'a [i64; 32], n: usize) -> usize
+pub fn open_mask(lower: &[i64; 32], upper: &[i64; 32], n: usize) -> usize
     requires { n ≤ max_variables }
     ensures { Opens n lower.now upper.now result }
 {
@@ -81,7 +81,7 @@ pub fn both(a: usize, b: usize) -> usize
 }
 
 // The mask of the constraint at position j: of the m inputs, or of the cuts after them.
-pub fn mask_of<'a>(inputs: &'a [usize; 64], cuts: &'a [usize; 64], m: usize, j: usize) -> usize
+pub fn mask_of(inputs: &[usize; 64], cuts: &[usize; 64], m: usize, j: usize) -> usize
     requires { (m ≤ max_constraints) × (j < m + max_cuts) }
     ensures { (n kept : ℕ) (rows : List ℤ) → Masked n m kept rows inputs.now cuts.now → j < kept → Mentions n rows (row_length * j) result }
 {

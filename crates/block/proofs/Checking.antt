@@ -1,8 +1,8 @@
 -- A block's check as a loop adds it up, and zeros as a loop finds them.
-use Rattle.std.proofs.Common.{◌≡◌, ℕ, suc, ◌+◌, ◌*◌, ◌%◌, ◌^◌, ◌≤◌, Bool, ◌&&◌, eqb, List, [], ◌∷◌, refl, ap, ◌∙◌, arith}
+use Rattle.std.proofs.Common.{◌≡◌, ℕ, suc, ◌+◌, ◌*◌, ◌%◌, ◌^◌, ◌≤◌, eqb, List, ◌∙◌, arith}
 use native.Mathlib.Nat.{mod-add-mod}
-use Rattle.model_problems.specs.Lists.{tab, sum, all_of}
-use Rattle.model_files.specs.Bytes.{u32_at, check_offset, word_at, checksum, is_zero, zero_between}
+use Rattle.model_problems.specs.Lists.{tab, sum}
+use Rattle.model_files.specs.Bytes.{u32_at, check_offset, word_at, checksum}
 use Rattle.lists.proofs.Sum.{sum_more}
 
 -- ---- the check: the sum of the first w words plus k + 1, modulo 2^32

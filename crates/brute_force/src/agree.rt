@@ -35,13 +35,15 @@ fn is_bounded(p: &Problem, e: &Enumerated, ends: usize, set: usize) -> bool {
 
 // Whether a run with a budget is spent at its conflicts, where the first run counted more, or else answers what enumeration finds and counts as the first.
 fn is_run_right(p: &Problem, e: &Enumerated, first: &Ran, budget: usize) -> bool {
-    let r = search::run(calls::open(p, budget));
+    let Ok(r) = calls::open(p, budget).and_then(search::run) else {
+        return false;
+    };
     let same = r.count <= budget && r.count == first.count && r.propagations == first.propagations;
     match r.verdict {
         Verdict::NoSolution => same && e.found == 0,
-        Verdict::Solution => same && e.first == Some(r.values),
+        Verdict::Solution(values) => same && e.first == Some(values),
         Verdict::OutOfBudget => r.count == budget && budget < first.count,
-        _ => false,
+        Verdict::GoOn => false,
     }
 }
 
@@ -57,8 +59,8 @@ fn are_runs_right(p: &Problem, e: &Enumerated, first: &Ran) -> bool {
 fn are_cuts_right(p: &Problem, found: usize, journal: &[u8; 8192], blocks: usize) -> bool {
     let mut q = *p;
     for k in 0..16 {
-        let start = 512 * k;
-        if k < blocks && block::number::u32_at(journal, start + 4) != k + 1 {
+        let start = block::LENGTH * k;
+        if k < blocks && block::number::u32_at(journal, start + block::journal::COUNT) != k + 1 {
             return false;
         }
         for i in 0..7 {
@@ -75,34 +77,41 @@ fn are_cuts_right(p: &Problem, found: usize, journal: &[u8; 8192], blocks: usize
 // Whether a listing shows the solutions of enumeration and is complete. A last one that no decision led to is not struck out: it stands in the answer alone.
 fn is_listed(p: &Problem, e: &Enumerated, l: &Listed, buffer: &[i64; 768]) -> bool {
     let mut wanted = e.solutions;
-    match l.verdict {
+    match l.last.verdict {
         Verdict::NoSolution => l.struck == e.found && wanted.are(buffer),
-        Verdict::Solution => {
+        Verdict::Solution(values) => {
             wanted.take_last(p.n);
-            calls::is_ended(l.state)
+            calls::is_ended(l.last.state)
                 && l.struck.saturating_add(1) == e.found
-                && e.last == Some(l.values)
+                && e.last == Some(values)
                 && wanted.are(buffer)
         }
         _ => false,
     }
 }
 
-// Checks problem k of a family, prints what is wrong, and returns what it showed.
+// Checks problem k of a family, prints what is wrong, and returns what it showed. What a refused problem shows counts nothing.
 pub fn check(rt: &impl Print, p: &Problem, k: usize) -> io::Result<Sums> {
     let e = points::enumerate(p);
-    let s = calls::open(p, e.points);
-    let first = search::run(s);
+    let opened = calls::open(p, e.points);
+    let first = opened.and_then(search::run);
     let mut journal = [0u8; 8192];
-    let t = search::trace(s, &mut journal);
+    let traced = opened.and_then(|s| search::trace(s, &mut journal));
     let mut buffer = [points::MARK; 768];
-    let l = search::list(s, &mut buffer);
+    let listed = opened.and_then(|s| search::list(s, &mut buffer));
+    let (conflicts, set) = first.map_or((0, 0), |r| (r.count, r.propagations));
+    let (listed_conflicts, set_by_listing) = listed.map_or(
+        (0, 0),
+        |l| (l.last.count, l.last.propagations),
+    );
+    let blocks = traced.map_or(0, |t| t.blocks);
     let solvable = usize::from(0 < e.found);
-    let ends = first.count.saturating_add(solvable);
-    let listed = l.count.saturating_add(e.found);
-    let is_run = is_bounded(p, &e, ends, first.propagations) && are_runs_right(p, &e, &first);
-    let is_cut = t.blocks == first.count && are_cuts_right(p, e.found, &journal, t.blocks);
-    let is_listed = is_listed(p, &e, &l, &buffer) && is_bounded(p, &e, listed, l.propagations);
+    let ends = conflicts.saturating_add(solvable);
+    let listed_ends = listed_conflicts.saturating_add(e.found);
+    let is_run = is_bounded(p, &e, ends, set) && first.is_ok_and(|r| are_runs_right(p, &e, &r));
+    let is_cut = blocks == conflicts && are_cuts_right(p, e.found, &journal, blocks);
+    let is_listed = is_bounded(p, &e, listed_ends, set_by_listing)
+        && listed.is_ok_and(|l| is_listed(p, &e, &l, &buffer));
     let mut wrong = 0;
     for (what, is_right) in [("run", is_run), ("cut", is_cut), ("listing", is_listed)] {
         if !is_right {
@@ -113,9 +122,9 @@ pub fn check(rt: &impl Print, p: &Problem, k: usize) -> io::Result<Sums> {
     Ok(Sums {
         wrong,
         solvable,
-        conflicts: first.count,
+        conflicts,
         listed: e.found,
-        set: first.propagations,
-        set_by_listing: l.propagations,
+        set,
+        set_by_listing,
     })
 }

@@ -21,11 +21,11 @@ pub struct Learned {
 }
 
 // From the kept constraint in row j, which the level in hand falsifies. A cut that is new is kept, with its number and its mask.
-pub fn learn<'a>(
-    lower: &'a [i64; 32],
-    upper: &'a [i64; 32],
-    below: &'a [usize; 32],
-    above: &'a [usize; 32],
+pub fn learn(
+    lower: &[i64; 32],
+    upper: &[i64; 32],
+    below: &[usize; 32],
+    above: &[usize; 32],
     n: usize,
     m: usize,
     made: usize,

@@ -31,10 +31,10 @@ pub struct Met {
 
 // A conflict in the input in row j of the lines, which carries divisor q: nothing is learned, and the record has zeros for the cut. Returns the backjump
 // level of the constraint itself.
-fn dismiss<'a>(
-    lines: &'a [i64; 4224],
-    lowers: &'a [i64; 1056],
-    uppers: &'a [i64; 1056],
+fn dismiss(
+    lines: &[i64; 4224],
+    lowers: &[i64; 1056],
+    uppers: &[i64; 1056],
     q: i64,
     n: usize,
     j: usize,
@@ -65,13 +65,16 @@ fn dismiss<'a>(
 
 // The conflict in the kept constraint in row j, the `count`-th of the search. The cut is learned and kept, the backjump level sought outward from the
 // deepest level, and the record put as block `done` of the buffer, if records are kept. From a divisor constraint nothing is learned.
-pub fn conflict<'a>(
-    lower: &'a [i64; 32],
-    upper: &'a [i64; 32],
-    below: &'a [usize; 32],
-    above: &'a [usize; 32],
-    lines: &'a [i64; 4224],
-    divisors: &'a [i64; 64],
+// Out of line: inlined, its arrays move those that the scans read, which then take 1.05 times as long on 07-blueprint-hard.
+// Stays: its parameters one by one, as `engine::advance` holds them, each an array in hand (document 01's forms by place).
+#[inline(never)]
+pub fn conflict(
+    lower: &[i64; 32],
+    upper: &[i64; 32],
+    below: &[usize; 32],
+    above: &[usize; 32],
+    lines: &[i64; 4224],
+    divisors: &[i64; 64],
     n: usize,
     m: usize,
     made: usize,

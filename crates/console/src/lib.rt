@@ -1,8 +1,9 @@
 // What the programs do with the bytes of a problem file: print its verdict, write its journal, or print its solutions.
 #![tactic(auto)]
 
-use answers::Verdict;
+use answers::{Traced, Verdict};
 use output::Output;
+use problem::Refusal;
 use report::Line;
 use state::Search;
 use std::io::{IsTerminal, Print};
@@ -33,19 +34,10 @@ pub fn goes_on(verdict: Verdict) -> bool {
     matches!(verdict, Verdict::GoOn)
 }
 
-// Opens a file, or says the number of its error.
-fn open(file: &[u8]) -> Result<Search, usize> {
-    let opened = search::open(file);
-    match problem::error_number(opened.answer) {
-        0 => Ok(opened.state),
-        error => Err(error),
-    }
-}
-
 // Prints why a file is refused.
-fn print_refused(rt: &impl Print, stderr: &impl Print, error: usize) {
+fn print_refused(rt: &impl Print, stderr: &impl Print, refusal: Refusal) {
     let mut output = Output::new(rt);
-    output.put(Line::Refused(error));
+    output.put(Line::Refused(refusal.number()));
     output.finish(stderr);
 }
 
@@ -64,14 +56,23 @@ fn print_search(rt: &(impl Clock + Print), stderr: &(impl IsTerminal + Print), o
     let mut s = opened;
     let mut blocks = [0u8; BLOCKS_LENGTH];
     for _ in 0..MAX_TURNS {
-        let traced = search::trace(s, &mut blocks);
-        for block in blocks.chunks_exact(block::LENGTH).take(traced.blocks) {
+        // no state of an opened search is refused
+        let Ok(
+            Traced {
+                run: ran,
+                blocks: count,
+            },
+        ) = search::trace(s, &mut blocks)
+        else {
+            return;
+        };
+        for block in blocks.chunks_exact(block::LENGTH).take(count) {
             output.put(Line::end(block));
         }
-        if !goes_on(traced.verdict) {
-            output.put_verdict(traced.verdict, &traced.values, n);
-            output.put(Line::Ends(traced.count));
-            output.put(Line::Set(traced.propagations));
+        if !goes_on(ran.verdict) {
+            output.put_verdict(ran.verdict, n);
+            output.put(Line::Ends(ran.count));
+            output.put(Line::Set(ran.propagations));
             output.finish(stderr);
             return;
         }
@@ -80,37 +81,40 @@ fn print_search(rt: &(impl Clock + Print), stderr: &(impl IsTerminal + Print), o
             return;
         }
         if watch.is_due(rt) {
-            told::tell_conflicts(stderr, traced.count, budget);
+            told::tell_conflicts(stderr, ran.count, budget);
         }
-        s = traced.state;
+        s = ran.state;
     }
 }
 
 // Prints the verdict of a file, document 01's 'Writer and program'.
 pub fn print_verdict(rt: &(impl Clock + Print), stderr: &(impl IsTerminal + Print), file: &[u8]) {
-    match open(file) {
+    match search::open(file) {
         Ok(opened) => print_search(rt, stderr, opened),
-        Err(error) => print_refused(rt, stderr, error),
+        Err(refusal) => print_refused(rt, stderr, refusal),
     }
 }
 
 // Writes the journal of a file to standard output; that of a file with an error is empty.
 pub fn write_journal(rt: &impl Print, stderr: &impl Print, file: &[u8]) {
-    let Ok(mut s) = open(file) else {
+    let Ok(mut s) = search::open(file) else {
         return;
     };
     let mut blocks = [0u8; BLOCKS_LENGTH];
+    // Stays: the same loop as in print_search. Shared, it would take a closure that writes through its captures and says whether to go on: no plainer.
     for _ in 0..MAX_TURNS {
-        let traced = search::trace(s, &mut blocks);
+        let Ok(traced) = search::trace(s, &mut blocks) else {
+            return;
+        };
         // `trace` gives no more blocks than the buffer holds
         let end = traced.blocks.min(BLOCKS) * block::LENGTH;
         if rt.write_all(&blocks[..end]).is_err() {
             told::tell_output(stderr, true);
             return;
         }
-        if !goes_on(traced.verdict) {
+        if !goes_on(traced.run.verdict) {
             return;
         }
-        s = traced.state;
+        s = traced.run.state;
     }
 }

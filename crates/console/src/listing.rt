@@ -1,7 +1,7 @@
 // Every solution of a problem, in dictionary order.
 use crate::output::Output;
 use crate::told::Watch;
-use crate::{open, print_refused, told};
+use crate::{print_refused, told};
 use answers::Verdict;
 use report::Line;
 use shown::Exclusion;
@@ -45,26 +45,31 @@ fn print_listing(rt: &(impl Clock + Print), stderr: &(impl IsTerminal + Print), 
     let mut watch = Watch::new(rt, stderr);
     let mut numbers = [0i64; NUMBERS];
     let length = if watch.is_watched() { WATCHED } else { NUMBERS };
-    let mut listed = search::list(opened, &mut numbers[..length]);
+    // no state of an opened search is refused but for its count of bounds set
+    let Ok(mut listed) = search::list(opened, &mut numbers[..length]) else {
+        return;
+    };
     let mut struck: usize = 0;
     while struck < MAX_STRUCK {
         // `list` strikes out no more than the buffer holds
         let count = listed.struck.min(NUMBERS);
         put_solutions(&mut output, &numbers, count, n);
-        output.put_verdict(listed.verdict, &listed.values, n);
+        output.put_verdict(listed.last.verdict, n);
         struck += count;
-        if !matches!(listed.verdict, Verdict::Solution) {
+        if !matches!(listed.last.verdict, Verdict::Solution(_)) {
             break;
         }
-        let excluded = search::exclude(listed.state);
+        // where the state is refused for its count of bounds set, the listing is not at its end
+        let Ok(excluded) = search::exclude(listed.last.state) else {
+            break;
+        };
         match excluded.answer {
             Exclusion::Struck => {}
             Exclusion::Ended => {
                 output.put(Line::Ended);
                 break;
             }
-            // the state is refused for its count of bounds set: the listing is not at its end
-            _ => break,
+            Exclusion::Unsolved => break,
         }
         if output.has_failed() {
             told::tell_output(stderr, true);
@@ -72,20 +77,23 @@ fn print_listing(rt: &(impl Clock + Print), stderr: &(impl IsTerminal + Print), 
         }
         struck += 1;
         if watch.is_due(rt) {
-            told::tell_solutions(stderr, struck, listed.count, budget);
+            told::tell_solutions(stderr, struck, listed.last.count, budget);
         }
-        listed = search::list(excluded.state, &mut numbers[..length]);
+        let Ok(next) = search::list(excluded.state, &mut numbers[..length]) else {
+            break;
+        };
+        listed = next;
     }
-    output.put(Line::Ends(listed.count));
+    output.put(Line::Ends(listed.last.count));
     output.put(Line::Struck(struck));
-    output.put(Line::Set(listed.propagations));
+    output.put(Line::Set(listed.last.propagations));
     output.finish(stderr);
 }
 
 // Prints the solutions of a file.
 pub fn print_solutions(rt: &(impl Clock + Print), stderr: &(impl IsTerminal + Print), file: &[u8]) {
-    match open(file) {
+    match search::open(file) {
         Ok(opened) => print_listing(rt, stderr, opened),
-        Err(error) => print_refused(rt, stderr, error),
+        Err(refusal) => print_refused(rt, stderr, refusal),
     }
 }

@@ -55,13 +55,13 @@ impl<'a, P: Print> Output<'a, P> {
         self.text.put(line);
     }
 
-    // Puts a verdict's line, a solution with its first n values. 'Go on' is no verdict, and an opened search is never invalid: they have none.
-    pub(crate) fn put_verdict(&mut self, verdict: Verdict, values: &[i64; 32], n: usize) {
+    // Puts a verdict's line, a solution with its first n values. 'Go on' is no verdict, and has none.
+    pub(crate) fn put_verdict(&mut self, verdict: Verdict, n: usize) {
         match verdict {
-            Verdict::Solution => self.put(Line::Solution(&values[..n.min(values.len())])),
+            Verdict::Solution(values) => self.put(Line::Solution(&values[..n.min(values.len())])),
             Verdict::NoSolution => self.put(Line::None),
             Verdict::OutOfBudget => self.put(Line::Spent),
-            Verdict::GoOn | Verdict::Invalid => {}
+            Verdict::GoOn => {}
         }
     }
 

@@ -12,12 +12,7 @@ use layout::{MAX_CUTS, ROW, is_equal};
 const LAST_CUT: usize = MAX_CUTS - 1;
 
 // The position of the first of the kept constraints that equals the cut.
-pub fn equal_row<'a>(
-    rows: &'a [i64; 4224],
-    cut: &'a [i64; 33],
-    n: usize,
-    kept: usize,
-) -> Option<usize>
+pub fn equal_row(rows: &[i64; 4224], cut: &[i64; 33], n: usize, kept: usize) -> Option<usize>
     requires { (n ≤ max_variables) × ((kept ≤ max_rows) × ((length rows.now ≡ rows_length) × (length cut.now ≡ row_length))) }
     ensures first { first_equal 0 (tab (row_at n rows.now) 0 kept) (constraint_at n cut.now 0) ≡ found_at result }
     ensures inside { IfSome result (λ j. j < kept) }
@@ -39,7 +34,7 @@ fn keep_newest<T: Copy>(list: &mut [T], item: &[T], made: usize)
 }
 
 // The cut kept as the newest, where `made` were made before it.
-pub fn keep_row<'a>(rows: &'a mut [i64; 4224], cut: &'a [i64; 33], m: usize, made: usize)
+pub fn keep_row(rows: &mut [i64; 4224], cut: &[i64; 33], m: usize, made: usize)
     requires { (m ≤ max_constraints) × ((length rows.old ≡ rows_length) × (length cut.now ≡ row_length)) }
     ensures { RowKept m made rows.old cut.now rows.new }
 {

@@ -1,15 +1,14 @@
 -- A decision, at the level where propagation stopped.
-use Prim.Native.Nat.{ℕ, ◌+◌, ◌-◌, ◌*◌, ◌≤◌, ◌<◌, ◌^◌}
+use Prim.Native.Nat.{ℕ, ◌+◌, ◌-◌, ◌*◌, ◌≤◌, ◌<◌}
 use native.Mathlib.Omega.{arith}
 use mathlib.Core.Bool.{Bool}
 use mathlib.Core.List.{List}
-use mathlib.Core.Path.{◌≡◌, refl, sym, ap₂}
+use mathlib.Core.Path.{refl, sym, ap₂}
 use lib.IntN.{ℤ}
 use lib.ListN.{get_or, length}
 use Rattle.model_walk.specs.Search as model
 use Rattle.model_walk.specs.Move.{slack}
 use Rattle.layout.specs.Rows.{number_in, box_of}
-use Rattle.state.specs.View.{kept_cuts}
 use Rattle.state.specs.Change.{held}
 use Rattle.state.specs.declared.Level.{Level}
 use Rattle.state.specs.declared.Search.{Search}

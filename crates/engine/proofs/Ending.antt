@@ -1,17 +1,15 @@
 -- The ways out of the loop.
-use Prim.Native.Nat.{ℕ, ◌-◌, ◌*◌, ◌≤◌, ◌<◌}
+use Prim.Native.Nat.{ℕ, ◌≤◌, ◌<◌}
 use native.Mathlib.Omega.{arith}
 use mathlib.Core.Bool.{Bool, true, false}
 use mathlib.Core.List.{List}
-use mathlib.Core.Path.{◌≡◌, refl, sym, ap, subst, ◌∙◌}
+use mathlib.Core.Path.{◌≡◌, sym, ap, subst, ◌∙◌}
 use lib.IntN.{ℤ}
-use Rattle.model_problems.specs.Ranges.{max_propagations}
 use Rattle.model_walk.specs.Search as model
 use Rattle.model_walk.specs.Move.{finish}
 use Rattle.state.specs.View.{status_of, view}
 use Rattle.state.specs.declared.Level.{Level}
 use Rattle.state.specs.declared.Search.{Search}
-use Rattle.state.specs.declared.Status.{Status}
 use Rattle.state.specs.declared.Status.TheVariants.{Solved}
 use Rattle.propagate.specs.Moves.{stop_of}
 use Rattle.propagate.specs.declared.propagate.Found.{Found}
@@ -24,7 +22,7 @@ use Rattle.turns.proofs.Rounds.{depth_small}
 use Rattle.turns.proofs.Striking.{Struck, started, go_on_lem, last-final, not_last, none_kept}
 use Rattle.turns.specs.declared.Ending.TheVariants.{Solution}
 use Rattle.engine.specs.Given.{GivenOf}
-use Rattle.engine.specs.Walk.{Fresh, Begins, On, RunningAt, SameTurns, Stopped, Spare, CountedOn, Endable, Ran}
+use Rattle.engine.specs.Walk.{Fresh, Begins, On, RunningAt, Stopped, Spare, CountedOn, Endable, Ran}
 use Rattle.engine.specs.declared.given.Given.{Given}
 use Rattle.engine.specs.declared.walk.Walk.{Walk}
 use Rattle.engine.proofs.Going.{at_conflict, at_finish, given_same, moved}

@@ -1,11 +1,11 @@
 -- Back at the level above, with its decision flipped.
-use Prim.Native.Nat.{ℕ, ◌+◌, ◌-◌, ◌≤◌, ◌<◌}
+use Prim.Native.Nat.{ℕ, ◌-◌, ◌≤◌, ◌<◌}
 use native.Mathlib.Omega.{arith}
 use mathlib.Core.Bool.{false}
 use mathlib.Core.List.{List, []}
-use mathlib.Core.Path.{◌≡◌, refl, sym, subst}
+use mathlib.Core.Path.{◌≡◌, sym, subst}
 use lib.IntN.{ℤ, pos}
-use lib.ListN.{get_or, length}
+use lib.ListN.{get_or}
 use Rattle.model_problems.specs.Constraint.{falsified}
 use Rattle.layout.specs.Rows.{input_at, box_of}
 use Rattle.state.specs.Change.{Whole, held}

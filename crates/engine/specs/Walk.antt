@@ -1,6 +1,6 @@
 -- A call's walk at each step of its loop: where the turns have come, and where propagation stopped; going back to an earlier level; and the end. The state
 -- is changed in place, but for the level in hand.
-use Rattle.std.specs.Prelude.{ℕ, ◌+◌, ◌-◌, ◌*◌, ◌≤◌, ◌<◌, ◌^◌, Bool, true, false, List, [], ◌⊎◌, ◌≡◌, T, ℤ, pos, get_or, set, length, replicate}
+use Rattle.std.specs.Prelude.{ℕ, ◌+◌, ◌-◌, ◌*◌, ◌≤◌, ◌<◌, ◌^◌, Bool, true, false, List, ◌⊎◌, ◌≡◌, T, ℤ, pos, get_or, set, length, replicate}
 use Rattle.model_problems.specs.Lists.{all_of}
 use Rattle.model_problems.specs.Ranges.{max_variables, max_constraints, max_propagations}
 use Rattle.model_problems.specs.Problem.{bounds_in_range}
@@ -31,7 +31,7 @@ use Rattle.turns.proofs.Running.{Running}
 use Rattle.turns.proofs.Arms.{state_at, Reaches}
 use Rattle.turns.proofs.Carrying.{ClearFrom, Carried}
 use Rattle.turns.proofs.Striking.{Struck}
-use Rattle.engine.specs.Given.{Sorted, GivenOf, Taken}
+use Rattle.engine.specs.Given.{Sorted, GivenOf}
 use Rattle.engine.specs.declared.given.Given.{Given}
 use Rattle.engine.specs.declared.carried.Track.{Track}
 use Rattle.engine.specs.declared.walk.Walk.{Walk}

@@ -12,7 +12,7 @@ use state::{Search, Status};
 use turns::{Advanced, Ending};
 
 // At most `limit` turns, to a verdict, the first `room` solutions struck out on the way. The block of each counted conflict goes to the buffer, if blocks
-// are kept.
+// are kept. The state changes in place.
 pub fn advance(
     mut s: Search,
     buffer: &mut [u8],
@@ -38,7 +38,7 @@ pub fn advance(
     }
 }
 
-// The turns that are left, or up to a verdict.
+// As many turns as are left, or up to a verdict, which marks the state.
 fn run(
     walk: &mut Walk,
     given: &Given,

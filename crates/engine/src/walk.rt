@@ -1,4 +1,4 @@
-// The walk that a call takes.
+// The walk that a call takes, and its steps. It is large, so it is filled where it lies; the state that it walks from is lent.
 ghost use Rattle.std.specs.Prelude.{◌≡◌, ◌+◌, ◌≤◌, ◌<◌, ◌^◌, [], false};
 ghost use Rattle.model_problems.specs.Ranges.{max_variables};
 ghost use Rattle.state.specs.View.{view};
@@ -83,7 +83,7 @@ impl Walk {
         }
     }
 
-    // The divisor constraints are blanked among the rows, and the constraints and the levels above are looked at once.
+    // The divisor constraints are blanked among the rows, and what is carried is filled in.
     pub(crate) fn begin(&mut self, given: &Given, s: &mut Search)
         requires taken { Taken s.old s.old.rows given.now }
         requires startable { Starts s.old 0 false 0 [] [] }
@@ -128,7 +128,7 @@ impl Walk {
         self.masks.cuts = marks(&s.rows, given.n, given.m, kept - given.m);
     }
 
-    // Propagation at the level in hand.
+    // Propagation at the level in hand. Returns where it stops.
     pub(crate) fn propagate(&mut self, given: &Given, s: &mut Search) -> Found
         requires { Underway given.now s.old self.old }
         ensures { Propagates given.now s.old self.old s.new self.new result }
@@ -192,7 +192,7 @@ impl Walk {
         s.depth += 1;
     }
 
-    // The solution in hand is put among the others, and the search goes on as if it were none.
+    // The solution in hand is put among the others, and the search goes back as if it were none.
     pub(crate) fn strike_out(&mut self, given: &Given, s: &mut Search, solutions: &mut [i64])
         requires { Strikable given.now s.old self.old solutions.old }
         ensures { StrikesOut given.now s.old self.old solutions.old s.new self.new solutions.new }
@@ -318,13 +318,7 @@ impl Walk {
         ensures { view s.new ≡ state_of given.now s.old self.now }
     {
         s.levels[self.turn.start] = self.turn.before;
-        put_rows(
-            given.lines,
-            &given.divisors,
-            given.n,
-            given.m,
-            &mut s.rows,
-        );
+        put_rows(given.lines, &given.divisors, given.n, given.m, &mut s.rows);
         s.depth = self.turn.start;
         s.propagations = self.turn.earlier;
     }

@@ -20,13 +20,13 @@ pub struct BackjumpLevel {
 
 // The backjump level of a cut, or of a constraint with divisor q, that the level at `depth` falsifies: the least depth whose level falsifies it. Each
 // level lies inside the one above it, so the levels that falsify it are the deepest ones, and the first that does not ends the search.
-pub fn backjump_level<'a>(
-    cut: &'a [i64; 33],
+pub fn backjump_level(
+    cut: &[i64; 33],
     q: i64,
     n: usize,
     depth: usize,
-    lowers: &'a [i64],
-    uppers: &'a [i64],
+    lowers: &[i64],
+    uppers: &[i64],
 ) -> BackjumpLevel
     requires { DivisorFits q × ((RowFits n cut.now 0) × ((depth ≤ max_variables) × ((LevelsNested n depth lowers.now uppers.now) × (falsified (divided_at n cut.now 0 q) (box_in n lowers.now uppers.now depth) ≡ true)))) }
     ensures { (LeastFalsifying (divided_at n cut.now 0 q) n depth lowers.now uppers.now result.level) × (result.tested ≡ levels_tested depth result.level) }

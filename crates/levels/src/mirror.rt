@@ -11,9 +11,9 @@ use state::Level;
 pub(crate) const ROOM: usize = MAX_VARIABLES;
 
 // The bounds of the level at depth t are kept.
-pub fn keep_bounds<'a>(
-    lower: &'a [i64; 32],
-    upper: &'a [i64; 32],
+pub fn keep_bounds(
+    lower: &[i64; 32],
+    upper: &[i64; 32],
     t: usize,
     lowers: &mut [i64; 1056],
     uppers: &mut [i64; 1056],

@@ -14,7 +14,7 @@ pub fn is_last(depth: usize, struck: usize, room: usize, propagations: usize) ->
 }
 
 // The values of the solution that is struck out after `struck` others, n numbers after theirs.
-pub fn put_values<'a>(values: &'a [i64; 32], n: usize, struck: usize, solutions: &mut [i64])
+pub fn put_values(values: &[i64; 32], n: usize, struck: usize, solutions: &mut [i64])
     requires { (n ≤ max_variables) × (n * struck + n ≤ length solutions.old) }
     ensures { ValuesPut n struck values.now solutions.old solutions.new }
 {

@@ -70,7 +70,7 @@ pub enum Bound {
 
 // The bound that a constraint implies for a variable with coefficient a, not 0, p being its minimum activity without the variable: 'v ≤ −p/a rounded
 // down' for a > 0, and 'v ≥ p/|a| rounded up' for a < 0.
-pub fn implied_bound(p: i64, a: i64) -> Bound
+fn implied_bound(p: i64, a: i64) -> Bound
     requires { ImpliedFits p a × ¬ (a ≡ pos 0) }
     ensures { result ≡ implied_of p a }
 {

@@ -54,6 +54,7 @@ pub fn is_falsified(
     requires box_fits { BoxFits n lower.now upper.now }
     ensures { result ≡ falsified (divided_at n rows.now start q) (box_of n lower.now upper.now) }
 {
+    // Stays: the divisor 0 stands for none, as in a file and in the model's `Constraint.divisor` (`DivisorFits`).
     if q == 0 {
         return activity::is_falsified(rows, start, lower, upper, n);
     }

@@ -1,84 +1,52 @@
-// The product's calls, for the rest of the program: an error is its number, 0 for none, and stands beside what the call gives with it.
-use answers::{Listed, Ran};
-use problem::Problem;
-use shown::{Exclusion, Stepped};
+// The product's calls, for the rest of the program.
+use answers::{Ran, Verdict};
+use problem::Refusal;
+use shown::Stepped;
 use state::Search;
 
-pub(crate) fn read(file: &[u8]) -> (usize, Problem) {
-    let reading = reading::read(file);
-    (problem::error_number(reading.answer), reading.problem)
+// The number of a refusal, 0 for none.
+pub(crate) fn number<T>(result: &Result<T, Refusal>) -> usize {
+    match result {
+        Ok(_) => 0,
+        Err(refusal) => refusal.number(),
+    }
 }
 
-pub(crate) fn write(p: &Problem, buffer: &mut [u8]) -> usize {
-    problem::error_number(writing::write(*p, buffer))
+// What a call gave: the run's part of its answer, none where the state was refused, and what else.
+pub(crate) type Given<T> = (Option<Ran>, T);
+
+// A step, and the journal block, if a conflict was counted.
+pub(crate) fn step(s: &Search) -> Given<Option<[u8; 512]>> {
+    match search::step(*s) {
+        Ok(Stepped { run, block }) => (Some(run), block),
+        Err(_) => (None, None),
+    }
 }
 
-pub(crate) fn check(p: &Problem) -> usize {
-    problem::error_number(problem::check(*p))
+pub(crate) fn run(s: &Search) -> Option<Ran> {
+    search::run(*s).ok()
 }
 
-pub(crate) fn open(file: &[u8]) -> (usize, Search) {
-    let opened = search::open(file);
-    (problem::error_number(opened.answer), opened.state)
+// A trace, and how many blocks it gave.
+pub(crate) fn trace(s: &Search, bytes: &mut [u8]) -> Given<usize> {
+    match search::trace(*s, bytes) {
+        Ok(traced) => (Some(traced.run), traced.blocks),
+        Err(_) => (None, 0),
+    }
 }
 
-pub(crate) fn begin(p: &Problem) -> (usize, Search) {
-    let opened = search::open_problem(*p);
-    (problem::error_number(opened.answer), opened.state)
+// A listing, and how many solutions were struck out.
+pub(crate) fn list(s: &Search, numbers: &mut [i64]) -> Given<usize> {
+    match search::list(*s, numbers) {
+        Ok(listed) => (Some(listed.last), listed.struck),
+        Err(_) => (None, 0),
+    }
 }
 
-pub(crate) fn exclude(s: &Search) -> (Exclusion, Search) {
-    let excluded = search::exclude(*s);
-    (excluded.answer, excluded.state)
-}
-
-// A step's answer, and the journal block, if one was recorded.
-pub(crate) fn step(s: &Search) -> (Ran, Option<[u8; 512]>) {
-    let Stepped {
-        verdict,
-        values,
-        count,
-        propagations,
-        recorded,
-        block,
-        state,
-    } = search::step(*s);
-    let ran = Ran {
-        verdict,
-        values,
-        count,
-        propagations,
-        state,
-    };
-    (ran, recorded.then_some(block))
-}
-
-pub(crate) fn run(s: &Search) -> Ran {
-    search::run(*s)
-}
-
-// A trace's answer, and how many blocks it gave.
-pub(crate) fn trace(s: &Search, bytes: &mut [u8]) -> (Ran, usize) {
-    let t = search::trace(*s, bytes);
-    (answers::without_blocks(t), t.blocks)
-}
-
-// A listing's answer, and how many solutions were struck out.
-pub(crate) fn list(s: &Search, numbers: &mut [i64]) -> (Ran, usize) {
-    let Listed {
-        struck,
-        verdict,
-        values,
-        count,
-        propagations,
-        state,
-    } = search::list(*s, numbers);
-    let ran = Ran {
-        verdict,
-        values,
-        count,
-        propagations,
-        state,
-    };
-    (ran, struck)
+// The values of a solution, zeros where there is none.
+pub(crate) fn values(ran: &Ran) -> [i64; 32] {
+    match ran.verdict {
+        Verdict::Solution(values) => values,
+        _ => [0; 32],
+    }
 }

@@ -2,7 +2,7 @@
 ghost use Rattle.std.specs.Prelude.{◌≤◌, OnOk};
 
 use crate::script::{Failure, Fault, no_numbers, numbers, one_number};
-use crate::{calls, state_words};
+use crate::{calls, state_words, states};
 use problem::Problem;
 use state::Search;
 use std::io;
@@ -32,25 +32,26 @@ impl Command {
 
 // check
 fn check(rt: &impl Print, p: &Problem) -> io::Result<()> {
-    let error = calls::check(p);
+    let error = calls::number(&problem::check(*p));
     println!(rt; "check {error}")
 }
 
 // begin
 fn begin(rt: &impl Print, p: &Problem, state: &mut Search) -> io::Result<()> {
-    let (error, opened) = calls::begin(p);
-    let digest = state_words::digest(&opened)?;
-    *state = opened;
+    let opened = search::open_problem(*p);
+    let error = calls::number(&opened);
+    *state = opened.unwrap_or(states::ZEROS);
+    let digest = state_words::digest(state)?;
     println!(rt; "begin {error} digest {digest}")
 }
 
 // What stands in row j of the arrays, with its divisor.
 fn row_at(p: &Problem, j: usize) -> Result<([i64; 33], i64), Fault> {
-    if 64 <= j {
+    if layout::MAX_CONSTRAINTS <= j {
         return Err(Fault::Range);
     }
     let mut row = [0i64; 33];
-    row.copy_from_slice(&p.constraints[33 * j..33 * j + 33]);
+    row.copy_from_slice(&p.constraints[layout::ROW * j..layout::ROW * (j + 1)]);
     Ok((row, p.divisors[j]))
 }
 

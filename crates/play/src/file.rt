@@ -1,10 +1,8 @@
 // The file, and the commands that make, change and read it.
 use crate::script::{Failure, Fault, at_most, next_word, no_numbers, numbers, one_number};
-use crate::{calls, plan, state_words};
+use crate::{Player, calls, plan, state_words, states};
 use block::build;
 use filling::read_full;
-use problem::Problem;
-use state::Search;
 use std::fs::File;
 use std::io::{Error, ErrorKind, IsTerminal};
 use std::rt::Files;
@@ -108,53 +106,55 @@ impl Loaded {
     }
 }
 
-// read
-fn read(rt: &impl Print, file: &[u8], problem: &mut Problem) -> io::Result<()> {
-    let (error, read) = calls::read(file);
-    let digest = plan::digest(&read);
-    *problem = read;
-    println!(rt; "read {error} digest {digest}")
-}
-
-// open
-fn open(rt: &impl Print, file: &[u8], state: &mut Search) -> io::Result<()> {
-    let (error, opened) = calls::open(file);
-    let digest = state_words::digest(&opened)?;
-    *state = opened;
-    println!(rt; "open {error} digest {digest}")
-}
-
-pub(crate) fn play(
-    rt: &(impl Clock + Files + Print),
-    stderr: &(impl IsTerminal + Print),
-    command: Command,
-    rest: &[u8],
-    file: &mut Loaded,
-    problem: &mut Problem,
-    state: &mut Search,
-) -> Result<(), Failure> {
-    match command {
-        Command::Load => file.load(rt, rest)?,
-        Command::Length => file.set_length(rest)?,
-        Command::Byte => file.put_byte(rest)?,
-        Command::Word => file.put_word(rest)?,
-        Command::Seal => file.seal(rest)?,
-        Command::Read => {
-            no_numbers(rest)?;
-            read(rt, file.content(), problem)?;
-        }
-        Command::Open => {
-            no_numbers(rest)?;
-            open(rt, file.content(), state)?;
-        }
-        Command::Verdict => {
-            no_numbers(rest)?;
-            console::print_verdict(rt, stderr, file.content());
-        }
-        Command::Solutions => {
-            no_numbers(rest)?;
-            console::print_solutions(rt, stderr, file.content());
-        }
+impl Player {
+    // read
+    fn read(&mut self, rt: &impl Print) -> io::Result<()> {
+        let read = reading::read(self.file.content());
+        let error = calls::number(&read);
+        self.problem = read.unwrap_or(plan::ZEROS);
+        let digest = plan::digest(&self.problem);
+        println!(rt; "read {error} digest {digest}")
     }
-    Ok(())
+
+    // open
+    fn open(&mut self, rt: &impl Print) -> io::Result<()> {
+        let opened = search::open(self.file.content());
+        let error = calls::number(&opened);
+        self.state = opened.unwrap_or(states::ZEROS);
+        let digest = state_words::digest(&self.state)?;
+        println!(rt; "open {error} digest {digest}")
+    }
+
+    pub(crate) fn play_file(
+        &mut self,
+        rt: &(impl Clock + Files + Print),
+        stderr: &(impl IsTerminal + Print),
+        command: Command,
+        rest: &[u8],
+    ) -> Result<(), Failure> {
+        match command {
+            Command::Load => self.file.load(rt, rest)?,
+            Command::Length => self.file.set_length(rest)?,
+            Command::Byte => self.file.put_byte(rest)?,
+            Command::Word => self.file.put_word(rest)?,
+            Command::Seal => self.file.seal(rest)?,
+            Command::Read => {
+                no_numbers(rest)?;
+                self.read(rt)?;
+            }
+            Command::Open => {
+                no_numbers(rest)?;
+                self.open(rt)?;
+            }
+            Command::Verdict => {
+                no_numbers(rest)?;
+                console::print_verdict(rt, stderr, self.file.content());
+            }
+            Command::Solutions => {
+                no_numbers(rest)?;
+                console::print_solutions(rt, stderr, self.file.content());
+            }
+        }
+        Ok(())
+    }
 }

@@ -62,15 +62,7 @@ impl Player {
         rest: &[u8],
     ) -> Result<(), Failure> {
         if let Some(command) = file::Command::named(word) {
-            return file::play(
-                rt,
-                stderr,
-                command,
-                rest,
-                &mut self.file,
-                &mut self.problem,
-                &mut self.state,
-            );
+            return self.play_file(rt, stderr, command, rest);
         }
         if let Some(command) = plan::Command::named(word) {
             return plan::play(rt, command, rest, &mut self.problem);

@@ -3,7 +3,7 @@ use crate::digest::Digest;
 use crate::script::{Failure, at_most, no_numbers, numbers, one_number};
 use crate::{calls, state_words};
 use answers::{Ran, Verdict};
-use shown::Exclusion;
+use shown::{Excluded, Exclusion};
 use state::Search;
 use std::io;
 
@@ -33,32 +33,29 @@ impl Command {
     }
 }
 
-pub(crate) fn is_refused(ran: &Ran) -> bool {
-    matches!(ran.verdict, Verdict::Invalid)
-}
-
-// The digest of an answer: its values, of a refusal its counts, and what else it gave: always, or of a refusal alone.
-fn digest_of(ran: &Ran, counted: Option<usize>) -> Digest {
+// The digest of an answer: its values. A refusal is so many zeros.
+fn digest_of(ran: Option<&Ran>, zeros: usize) -> Digest {
     let mut digest = Digest::NONE;
-    digest.add_words(&ran.values);
-    if is_refused(ran) {
-        digest.add_words(&[ran.count, ran.propagations]);
-        if let Some(count) = counted {
-            digest.add_word(count);
+    match ran {
+        Some(ran) => digest.add_words(&calls::values(ran)),
+        None => {
+            for _ in 0..zeros {
+                digest.add_word(0);
+            }
         }
     }
     digest
 }
 
-// Prints an answer that is no refusal, with as many values of a solution as there are variables.
+// Prints an answer, with as many values of a solution as there are variables.
 pub(crate) fn show_answer(rt: &impl Print, ran: &Ran) -> io::Result<()> {
     match ran.verdict {
         Verdict::GoOn => print!(rt; " go on")?,
         Verdict::NoSolution => print!(rt; " none")?,
         Verdict::OutOfBudget => print!(rt; " spent")?,
-        _ => {
+        Verdict::Solution(values) => {
             print!(rt; " solution")?;
-            for value in ran.values.iter().take(ran.state.n) {
+            for value in values.iter().take(ran.state.n) {
                 print!(rt; " {value}")?;
             }
         }
@@ -75,45 +72,43 @@ fn show_kept(rt: &impl Print, before: &Search, after: &Search) -> io::Result<()>
     }
 }
 
-// Prints the rest of a call's line, with what it counts besides.
+// Prints the rest of a call's line, with what it counts besides, and returns the state after it. Where the state is refused it stays as it was.
 fn finish(
     rt: &impl Print,
     before: &Search,
-    ran: &Ran,
+    ran: Option<Ran>,
     counted: Option<(&str, usize)>,
-    digest: Digest,
-) -> io::Result<()> {
-    let mut digest = digest;
-    if is_refused(ran) {
-        print!(rt; " refused 9")?;
-        show_kept(rt, before, &ran.state)?;
-    } else {
-        show_answer(rt, ran)?;
-        if let Some((what, count)) = counted {
-            print!(rt; " {what} {count}")?;
-        }
-        state_words::add_read(&mut digest, &ran.state)?;
+    mut digest: Digest,
+) -> io::Result<Search> {
+    let Some(ran) = ran else {
+        println!(rt; " refused 9 same digest {digest}")?;
+        return Ok(*before);
+    };
+    show_answer(rt, &ran)?;
+    if let Some((what, count)) = counted {
+        print!(rt; " {what} {count}")?;
     }
-    println!(rt; " digest {digest}")
+    state_words::add_read(&mut digest, &ran.state)?;
+    println!(rt; " digest {digest}")?;
+    Ok(ran.state)
 }
 
 // step
 fn step(rt: &impl Print, s: &Search) -> io::Result<Search> {
     let (ran, block) = calls::step(s);
-    let mut digest = digest_of(&ran, None);
+    let mut digest = digest_of(ran.as_ref(), 34);
     digest.add_word(usize::from(block.is_some()));
     digest.add_bytes(&block.unwrap_or([0; 512]));
     print!(rt; "step")?;
-    finish(rt, s, &ran, None, digest)?;
-    Ok(ran.state)
+    finish(rt, s, ran, None, digest)
 }
 
 // run
 fn run(rt: &impl Print, s: &Search) -> io::Result<Search> {
     let ran = calls::run(s);
+    let digest = digest_of(ran.as_ref(), 34);
     print!(rt; "run")?;
-    finish(rt, s, &ran, None, digest_of(&ran, None))?;
-    Ok(ran.state)
+    finish(rt, s, ran, None, digest)
 }
 
 // trace L
@@ -121,11 +116,10 @@ fn trace(rt: &impl Print, length: usize, s: &Search) -> io::Result<Search> {
     let mut buffer = [238u8; 65536];
     let bytes = &mut buffer[..length.min(65536)];
     let (ran, blocks) = calls::trace(s, bytes);
-    let mut digest = digest_of(&ran, Some(blocks));
+    let mut digest = digest_of(ran.as_ref(), 35);
     digest.add_bytes(bytes);
     print!(rt; "trace")?;
-    finish(rt, s, &ran, Some(("blocks", blocks)), digest)?;
-    Ok(ran.state)
+    finish(rt, s, ran, Some(("blocks", blocks)), digest)
 }
 
 // list L
@@ -133,11 +127,10 @@ fn list(rt: &impl Print, length: usize, s: &Search) -> io::Result<Search> {
     let mut buffer = [NUMBER; 8192];
     let numbers = &mut buffer[..length.min(8192)];
     let (ran, struck) = calls::list(s, numbers);
-    let mut digest = digest_of(&ran, Some(struck));
+    let mut digest = digest_of(ran.as_ref(), 35);
     digest.add_words(numbers);
     print!(rt; "list")?;
-    finish(rt, s, &ran, Some(("struck", struck)), digest)?;
-    Ok(ran.state)
+    finish(rt, s, ran, Some(("struck", struck)), digest)
 }
 
 fn show_unstruck(rt: &impl Print, answer: &str, before: &Search, after: &Search) -> io::Result<()> {
@@ -147,19 +140,21 @@ fn show_unstruck(rt: &impl Print, answer: &str, before: &Search, after: &Search)
 
 // exclude
 fn exclude(rt: &impl Print, s: &Search) -> io::Result<Search> {
-    let (answer, after) = calls::exclude(s);
     print!(rt; "exclude")?;
+    let Ok(Excluded { answer, state }) = search::exclude(*s) else {
+        println!(rt; " refused 9 same")?;
+        return Ok(*s);
+    };
     match answer {
         Exclusion::Struck => {
-            let digest = state_words::digest(&after)?;
+            let digest = state_words::digest(&state)?;
             print!(rt; " struck digest {digest}")?;
         }
-        Exclusion::Ended => show_unstruck(rt, "ended", s, &after)?,
-        Exclusion::Unsolved => show_unstruck(rt, "no form", s, &after)?,
-        Exclusion::Invalid => show_unstruck(rt, "refused 9", s, &after)?,
+        Exclusion::Ended => show_unstruck(rt, "ended", s, &state)?,
+        Exclusion::Unsolved => show_unstruck(rt, "no form", s, &state)?,
     }
     println!(rt)?;
-    Ok(after)
+    Ok(state)
 }
 
 // each L K

@@ -93,7 +93,7 @@ fn write(rt: &impl Print, rest: &[u8], p: &Problem) -> Result<(), Failure> {
     let length = at_most(length, 65536)?;
     let mut bytes = [238u8; 65536];
     let buffer = &mut bytes[..length];
-    let error = calls::write(p, buffer);
+    let error = calls::number(&writing::write(*p, buffer));
     let mut digest = Digest::NONE;
     digest.add_bytes(buffer);
     println!(rt; "write {error} digest {digest}")?;

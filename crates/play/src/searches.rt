@@ -1,10 +1,10 @@
 // The commands that call until there is a verdict.
 use crate::calls;
 use crate::digest::Digest;
-use crate::one_call::{is_refused, show_answer};
+use crate::one_call::show_answer;
 use crate::script::{Failure, Fault, at_most, no_numbers, numbers, one_number};
 use answers::{Ran, Verdict};
-use shown::Exclusion;
+use shown::{Excluded, Exclusion};
 use state::Search;
 use std::io;
 
@@ -33,12 +33,13 @@ enum Way {
     List(usize),
 }
 
-// Whether to call again; `Ended` where the last solution was struck out as the last of all.
+// Whether to call again; `Ended` where the last solution was struck out as the last of all, `Refused` where the state was refused.
 #[derive(Clone, Copy, PartialEq, Eq)]
 enum Next {
     Call,
     Stop,
     Ended,
+    Refused,
 }
 
 // Where the calls have come: what the last gave, the digest of the blocks or the solutions, and how many solutions were shown.
@@ -55,7 +56,6 @@ impl Searched {
         Searched {
             last: Ran {
                 verdict: Verdict::GoOn,
-                values: [0; 32],
                 count: 0,
                 propagations: 0,
                 state: *s,
@@ -66,8 +66,12 @@ impl Searched {
         }
     }
 
-    // Takes a call's answer.
-    fn take(&mut self, ran: Ran) {
+    // Takes a call's answer, if the state was not refused.
+    fn take(&mut self, ran: Option<Ran>) {
+        let Some(ran) = ran else {
+            self.next = Next::Refused;
+            return;
+        };
         self.next = if console::goes_on(ran.verdict) {
             Next::Call
         } else {
@@ -94,25 +98,29 @@ impl Searched {
     // A solution that ends a listing is struck out.
     fn list(&mut self, numbers: &mut [i64]) {
         let (ran, struck) = calls::list(&self.last.state, numbers);
-        let end = struck.saturating_mul(ran.state.n).min(numbers.len());
+        let end = struck.saturating_mul(self.last.state.n).min(numbers.len());
         self.digest.add_words(&numbers[..end]);
         self.shown = self.shown.saturating_add(struck);
         self.take(ran);
-        if let Verdict::Solution = self.last.verdict {
-            self.strike();
+        if self.next == Next::Stop {
+            if let Verdict::Solution(values) = self.last.verdict {
+                self.strike(&values);
+            }
         }
     }
 
-    fn strike(&mut self) {
-        let (answer, state) = calls::exclude(&self.last.state);
-        self.digest.add_words(&self.last.values[..state.n.min(32)]);
+    fn strike(&mut self, values: &[i64; 32]) {
+        let n = self.last.state.n.min(32);
+        self.digest.add_words(&values[..n]);
         self.shown = self.shown.saturating_add(1);
-        self.last.state = state;
-        self.next = match answer {
-            Exclusion::Struck => Next::Call,
-            Exclusion::Ended => Next::Ended,
-            _ => Next::Stop,
-        };
+        if let Ok(Excluded { answer, state }) = search::exclude(self.last.state) {
+            self.last.state = state;
+            self.next = match answer {
+                Exclusion::Struck => Next::Call,
+                Exclusion::Ended => Next::Ended,
+                Exclusion::Unsolved => Next::Stop,
+            };
+        }
     }
 
     fn call(&mut self, way: Way) {
@@ -151,7 +159,7 @@ fn play_search(rt: &impl Print, way: Way, s: &mut Search) -> io::Result<()> {
         Way::Trace(_) => print!(rt; "traces")?,
         Way::List(_) => print!(rt; "lists")?,
     }
-    if is_refused(&searched.last) {
+    if searched.next == Next::Refused {
         return println!(rt; " refused 9");
     }
     if let Way::List(_) = way {

@@ -47,12 +47,13 @@ fn give_level(sink: &mut impl Sink, level: &Level, n: usize) -> io::Result<()> {
 }
 
 fn give_levels(sink: &mut impl Sink, s: &Search) -> io::Result<()> {
-    for d in 0..33 {
-        if d <= s.depth {
-            give_level(sink, &s.levels[d], s.n)?;
-            if 0 < d {
-                sink.take(s.levels[d].decided)?;
-            }
+    for (d, level) in s.levels.iter().enumerate() {
+        if s.depth < d {
+            break;
+        }
+        give_level(sink, level, s.n)?;
+        if 0 < d {
+            sink.take(level.decided)?;
         }
     }
     Ok(())
@@ -87,7 +88,11 @@ fn give_read(sink: &mut impl Sink, s: &Search) -> io::Result<()> {
     give(sink, &s.thresholds, s.n)?;
     give(sink, &s.divisors, s.m)?;
     give(sink, &s.numbers, cuts)?;
-    for row in s.rows.chunks_exact(33).take(s.m.saturating_add(cuts)) {
+    for row in s
+        .rows
+        .chunks_exact(layout::ROW)
+        .take(s.m.saturating_add(cuts))
+    {
         give(sink, row, s.n.saturating_add(1))?;
     }
     give_levels(sink, s)
@@ -135,7 +140,7 @@ pub(crate) fn litter(s: &mut Search, word: usize) {
     fill_from(&mut s.thresholds, n, word);
     fill_from(&mut s.divisors, m, word);
     fill_from(&mut s.numbers, cuts, word);
-    for (j, row) in s.rows.chunks_exact_mut(33).enumerate() {
+    for (j, row) in s.rows.chunks_exact_mut(layout::ROW).enumerate() {
         let is_read = j < m.saturating_add(cuts);
         fill_from(row, if is_read { n.saturating_add(1) } else { 0 }, word);
     }

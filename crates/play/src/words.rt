@@ -34,9 +34,12 @@ pub(crate) fn put<T: Word>(list: &mut [T], at: [usize; 2]) -> Result<(), Fault> 
     Ok(())
 }
 
-// Puts a number in a row of 33 numbers.
+// Puts a number in a row.
 pub(crate) fn put_in_row(rows: &mut [i64], at: [usize; 3]) -> Result<(), Fault> {
     let [j, i, word] = at;
-    let row = rows.chunks_exact_mut(33).nth(j).ok_or(Fault::Range)?;
+    let row = rows
+        .chunks_exact_mut(layout::ROW)
+        .nth(j)
+        .ok_or(Fault::Range)?;
     put(row, [i, word])
 }

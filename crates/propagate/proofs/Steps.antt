@@ -1,17 +1,16 @@
 -- One turn of propagation's loop: a bound that is set keeps what propagation asks, leaves its answer as it was, and lowers the slack.
-use Prim.Native.Nat.{ℕ, ◌+◌, ◌<◌}
+use Prim.Native.Nat.{ℕ, suc, ◌+◌, ◌<◌}
 use native.Mathlib.Omega.{arith}
 use native.Mathlib.Numerals.{add-one}
 use mathlib.Core.List.{List}
-use mathlib.Core.Path.{◌≡◌, sym, ap, ap₂, subst, ◌∙◌}
+use mathlib.Core.Path.{◌≡◌, sym, ap, subst, ◌∙◌}
 use lib.Dec.{lit≤}
-use lib.IntN.{ℤ, ◌-ℤ◌}
+use lib.IntN.{ℤ}
 use lib.ListN.{length, length-set}
-use Rattle.model_problems.specs.Constraint.{Constraint, Box, set_lower, set_upper}
-use Rattle.model_problems.specs.Threshold.{threshold_at, lifted, sunk}
+use Rattle.model_problems.specs.Constraint.{Constraint, Box}
+use Rattle.model_problems.specs.Threshold.{lifted, sunk}
 use Rattle.model_walk.specs.Search as model
 use Rattle.model_walk.specs.Move.{Move, conflict, new_lower, new_upper, decide, finish, next_move, slack}
-use Rattle.integer.specs.Parts.{◌⊑◌}
 use Rattle.integer.specs.Size.{Within, weaken}
 use Rattle.lists.proofs.Bools.{true_of}
 use Rattle.linear.specs.Ranges.{widest_change}
@@ -19,7 +18,7 @@ use Rattle.linear.proofs.Ranges.{lower-within, upper-within}
 use Rattle.layout.specs.Rows.{number_in, box_of, thresholds_of}
 use Rattle.layout.proofs.Rows.{length-box, lower-at, upper-at, box-lower, box-upper}
 use Rattle.state.specs.View.{kept_cuts, level_of, number_for}
-use Rattle.state.specs.Change.{Whole, raised, lowered}
+use Rattle.state.specs.Change.{Whole}
 use Rattle.state.specs.declared.Level.{Level}
 use Rattle.state.proofs.Levels.{threshold-at, level-raised, level-lowered}
 use Rattle.validity.proofs.Thresholds.{lifts, sinks, Outside, outside-in, outside-out}
@@ -36,7 +35,7 @@ use Rattle.propagate.specs.Tracked.{ScanFits}
 use Rattle.linear.specs.declared.activity.Bound.{Bound}
 use Rattle.linear.specs.declared.activity.Bound.TheVariants.{Lower, Upper}
 use Rattle.linear.specs.Improvement.{move_at}
-use Rattle.propagate.specs.Bounds.{Settable, SettableAt, rise_of, fall_of, bounded, past_gap}
+use Rattle.propagate.specs.Bounds.{SettableAt, rise_of, fall_of, bounded, past_gap}
 use Rattle.propagate.proofs.Tracking.{number_same, rise-size, fall-size, Closes, raised-closes, lowered-closes}
 use Rattle.propagate.proofs.Fuel.{propagation-next}
 use Rattle.propagate.proofs.Numbers.{number-reason}
@@ -109,118 +108,84 @@ module _ (ts : List ℤ) (ks : List Constraint) (n m made : ℕ) (rows : List �
         less = s.less;
       }
 
-  module _ (j i : ℕ) (v : ℤ) (e : new_lower j i v ≡ next_move ks (box_at n l)) where
-    raises : Raises ks (box_at n l) j i v
-    raises = chosen (new_lower j i v) e
+  -- ---- the next move sets the bound b of variable i, past the gap
+  module _ (j i : ℕ) where
+    raises : (v : ℤ) → new_lower j i v ≡ next_move ks (box_at n l) → Raises ks (box_at n l) j i v
+    raises v e = chosen (new_lower j i v) e
 
-    raise-places : (j < m + kept_cuts made) × (i < n)
-    raise-places = (omega (arith, raises.constraint, long), omega (arith, raises.variable, length-box n l.lower l.upper))
+    lowers : (v : ℤ) → new_upper j i v ≡ next_move ks (box_at n l) → Lowers ks (box_at n l) j i v
+    lowers v e = chosen (new_upper j i v) e
 
-    -- where the bound jumps
-    abbrev raised_to : ℤ
-    raised_to = lifted (number_in ts i) v
+    places : (b : Bound) → move_at j i b ≡ next_move ks (box_at n l) → (j < m + kept_cuts made) × (i < n)
+    unfolding move_at
+    places (Lower v) e = let w = raises v e in (omega (arith, w.constraint, long), omega (arith, w.variable, length-box n l.lower l.upper))
+    places (Upper v) e = let w = lowers v e in (omega (arith, w.constraint, long), omega (arith, w.variable, length-box n l.lower l.upper))
 
-    raised-level : level_of n (raised l i raised_to (number_for m made j)) ≡ model.raise_lower (thresholds_of n ts) i v (model.constraint (number_for m made j)) (level_of n l)
-    unfolding model.raise_lower
-    raised-level =
-        level-raised n l r.whole r.few i raised_to (number_for m made j) raise-places.1 ∙ rw (number-reason m made j r.inputs r.cuts raise-places.0, threshold-at n ts i raise-places.1)
+    -- the level after it
+    abbrev after : Bound → Level
+    after b = bounded l i (past_gap (number_in ts i) b) (number_for m made j)
 
-    raised-answer : (count : ℕ) → answer ts ks n m made l count ≡ answer ts ks n m made (raised l i raised_to (number_for m made j)) (count + 1)
-    unfolding propagate_by answer
-    raised-answer count = follows count (new_lower j i v) e ∙ ap₂ (propagation (thresholds_of n ts) ks (number_for m made)) (sym raised-level) (sym (add-one count))
+    whole : (b : Bound) → Whole (after b)
+    whole (Lower v) = let w = r.whole in record { lower = length-set l.lower i _ ∙ w.lower; upper = w.upper; below = length-set l.below i _ ∙ w.below; above = w.above }
+    whole (Upper v) = let w = r.whole in record { lower = w.lower; upper = length-set l.upper i _ ∙ w.upper; below = w.below; above = length-set l.above i _ ∙ w.above }
 
-    raise-next : Next ts ks n m made rows l j i (raised l i raised_to (number_for m made j))
-    raise-next =
-        let w = r.whole in
-        let box = box_at n l in
-        let k = number_for m made j in
-        let b : box_at n (raised l i raised_to k) ≡ set_lower i (lifted (threshold_at (thresholds_of n ts) i) v) box
-        = box-lower n l.lower l.upper i raised_to raise-places.1 (omega (arith, w.lower, r.few, raise-places.1)) ∙ rw (threshold-at n ts i raise-places.1) in
-        nested-next j i (raised l i raised_to k) raise-places
-        (record { lower = length-set l.lower i raised_to ∙ w.lower; upper = w.upper; below = length-set l.below i k ∙ w.below; above = w.above })
-        (rw b (raise-shrinks (thresholds_of n ts) ks box j i v ordered outside raises)) raised-answer
+    -- it is the model's
+    level : (b : Bound) → move_at j i b ≡ next_move ks (box_at n l) → (count : ℕ) →
+        propagate_by (thresholds_of n ts) (move_at j i b) (number_for m made) (level_of n l) count (propagation (thresholds_of n ts) ks (number_for m made)) ≡
+        propagation (thresholds_of n ts) ks (number_for m made) (level_of n (after b)) (suc count)
+    unfolding move_at propagate_by model.raise_lower model.lower_upper
+    level (Lower v) e count =
+        let p = places (Lower v) e in
+        rw (level-raised n l r.whole r.few i (lifted (number_in ts i) v) (number_for m made j) p.1, number-reason m made j r.inputs r.cuts p.0, threshold-at n ts i p.1)
+    level (Upper v) e count =
+        let p = places (Upper v) e in
+        rw (level-lowered n l r.whole r.few i (sunk (number_in ts i) v) (number_for m made j) p.1, number-reason m made j r.inputs r.cuts p.0, threshold-at n ts i p.1)
 
-    raise-better : number_in l.lower i ⊑ raised_to
-    raise-better = omega (arith, (lifts (number_in ts i) v).above, rw (lower-at n l.lower l.upper i raise-places.1) at raises.better)
+    shrinks : (b : Bound) → move_at j i b ≡ next_move ks (box_at n l) → Shrinks (thresholds_of n ts) (box_at n (after b)) (box_at n l)
+    unfolding move_at
+    shrinks (Lower v) e =
+        let h = (places (Lower v) e).1 in
+        rw (box-lower n l.lower l.upper i (lifted (number_in ts i) v) h (omega (arith, r.whole.lower, r.few)), ← threshold-at n ts i h)
+        (raise-shrinks (thresholds_of n ts) ks (box_at n l) j i v ordered outside (raises v e))
+    shrinks (Upper v) e =
+        let h = (places (Upper v) e).1 in
+        rw (box-upper n l.lower l.upper i (sunk (number_in ts i) v) h (omega (arith, r.whole.upper, r.few)), ← threshold-at n ts i h)
+        (lower-shrinks (thresholds_of n ts) ks (box_at n l) j i v ordered outside (lowers v e))
 
-    raise-rise : Within widest_change (raised_to -ℤ number_in l.lower i)
-    raise-rise =
-        rw (number_same l.lower i raised_to (omega (arith, r.whole.lower, r.few, raise-places.1))) at
-        (rise-size (scan-fits n m made rows l r) (scan-fits n m made rows (raised l i raised_to (number_for m made j)) raise-next.ready) i raise-places.1)
+    next : (b : Bound) → move_at j i b ≡ next_move ks (box_at n l) → Next ts ks n m made rows l j i (after b)
+    unfolding answer
+    next b e =
+        nested-next j i (after b) (places b e) (whole b) (shrinks b e)
+        (λ count. follows count (move_at j i b) e ∙ level b e count ∙ ap (propagation (thresholds_of n ts) ks (number_for m made) (level_of n (after b))) (sym (add-one count)))
 
-    raise-settable : Settable i raised_to l.lower l.below
-    raise-settable =
+    pub sets : (b : Bound) → move_at j i b ≡ next_move ks (box_at n l) → Sets ts ks n m made rows l j i (past_gap (number_in ts i) b)
+    unfolding move_at
+    sets (Lower v) e =
+        let x = next (Lower v) e in
+        let h = x.variable in
+        let room : i < length l.lower = omega (arith, r.whole.lower, r.few) in
+        let rise = rw (number_same l.lower i (lifted (number_in ts i) v) room) at (rise-size (scan-fits n m made rows l r) (scan-fits n m made rows (after (Lower v)) x.ready) i h) in
+        let better = rw (lower-at n l.lower l.upper i h) at (raises v e).better in
         record {
-          variable = omega (arith, r.few, raise-places.1);
-          old = weaken (lit≤ tt) (lower-within n l.lower l.upper (true_of _ r.bounds) i raise-places.1);
-          change = raise-rise;
+          next = x;
+          settable = record { variable = omega (arith, r.few); old = weaken (lit≤ tt) (lower-within n l.lower l.upper (true_of _ r.bounds) i h); change = rise };
+          rise = rise;
+          fall = record { within = omega arith };
+          closes = raised-closes n rows l.lower l.upper i (lifted (number_in ts i) v) h (omega (arith, r.whole.lower, r.few)) (omega (arith, (lifts (number_in ts i) v).above, better));
         }
-
-  module _ (j i : ℕ) (v : ℤ) (e : new_upper j i v ≡ next_move ks (box_at n l)) where
-    lowers : Lowers ks (box_at n l) j i v
-    lowers = chosen (new_upper j i v) e
-
-    lower-places : (j < m + kept_cuts made) × (i < n)
-    lower-places = (omega (arith, lowers.constraint, long), omega (arith, lowers.variable, length-box n l.lower l.upper))
-
-    abbrev lowered_to : ℤ
-    lowered_to = sunk (number_in ts i) v
-
-    lowered-level : level_of n (lowered l i lowered_to (number_for m made j)) ≡ model.lower_upper (thresholds_of n ts) i v (model.constraint (number_for m made j)) (level_of n l)
-    unfolding model.lower_upper
-    lowered-level =
-        level-lowered n l r.whole r.few i lowered_to (number_for m made j) lower-places.1 ∙ rw (number-reason m made j r.inputs r.cuts lower-places.0, threshold-at n ts i lower-places.1)
-
-    lowered-answer : (count : ℕ) → answer ts ks n m made l count ≡ answer ts ks n m made (lowered l i lowered_to (number_for m made j)) (count + 1)
-    unfolding propagate_by answer
-    lowered-answer count = follows count (new_upper j i v) e ∙ ap₂ (propagation (thresholds_of n ts) ks (number_for m made)) (sym lowered-level) (sym (add-one count))
-
-    lower-next : Next ts ks n m made rows l j i (lowered l i lowered_to (number_for m made j))
-    lower-next =
-        let w = r.whole in
-        let box = box_at n l in
-        let k = number_for m made j in
-        let b : box_at n (lowered l i lowered_to k) ≡ set_upper i (sunk (threshold_at (thresholds_of n ts) i) v) box
-        = box-upper n l.lower l.upper i lowered_to lower-places.1 (omega (arith, w.upper, r.few, lower-places.1)) ∙ rw (threshold-at n ts i lower-places.1) in
-        nested-next j i (lowered l i lowered_to k) lower-places
-        (record { lower = w.lower; upper = length-set l.upper i lowered_to ∙ w.upper; below = w.below; above = length-set l.above i k ∙ w.above })
-        (rw b (lower-shrinks (thresholds_of n ts) ks box j i v ordered outside lowers)) lowered-answer
-
-    lower-better : lowered_to ⊑ number_in l.upper i
-    lower-better = omega (arith, (sinks (number_in ts i) v).below, rw (upper-at n l.lower l.upper i lower-places.1) at lowers.better)
-
-    lower-fall : Within widest_change (lowered_to -ℤ number_in l.upper i)
-    lower-fall =
-        rw (number_same l.upper i lowered_to (omega (arith, r.whole.upper, r.few, lower-places.1))) at
-        (fall-size (scan-fits n m made rows l r) (scan-fits n m made rows (lowered l i lowered_to (number_for m made j)) lower-next.ready) i lower-places.1)
-
-    lower-settable : Settable i lowered_to l.upper l.above
-    lower-settable =
+    sets (Upper v) e =
+        let x = next (Upper v) e in
+        let h = x.variable in
+        let room : i < length l.upper = omega (arith, r.whole.upper, r.few) in
+        let fall = rw (number_same l.upper i (sunk (number_in ts i) v) room) at (fall-size (scan-fits n m made rows l r) (scan-fits n m made rows (after (Upper v)) x.ready) i h) in
+        let better = rw (upper-at n l.lower l.upper i h) at (lowers v e).better in
         record {
-          variable = omega (arith, r.few, lower-places.1);
-          old = weaken (lit≤ tt) (upper-within n l.lower l.upper (true_of _ r.bounds) i lower-places.1);
-          change = lower-fall;
+          next = x;
+          settable = record { variable = omega (arith, r.few); old = weaken (lit≤ tt) (upper-within n l.lower l.upper (true_of _ r.bounds) i h); change = fall };
+          rise = record { within = omega arith };
+          fall = fall;
+          closes = lowered-closes n rows l.lower l.upper i (sunk (number_in ts i) v) h (omega (arith, r.whole.upper, r.few)) (omega (arith, (sinks (number_in ts i) v).below, better));
         }
-
-  -- on either side
-  pub sets : (j i : ℕ) (b : Bound) → move_at j i b ≡ next_move ks (box_at n l) → Sets ts ks n m made rows l j i (past_gap (number_in ts i) b)
-  unfolding move_at
-  sets j i (Lower v) e =
-      record {
-        next = raise-next j i v e;
-        settable = raise-settable j i v e;
-        rise = raise-rise j i v e;
-        fall = record { within = omega arith };
-        closes = raised-closes n rows l.lower l.upper i (lifted (number_in ts i) v) (raise-places j i v e).1 (omega (arith, r.whole.lower, r.few)) (raise-better j i v e);
-      }
-  sets j i (Upper v) e =
-      record {
-        next = lower-next j i v e;
-        settable = lower-settable j i v e;
-        rise = record { within = omega arith };
-        fall = lower-fall j i v e;
-        closes = lowered-closes n rows l.lower l.upper i (sunk (number_in ts i) v) (lower-places j i v e).1 (omega (arith, r.whole.upper, r.few)) (lower-better j i v e);
-      }
 
   -- where the next move sets no bound, it is the answer
   pub stop-answer : (found : Found) (count : ℕ) → stop_of found ≡ next_move ks (box_at n l) → propagation_of n l (record { found = found; count = count }) ≡ answer ts ks n m made l count

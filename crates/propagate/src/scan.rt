@@ -45,18 +45,13 @@ pub fn measure(
     }
 }
 
-// Move 1: the position of the first falsified kept constraint, or the number of kept ones: it is a limit of the scan of the divisor constraints that
-// comes next.
+// Move 1: the position of the first falsified kept constraint, or the number of kept ones.
 pub fn first_falsified(activities: &[i64; 128], kept: usize) -> usize
     requires { (kept ≤ max_rows) × ((j : ℕ) → j < kept → Within widest_activity (number_in activities.now j)) }
     ensures { FirstAbove kept activities.now result }
 {
-    for j in 0..kept {
-        if 0 < activities[j] {
-            return j;
-        }
-    }
-    kept
+    // Stays: `kept` stands for none, since the result is the limit of the scan for an indivisible sum that comes next (`FirstIndivisible`).
+    (0..kept).find(|j| 0 < activities[*j]).unwrap_or(kept)
 }
 
 // Move 2: the first improvement, by constraint and then by variable. No kept constraint is falsified. A constraint whose slack is no less than what it
@@ -81,6 +76,7 @@ pub fn first_improvement(
     ensures tracked { Tracked n rows.now lower.now upper.now activities.now reaches.new kept }
 {
     let mut hit = None;
+    // Stays: a nested scan that is left by a label, one of document 01's forms by place.
     'scan: for j in 0..kept {
         let activity = activities[j];
         let slack = -activity;

@@ -4,10 +4,9 @@ use native.Mathlib.Omega.{arith}
 use mathlib.Core.Bool.{true}
 use mathlib.Core.List.{List}
 use mathlib.Core.Logic.{⊎_elim}
-use mathlib.Core.Path.{◌≡◌, refl, sym, ap, ap₂, subst, ◌∙◌}
-use lib.Dec.{T}
+use mathlib.Core.Path.{◌≡◌, ap, ap₂, ◌∙◌}
 use lib.IntN.{ℤ, pos}
-use lib.ListN.{get_or, set, length, replicate}
+use lib.ListN.{length, replicate}
 use Rattle.model_problems.specs.Lists.{tab, all_of}
 use Rattle.model_problems.specs.Ranges.{max_constraints}
 use Rattle.model_problems.specs.Constraint.{Constraint, in_range, divisor_in_range}
@@ -20,15 +19,10 @@ use Rattle.layout.specs.Rows.{row_length, number_in, cell, constraint_at, row_at
 use Rattle.linear.proofs.Ranges.{divisor-fits}
 use Rattle.validity.proofs.Every.{every-out}
 use Rattle.validity.proofs.States.{ConstraintFits, CoreFits}
-use Rattle.state.specs.View.{level_of, levels_from, kept_cuts, core_over, inputs_of, core_of, status_of, view}
-use Rattle.state.specs.declared.Level.{Level}
-use Rattle.state.specs.declared.Search.{Search}
-use Rattle.state.specs.declared.Status.{Status}
-use Rattle.state.proofs.Cores.{level-here, levels-above}
+use Rattle.state.specs.View.{kept_cuts, core_over}
 use Rattle.propagate.specs.Apart.{kept_over, core_apart, blank_row, Apart}
 use Rattle.propagate.proofs.Warning.{zero_or, length_over, over-input}
 use Rattle.turns.specs.Setting.{RowsPut}
-use Rattle.turns.proofs.Arms.{state_at}
 
 -- the same row, with the same divisor
 input-same : (n : ℕ) (a b divisors : List ℤ) (j : ℕ) → row_at n a j ≡ row_at n b j → input_at n a divisors j ≡ input_at n b divisors j

@@ -1,5 +1,5 @@
 -- What the loop carries along with the level in hand: what is told and tracked of the constraints, what is saved of the levels above, and the masks.
-use Prim.Native.Nat.{ℕ, ◌+◌, ◌*◌, ◌≤◌, ◌<◌}
+use Prim.Native.Nat.{ℕ, ◌+◌, ◌≤◌, ◌<◌}
 use native.Mathlib.Omega.{arith}
 use mathlib.Core.List.{List}
 use mathlib.Core.Bool.{false}
@@ -15,7 +15,6 @@ use Rattle.state.specs.View.{no_level, kept_cuts}
 use Rattle.lists.proofs.Bools.{lt-or-le}
 use Rattle.state.specs.declared.Level.{Level}
 use Rattle.propagate.specs.Tracked.{Tracked}
-use Rattle.bits.specs.Divided.{Due, Everyone, Columns}
 use Rattle.propagate.specs.Apart.{kept_over, Warned}
 use Rattle.bits.specs.Masks.{Masked}
 use Rattle.backtrack.specs.Saved.{Saved, Roomy}

@@ -1,26 +1,12 @@
 -- A conflict in the loop: what was learned, and the model's conflict that it is.
-use Prim.Native.Nat.{ℕ, zero, suc, ◌+◌, ◌-◌, ◌≤◌, ◌<◌}
-use native.Mathlib.Omega.{arith}
-use mathlib.Core.Bool.{Bool, true, false}
-use mathlib.Core.List.{List, [], ◌∷◌, ◌++◌}
-use mathlib.Core.Path.{◌≡◌, refl, sym, ap, ap₂, subst, ◌∙◌}
-use lib.Dec.{T}
-use lib.IntN.{ℤ, pos, ◌+ℤ◌}
-use lib.ListN.{get_or, set, length, length-set}
+use Prim.Native.Nat.{ℕ, zero, suc}
+use mathlib.Core.List.{List}
+use mathlib.Core.Path.{◌≡◌, refl, ap, ap₂, ◌∙◌}
+use lib.ListN.{get_or}
 use Rattle.model_problems.specs.Constraint.{Constraint, modulus}
 use Rattle.model_files.specs.File.{no_constraint}
 use Rattle.model_walk.specs.Search as model
 use Rattle.model_walk.specs.Conflict.{Analysis, analyze, Numbered, numbered, backjump_level, settled, Conflict, conflict_of, learning, nothing_learned, no_learning, conflict_by, at_conflict}
-use Rattle.model_walk.specs.Step.{Outcome, status_at, counted}
-use Rattle.layout.specs.Rows.{number_in}
-use Rattle.validity.proofs.Moves.{Falsifies}
-use Rattle.validity.proofs.States.{CoreFits}
-use Rattle.validity.proofs.Steps.{Settled, conflict-settled}
-use Rattle.state.specs.View.{flipped_reason, level_of, level_at, levels_from, core_with}
-use Rattle.state.specs.Change.{Whole, raised}
-use Rattle.state.specs.declared.Level.{Level}
-use Rattle.state.proofs.Cores.{level-here, levels-above}
-use Rattle.conflict.specs.Learning.{Learns}
 
 abbrev pub conflict_with : model.Core → ℕ → Constraint → List ℕ → ℕ → ℕ → model.Core → Conflict
 conflict_with c j cut used number back kept =

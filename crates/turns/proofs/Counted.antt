@@ -9,10 +9,9 @@ use lib.IntN.{ℤ}
 use lib.ListN.{get_or, set, length}
 use Rattle.model_problems.specs.Lists.{tab}
 use Rattle.model_problems.specs.Ranges.{max_variables}
-use Rattle.model_problems.specs.Constraint.{falsified}
 use Rattle.model_walk.specs.Search as model
 use Rattle.model_walk.specs.Move.{conflict, slack}
-use Rattle.model_walk.specs.Conflict.{numbered, at_conflict}
+use Rattle.model_walk.specs.Conflict.{at_conflict}
 use Rattle.model_files.specs.Journal.{record_bytes}
 use Rattle.model_walk.specs.Step as step
 use Rattle.lists.proofs.Tab.{length-tab}

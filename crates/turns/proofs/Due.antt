@@ -1,16 +1,15 @@
 -- The divisor constraints that a changed level asks to test, and the first falsified constraint after the test: at a decision, and at a level that the
 -- search goes back to.
 use Prim.Native.Nat.{ℕ, ◌+◌, ◌≤◌, ◌<◌, ◌^◌}
-use native.Mathlib.Omega.{arith}
 use mathlib.Core.Bool.{false}
 use mathlib.Core.List.{List}
 use mathlib.Core.Logic.{⊎_elim}
 use mathlib.Core.Path.{◌≡◌, ◌∙◌}
-use lib.IntN.{ℤ, pos, ◌+ℤ◌}
+use lib.IntN.{ℤ}
 use lib.ListN.{set, length, length-set}
 use Rattle.model_problems.specs.Constraint.{falsified}
 use Rattle.lists.proofs.Bools.{lt-or-le}
-use Rattle.layout.specs.Rows.{number_in, input_at, box_of}
+use Rattle.layout.specs.Rows.{input_at, box_of}
 use Rattle.layout.proofs.Rows.{box-lower, box-upper}
 use Rattle.state.specs.View.{kept_cuts}
 use Rattle.propagate.specs.Tracked.{Told}

@@ -1,12 +1,10 @@
 -- One turn of the model, by where its moves end.
-use Prim.Native.Nat.{ℕ, zero, suc, ◌+◌, ◌-◌, ◌≤◌, ◌<◌}
+use Prim.Native.Nat.{ℕ, suc, ◌<◌}
 use native.Mathlib.Omega.{arith}
-use mathlib.Core.Bool.{true, false, cond}
-use mathlib.Core.List.{List, [], ◌∷◌, ◌++◌}
-use mathlib.Core.Option.{Option, none, some}
-use mathlib.Core.Path.{◌≡◌, refl, sym, ap, subst, ◌∙◌}
-use lib.Dec.{T, eqb, eqb_refl}
-use Rattle.model_walk.specs.Search.{Core, Status, undecided, infeasible, solved, Search}
+use mathlib.Core.List.{[], ◌∷◌}
+use mathlib.Core.Option.{none, some}
+use mathlib.Core.Path.{◌≡◌, refl, ap, ◌∙◌}
+use Rattle.model_walk.specs.Search.{Core, Status, undecided, Search}
 use Rattle.model_walk.specs.Move.{Stop, descend}
 use Rattle.model_walk.specs.Conflict.{Conflict, at_conflict}
 use Rattle.model_files.specs.Journal.{record_bytes}

@@ -1,34 +1,24 @@
 -- Back at an earlier level, with its decision flipped: from a conflict, and from a solution that is struck out.
-use Prim.Native.Nat.{ℕ, suc, ◌+◌, ◌-◌, ◌≤◌, ◌<◌}
+use Prim.Native.Nat.{ℕ, suc, ◌-◌, ◌≤◌, ◌<◌}
 use native.Mathlib.Omega.{arith}
-use mathlib.Core.Bool.{false}
 use mathlib.Core.List.{List}
-use mathlib.Core.Path.{◌≡◌, refl, sym, ap, ap₂, subst, ◌∙◌}
-use lib.IntN.{ℤ, pos, ◌+ℤ◌}
+use mathlib.Core.Path.{◌≡◌, refl, sym, ap, ap₂, ◌∙◌}
+use lib.IntN.{ℤ}
 use lib.ListN.{get_or, set, length, length-set}
-use Rattle.model_problems.specs.Constraint.{falsified}
 use Rattle.model_walk.specs.Search as model
 use Rattle.model_walk.specs.Conflict.{back_up}
-use Rattle.layout.specs.Rows.{number_in, input_at, box_of, max_rows, thresholds_of}
+use Rattle.layout.specs.Rows.{thresholds_of}
 use Rattle.validity.proofs.States.{CoreFits}
-use Rattle.state.specs.View.{flipped_reason, no_level, level_of, level_at, levels_from, kept_cuts}
-use Rattle.state.specs.Change.{Whole, held, raised}
+use Rattle.state.specs.View.{flipped_reason, no_level, level_of, level_at, levels_from}
+use Rattle.state.specs.Change.{Whole, raised}
 use Rattle.state.specs.declared.Level.{Level}
 use Rattle.state.proofs.Levels.{level-flipped}
 use Rattle.state.proofs.Cores.{level-here, levels-above, backed-up}
-use Rattle.propagate.specs.Ready.{Ready}
-use Rattle.bits.specs.Divided.{Due, Everyone, Columns}
-use Rattle.propagate.specs.Apart.{core_apart, Apart}
-use Rattle.bits.specs.Masks.{Masked}
-use Rattle.propagate.proofs.Steps.{scan-fits}
+use Rattle.propagate.specs.Apart.{core_apart}
 use Rattle.state.specs.Moved.{RowsMoved}
-use Rattle.backtrack.specs.Saved.{Saved}
-use Rattle.backtrack.specs.Jumps.{Flippable, next_in}
-use Rattle.levels.specs.Mirror.{Mirrored}
-use Rattle.backtrack.proofs.Saving.{saved-moved, saved-stored, saved-less}
+use Rattle.backtrack.specs.Jumps.{next_in}
 use Rattle.turns.proofs.Running.{core_here}
-use Rattle.turns.proofs.Carrying.{ClearFrom, Carried, tracked-none, clear-stored, clear-back}
-use Rattle.turns.proofs.Stored.{stored-range, stored-under}
+use Rattle.turns.proofs.Stored.{stored-under}
 
 whole-raised : (l : Level) (i : ℕ) (v : ℤ) (k : ℕ) → Whole l → Whole (raised l i v k)
 whole-raised l i v k w =

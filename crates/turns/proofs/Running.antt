@@ -3,15 +3,13 @@ use Prim.Native.Nat.{ℕ, suc, ◌+◌, ◌-◌, ◌*◌, ◌≤◌, ◌<◌}
 use native.Mathlib.Omega.{arith}
 use native.Mathlib.Numerals.{add-one}
 use mathlib.Core.Bool.{Bool, true}
-use mathlib.Core.List.{List, []}
-use mathlib.Core.Option.{some}
+use mathlib.Core.List.{List}
 use mathlib.Core.Path.{◌≡◌, refl, sym, ap, subst, ◌∙◌}
 use lib.IntN.{ℤ, pos}
 use lib.ListN.{get_or, set, length, length-set}
 use Rattle.model_problems.specs.Ranges.{max_variables, max_constraints, max_budget, max_propagations, max_slack}
 use Rattle.model_walk.specs.Search as model
 use Rattle.model_walk.specs.Move.{Move, decide, moved, follow, slack, descend, propagations_by, propagations_in}
-use Rattle.model_walk.specs.Step.{counted}
 use Rattle.model_files.specs.Bytes.{block_length}
 use Rattle.model_walk.specs.Trace.{with_blocks, advance, joined}
 use Rattle.validity.proofs.Boxes.{first-open}

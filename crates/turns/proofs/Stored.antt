@@ -10,7 +10,7 @@ use Rattle.model_problems.specs.Lists.{all_of}
 use Rattle.model_problems.specs.Problem.{bounds_in_range}
 use Rattle.model_walk.specs.Search as model
 use Rattle.validity.proofs.States.{Every, LevelFits, Under, Stacked, CoreFits}
-use Rattle.state.specs.View.{level_of, level_at, levels_from, core_over}
+use Rattle.state.specs.View.{level_at, levels_from, core_over}
 use Rattle.propagate.specs.Apart.{core_apart}
 use Rattle.state.specs.declared.Level.{Level}
 use Rattle.state.proofs.Cores.{level-here, levels-above}

@@ -7,9 +7,9 @@ ghost use Rattle.turns.specs.Setting.{RowsPut};
 use layout::{ROW, copy_row, store_row};
 
 // Puts the rows of the inputs that carry a divisor, from another array: zeros, to blank them, or their own rows again.
-pub fn put_rows<'a>(
-    from: &'a [i64; 4224],
-    divisors: &'a [i64; 64],
+pub fn put_rows(
+    from: &[i64; 4224],
+    divisors: &[i64; 64],
     n: usize,
     m: usize,
     rows: &mut [i64; 4224],

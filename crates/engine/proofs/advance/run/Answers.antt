@@ -5,9 +5,6 @@ use Rattle.turns.proofs.Striking.{row_fits}
 use Rattle.engine.proofs.Ending.{onward, spare, goes-on, solves, spent, none-left}
 use Rattle.engine.proofs.advance.run.Goals as goal
 
-pub loop-walk-init : goal.loop-walk-init
-loop-walk-init c = λ base limit list old k. k
-
 pub propagate-requires : goal.propagate-requires
 propagate-requires c =
     let k = c.loop-walk.invariant _ _ _ _ c.requires.way in

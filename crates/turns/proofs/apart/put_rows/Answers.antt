@@ -1,17 +1,12 @@
 -- `turns::apart::put_rows` meets its contract. Assumes nothing.
 use mathlib.Core.Path.{ap}
-use borrow.Author.Rules.{rules, sfits_of}
-use lib.IntN.{pos}
+use borrow.Author.Rules.{rules}
 use mir.Syntax.{w64}
 use mir.Val.{of_z}
-use Rattle.integer.specs.Tests.{same, fits_lit}
 use Rattle.layout.specs.Rows.{number_in}
-use Rattle.turns.proofs.Setting.{put-none, put-past, put-more}
+use Rattle.turns.proofs.Setting.{put-past, put-more}
 use Rattle.turns.proofs.apart.put_rows.Goals as goal
 use Rattle.turns.proofs.apart.put_rows.Goals.{then-divisors-j-ne0, else-divisors-j-ne0}
-
-pub loop-j-init : goal.loop-j-init
-loop-j-init c = put-none _ _ _ _ (search rules)
 
 pub loop-j-preserved : goal.loop-j-preserved
 unfolding number_in

@@ -3,18 +3,11 @@ use Prim.Native.Nat.{◌+◌, ◌*◌}
 use native.Mathlib.Omega.{arith}
 use mathlib.Core.Path.{◌∙◌}
 use borrow.Author.Count.{below_more}
-use borrow.Author.Rules.{rules}
 use lib.ListN.{get_or, set, length-set}
 use lib.Seq.{get_or-set_same, get_or-set_other}
 use Rattle.layout.specs.Rows.{row_length}
 use Rattle.bits.specs.Masks.{Mentions}
 use Rattle.turns.proofs.masks.marks.Goals as goal
-
-pub loop-p-init : goal.loop-p-init
-loop-p-init c = record { room = search rules; at = λ k h. absurd (omega arith) }
-
-pub row_mask-requires : goal.row_mask-requires
-row_mask-requires c = (c.requires.few, omega (arith, c.requires.few, c.requires.inside, c.requires.long))
 
 pub loop-p-preserved : goal.loop-p-preserved
 loop-p-preserved c =

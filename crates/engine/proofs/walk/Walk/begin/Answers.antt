@@ -1,22 +1,19 @@
 -- `engine::walk::Walk::begin` meets its contract. Assumes nothing.
 use native.Mathlib.Omega.{arith}
-use mathlib.Core.Path.{◌≡◌, refl, sym, ap, subst, ◌∙◌}
+use mathlib.Core.Path.{◌≡◌, sym, ap, subst, ◌∙◌}
 use borrow.Author.Rules.{rules}
 use Rattle.state.specs.View.{view}
 use Rattle.propagate.proofs.Steps.{scan-fits}
 use Rattle.levels.specs.Mirror.{Mirrored}
 use Rattle.backtrack.specs.Saved.{Roomy, Saved}
 use Rattle.backtrack.proofs.Saving.{saved-none}
-use Rattle.turns.proofs.Starting.{start-counts, start-depth}
+use Rattle.turns.proofs.Starting.{start-counts}
 use Rattle.turns.proofs.Rounds.{ready}
 use Rattle.engine.specs.Walk.{RunningAt, Scannable, fresh}
 use Rattle.engine.specs.declared.walk.Walk.{Walk}
 use Rattle.engine.proofs.Beginning.{running-begins}
 use Rattle.engine.proofs.Going.{given_same}
 use Rattle.engine.proofs.walk.Walk.begin.Goals as goal
-
-pub mirror-requires : goal.mirror-requires
-mirror-requires c = (omega (arith, start-depth c.requires.startable), (search rules, search rules))
 
 pub put_rows-requires : goal.put_rows-requires
 put_rows-requires c =

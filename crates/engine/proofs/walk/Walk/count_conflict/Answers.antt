@@ -1,5 +1,4 @@
 -- `engine::walk::Walk::count_conflict` meets its contract. Assumes nothing.
-use Prim.Native.Nat.{◌+◌}
 use native.Mathlib.Omega.{arith}
 use mathlib.Core.Bool.{false}
 use mathlib.Core.Path.{sym, subst}

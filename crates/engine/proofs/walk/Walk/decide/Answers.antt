@@ -1,6 +1,5 @@
 -- `engine::walk::Walk::decide` meets its contract. Assumes nothing.
 use native.Mathlib.Omega.{arith}
-use mathlib.Core.Path.{refl}
 use Rattle.engine.proofs.Going.{fixed-same}
 use Rattle.engine.proofs.Deciding.{deep, variable-fits, decidable, running-on, testable-on, carried-on, less-on}
 use Rattle.engine.proofs.walk.Walk.decide.Goals as goal

@@ -1,10 +1,9 @@
 -- `engine::walk::Walk::go_back` meets its contract. Assumes nothing.
 use Prim.Native.Nat.{◌-◌}
 use native.Mathlib.Omega.{arith}
-use mathlib.Core.Path.{◌≡◌, refl, sym, ap, subst}
+use mathlib.Core.Path.{refl, sym, ap, subst}
 use Rattle.state.specs.declared.Level.{Level}
 use Rattle.engine.specs.Walk.{GoneBack, stored}
-use Rattle.engine.specs.declared.walk.Walk.{Walk}
 use Rattle.engine.proofs.Returning.{inside, flippable, lengths, flipped-is, testable-back, carried-back}
 use Rattle.engine.proofs.walk.Walk.go_back.Goals as goal
 
@@ -40,6 +39,6 @@ returns c =
       whole = o.ensures.1;
       state = refl;
       is = ap (λ (l : Level). record v { level = l; low = c.min-self.result; turn = record { before = l; start = c.args.back - 1; earlier = s.propagations }; tracked = record { activities = r.new.activities; reaches = r.new.reaches; told = c.first_divided-self.result } })
-      (flipped-is c.requires o.result i o.ensures.0 f o.ensures.1 r.ensures);
+          (flipped-is c.requires o.result i o.ensures.0 f o.ensures.1 r.ensures);
       carried = carried-back c.requires o.result i o.ensures.0 f o.ensures.1 r.ensures d.all d.mentioned c.first_divided-self.ensures (λ h. omega (arith, c.min-self.ensures)) (λ h. omega (arith, c.min-self.ensures));
     })

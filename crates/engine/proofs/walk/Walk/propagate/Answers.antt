@@ -1,5 +1,4 @@
 -- `engine::walk::Walk::propagate` meets its contract. Assumes nothing.
-use native.Mathlib.Omega.{arith}
 use mathlib.Core.Path.{refl}
 use Rattle.turns.proofs.Rounds.{ready_with, ready, gap-free, countable}
 use Rattle.engine.proofs.walk.Walk.propagate.Goals as goal

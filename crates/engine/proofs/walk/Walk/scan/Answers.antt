@@ -1,31 +1,17 @@
 -- `engine::walk::Walk::scan` meets its contract. Assumes nothing.
 use native.Mathlib.Omega.{arith}
 use mathlib.Core.Path.{refl}
-use borrow.Author.Rules.{rules}
 use Rattle.state.specs.View.{kept_cuts}
 use Rattle.bits.specs.Divided.{Everyone}
 use Rattle.propagate.proofs.Tracking.{scan-box, told-start}
 use Rattle.propagate.proofs.Warning.{testable, warned}
-use Rattle.turns.proofs.Carrying.{tracked-none}
 use Rattle.turns.proofs.Masking.{masked-starts}
 use Rattle.engine.proofs.walk.Walk.scan.Goals as goal
-
-pub measure-requires : goal.measure-requires
-measure-requires c =
-    let s = c.requires in
-    rw c.kept_count-kept.ensures (s.fits, (omega arith, tracked-none _ _ _ _ _ _ s.rows_long s.activities_long s.reaches_long))
-
-pub first_falsified-first-requires : goal.first_falsified-first-requires
-unfolding kept_cuts
-first_falsified-first-requires c = (omega (arith, c.kept_count-kept.ensures, c.requires.inputs), λ j h. (c.measure.ensures.at j h).size)
 
 pub first_divided-self-requires : goal.first_divided-self-requires
 first_divided-self-requires c =
     let s = c.requires in
     testable _ _ _ _ _ _ _ _ s.apart s.fits.few s.inputs (scan-box s.fits s.whole.lower s.whole.upper) s.sorted.every.few
-
-pub marks-self-requires : goal.marks-self-requires
-marks-self-requires c = let s = c.requires in record { few = s.fits.few; most = s.inputs; inside = omega (arith, s.inputs); long = s.rows_long }
 
 pub marks-self-requires-2 : goal.marks-self-requires-2
 unfolding kept_cuts

@@ -1,5 +1,4 @@
 -- `engine::walk::Walk::strike_out` meets its contract. Assumes nothing.
-use native.Mathlib.Omega.{arith}
 use Rattle.engine.proofs.Striking.{leaves, strikes}
 use Rattle.engine.proofs.walk.Walk.strike_out.Goals as goal
 
