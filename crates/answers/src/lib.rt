@@ -78,6 +78,7 @@ fn at_rest(state: Search, ending: Ending) -> Advanced
 }
 
 // At most `limit` turns from a valid state, to a verdict, with strikes while there is room; a marked one gives its verdict again.
+// Stays: its parameters one by one, as `engine::advance` takes them.
 pub fn proceed(
     s: Search,
     buffer: &mut [u8],

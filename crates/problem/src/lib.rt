@@ -1,17 +1,17 @@
 // Problems, document 01's 'plans', the refusals with their numbers, and the tests of a problem's numbers that reading, writing and opening share.
 #![tactic(auto)]
 
-pub mod range;
-
 ghost use Rattle.std.specs.Prelude.{◌≡◌};
 ghost use Rattle.model_acceptance.specs.Acceptable.{problem_error};
 ghost use Rattle.problem.specs.Answer.{number, number_of};
 ghost use Rattle.problem.specs.View.{problem_of};
 
-use layout::range::sizes_in_range;
+use layout::range::{are_bounds_in_range, are_divisors_in_range, are_in_range, sizes_in_range};
+use threshold::range::all_fit;
 
 // A problem, document 01's 'plan'. Its constraints lie in 64 rows of 33 numbers: the constant, then a coefficient for each of 32 variables. What stands
 // past the first n variables and m constraints is ignored; a problem that was read has zeros there.
+// Stays: flat arrays with n and m beside them, passed by value (document 01's forms by place, no heap).
 #[derive(Clone, Copy)]
 pub struct Problem {
     // 'n', the variables
@@ -72,19 +72,21 @@ impl Refusal {
 pub fn check(problem: Problem) -> Result<(), Refusal>
     ensures { number_of result ≡ problem_error (problem_of problem) }
 {
-    if !sizes_in_range(problem.n, problem.m, problem.budget) {
+    let n = problem.n;
+    let m = problem.m;
+    if !sizes_in_range(n, m, problem.budget) {
         return Err(Refusal::SizeRange);
     }
-    if !range::domain_in_range(problem) {
+    if !are_bounds_in_range(&problem.lower, &problem.upper, n) {
         return Err(Refusal::DomainRange);
     }
-    if !range::thresholds_in_range(problem) {
+    if !all_fit(&problem.thresholds, &problem.lower, &problem.upper, n) {
         return Err(Refusal::ThresholdRange);
     }
-    if !range::constraints_in_range(problem) {
+    if !are_in_range(&problem.constraints, m, n) {
         return Err(Refusal::CoefficientRange);
     }
-    if !range::divisors_in_range(problem) {
+    if !are_divisors_in_range(&problem.divisors, m) {
         return Err(Refusal::DivisorRange);
     }
     Ok(())

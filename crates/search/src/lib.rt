@@ -40,8 +40,7 @@ pub fn trace(s: Search, buffer: &mut [u8]) -> Result<Traced, Refusal>
         return Err(Refusal::InvalidSearch);
     }
     let limit = buffer.len() / block::LENGTH;
-    let mut none = [0i64; 1];
-    let a = answers::proceed(s, buffer, limit, true, 0, &mut none);
+    let a = answers::proceed(s, buffer, limit, true, 0, &mut []);
     Ok(Traced {
         run: answers::answer(a),
         blocks: a.blocks,
@@ -68,9 +67,7 @@ pub fn run(s: Search) -> Result<Ran, Refusal>
         return Err(Refusal::InvalidSearch);
     }
     let limit = s.budget - s.conflicts + 1;
-    let mut unused = [0u8; 1];
-    let mut none = [0i64; 1];
-    let a = answers::proceed(s, &mut unused, limit, false, 0, &mut none);
+    let a = answers::proceed(s, &mut [], limit, false, 0, &mut []);
     Ok(answers::answer(a))
 }
 
@@ -112,8 +109,7 @@ pub fn list(s: Search, solutions: &mut [i64]) -> Result<Listed, Refusal>
     }
     let room = solutions.len() / s.n;
     let turns = s.budget - s.conflicts + 1;
-    let mut unused = [0u8; 1];
-    let a = answers::proceed(s, &mut unused, turns, false, room, solutions);
+    let a = answers::proceed(s, &mut [], turns, false, room, solutions);
     Ok(Listed {
         struck: a.struck,
         last: answers::answer(a),
