@@ -37,7 +37,7 @@ pub(crate) fn is_refused(ran: &Ran) -> bool {
     matches!(ran.verdict, Verdict::Invalid)
 }
 
-// The digest of an answer: its values, of a refusal its counts, and what else it gave: always, or of a refusal alone.
+// The digest of an answer: its values, and of a refusal its counts, with what else it counted.
 fn digest_of(ran: &Ran, counted: Option<usize>) -> Digest {
     let mut digest = Digest::NONE;
     digest.add_words(&ran.values);
