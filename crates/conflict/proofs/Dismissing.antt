@@ -1,10 +1,10 @@
 -- A conflict in an input with a divisor: nothing is learned, and the record has zeros for the cut.
-use Prim.Native.Nat.{ℕ, ◌+◌, ◌≤◌, ◌<◌}
+use Prim.Native.Nat.{ℕ, ◌+◌, ◌*◌, ◌≤◌, ◌<◌}
 use native.Mathlib.Omega.{arith}
 use borrow.Author.Tests.{lt-ltb, le-ltb}
 use mathlib.Core.Bool.{Bool, true}
 use mathlib.Core.List.{List}
-use mathlib.Core.Logic.{inr, ⊎_elim}
+use mathlib.Core.Logic.{⊎_elim}
 use mathlib.Core.Path.{◌≡◌, refl, sym, ap, ◌∙◌}
 use lib.IntN.{ℤ, pos}
 use mir.Facts.{to_z-of_z}
@@ -18,14 +18,18 @@ use Rattle.lists.proofs.Bools.{lt-or-le}
 use Rattle.lists.proofs.Tab.{get_d-const}
 use Rattle.layout.specs.Rows.{number_in, cell, constraint_at, divided_at, input_at, box_of}
 use Rattle.layout.specs.Copies.{Copied}
-use Rattle.linear.specs.Ranges.{RowFits}
+use Rattle.linear.specs.Ranges.{RowFits, DivisorFits}
 use Rattle.linear.proofs.Ranges.{row_fits}
 use Rattle.record.specs.Written.{CutFits}
 use Rattle.propagate.proofs.Warning.{over-input}
-use Rattle.state.specs.View.{number_for, divisor_for}
+use Rattle.state.specs.View.{divisor_for}
 use Rattle.state.specs.declared.Level.{Level}
-use Rattle.levels.specs.Mirror.{BoundsKept}
-use Rattle.conflict.specs.Counting.{Countable, Counted, Dismissable, Dismissed}
+use Rattle.levels.specs.Mirror.{box_in, BoundsKept}
+use Rattle.conflict.specs.Counting.{Countable, DismissedAt}
+use Rattle.conflict.specs.Learning.{NothingLearned}
+use Rattle.conflict.specs.declared.learn.Learned.{Learned}
+use Rattle.levels.specs.Level.{LevelsNested, LeastFalsifying}
+use Rattle.layout.specs.Rows.{row_length, row_at}
 use Rattle.conflict.proofs.Learning.{within-zero}
 
 -- ---- the zeros
@@ -33,9 +37,9 @@ pub zero-at : (count i : ℕ) → number_in (replicate count (pos 0)) i ≡ pos 
 unfolding number_in
 zero-at count i = get_d-const (pos 0) count i
 
-pub zeros-fit : (count : ℕ) → CutFits (replicate count (pos 0))
+pub zeros-fit : (cut : List ℤ) → ((i : ℕ) → number_in cut i ≡ pos 0) → CutFits cut
 unfolding cell
-zeros-fit count = record { constant = within-zero _ (zero-at count 0); coefficients = λ i h. within-zero _ (zero-at count (0 + 1 + i)) }
+zeros-fit cut z = record { constant = within-zero _ (z 0); coefficients = λ i h. within-zero _ (z (0 + 1 + i)) }
 
 -- ---- the line copied
 module _ (n : ℕ) (lines : List ℤ) (start : ℕ) (row : List ℤ) (c : Copied n lines start row) where
@@ -66,58 +70,53 @@ module _ {q : ℤ} (f : SFits w64 q) where
   pub some-divisor : (of_z w64 q ≡ 0 → ⊥) → q ≡ pos 0 → ⊥
   some-divisor h e = h (ap (of_z w64) e)
 
--- ---- what the dismissal asks, and what it leaves
+-- ---- the constraint whose level is sought: a row with its divisor, which the deepest level falsifies
+pub record Sought (n depth : ℕ) (row : List ℤ) (q : ℤ) (lowers uppers : List ℤ) : Type 0 where
+  pub fits : DivisorFits q
+  pub row_fits : RowFits n row 0
+  pub nested : LevelsNested n depth lowers uppers
+  pub false : falsified (divided_at n row 0 q) (box_in n lowers uppers depth) ≡ true
+
+-- ---- at an input with a divisor
 module _ {n m made j depth count done : ℕ} {keep : Bool} {rows : List ℤ} {numbers : List ℕ} {level : Level} {lowers uppers lines divisors : List ℤ} {masks buffer : List ℕ}
-    (p : Countable n m made j depth count done keep rows numbers level lowers uppers lines divisors masks buffer) (q : ℤ) (e : q ≡ divisor_for m divisors j) (d : q ≡ pos 0 → ⊥) where
+    (p : Countable n m made j depth count done keep rows numbers level lowers uppers lines divisors masks buffer) {q : ℤ} (e : q ≡ divisor_for m divisors j) (d : q ≡ pos 0 → ⊥) where
   -- a divisor that is not 0 is an input's
   divided-input : (j < m) × (q ≡ number_in divisors j)
   unfolding divisor_for
   divided-input = ⊎_elim (λ (l : j < m). (l, e ∙ rw (lt-ltb j m l))) (λ (l : m ≤ j). absurd (d (e ∙ rw (le-ltb j m l)))) (lt-or-le j m)
 
-  pub may-dismiss : {lowers₁ uppers₁ : List ℤ} → BoundsKept depth level.lower level.upper lowers uppers lowers₁ uppers₁ → Dismissable n j depth count done keep q lines lowers₁ uppers₁ buffer
-  may-dismiss k =
-      let v = p.levels _ _ k in
-      let l = p.learnable in
-      let a = p.apart in
-      let i = divided-input in
-      record {
-        few = l.variables;
-        position = omega (arith, i.0, l.inputs);
-        lines_long = a.lines_long;
-        range = a.range j i.0;
-        fits = rw i.1 (a.fits j i.0);
-        deep = p.deep;
-        nested = v.0;
-        false = rw (v.1, i.1) (unfold input_at in (ap (λ (k : Constraint). falsified k (box_of n level.lower level.upper)) (sym (over-input n m made rows lines divisors j i.0)) ∙ p.false));
-        some = p.some;
-        room = p.room;
-      }
+  pub input-place : j < m
+  input-place = divided-input.0
 
-  pub dismissed : {falsified back : ℕ} {lowers₁ uppers₁ : List ℤ} {buffer₁ : List ℕ} (level : ℕ → Level) → BoundsKept depth (level 0).lower (level 0).upper lowers uppers lowers₁ uppers₁ → falsified ≡ number_for m made j →
-      Dismissed n j depth count falsified done keep q lines lowers₁ uppers₁ buffer back buffer₁ →
-      Counted n m made j depth count done keep rows numbers level lowers uppers lines divisors masks buffer back made rows numbers masks lowers₁ uppers₁ buffer₁
-  unfolding input_at
-  dismissed {falsified} level k f r =
-      let i = divided-input in
-      record {
-        cut = r.cut;
-        used = r.used;
-        number = 0;
-        falsified = falsified;
-        boxes = k;
-        concluded = inr
-            (record {
-              position = i.0;
-              divided = λ z. d (i.1 ∙ z);
-              cut_zero = r.cut_zero;
-              used_zero = r.used_zero;
-              nothing = refl;
-              same_made = refl;
-              same_rows = refl;
-              same_numbers = refl;
-              jump = rw i.1 at r.jump;
-            });
-        marked = λ inputs v. v;
-        numbered = f;
-        written = r.written;
-      }
+  module _ {row lowers₁ uppers₁ : List ℤ} (c : Copied n lines (row_length * j) row) (f : SFits w64 q) (k : BoundsKept depth level.lower level.upper lowers uppers lowers₁ uppers₁) where
+    input-is : divided_at n row 0 (to_z w64 (of_z w64 q)) ≡ input_at n lines divisors j
+    unfolding input_at
+    input-is = line-same n _ _ _ c q f ∙ ap (divided_at n lines (row_length * j)) divided-input.1
+
+    pub input-sought : Sought n depth row (to_z w64 (of_z w64 q)) lowers₁ uppers₁
+    unfolding row_at
+    input-sought =
+        let i = divided-input in
+        let v = p.levels _ _ k in
+        record {
+          fits = rw (to_z-of_z f, i.1) (p.apart.fits j i.0);
+          row_fits = copy-fits n _ _ _ c p.learnable.variables (p.apart.range j i.0);
+          nested = v.0;
+          false = rw (input-is, v.1) (ap (λ (k : Constraint). falsified k (box_of n level.lower level.upper)) (sym (over-input n m made rows lines divisors j i.0)) ∙ p.false);
+        }
+
+    pub dismissed-at : {r : Learned} {back : ℕ} → NothingLearned made r → LeastFalsifying (divided_at n row 0 (to_z w64 (of_z w64 q))) n depth lowers₁ uppers₁ back →
+        DismissedAt n m made j depth rows numbers lowers₁ uppers₁ lines divisors r.cut r.used r.number back r.made rows numbers
+    dismissed-at z l =
+        let i = divided-input in
+        record {
+          position = i.0;
+          divided = λ h. d (i.1 ∙ h);
+          cut_zero = z.cut_zero;
+          used_zero = z.used_zero;
+          nothing = z.number_zero;
+          same_made = z.same_made;
+          same_rows = refl;
+          same_numbers = refl;
+          jump = rw input-is at l;
+        }

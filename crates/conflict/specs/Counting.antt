@@ -1,12 +1,11 @@
 -- A counted conflict: what it asks, and what it leaves.
 use Rattle.std.specs.Prelude.{ℕ, ◌+◌, ◌*◌, ◌≤◌, ◌<◌, Bool, true, List, ◌⊎◌, ◌≡◌, ℤ, pos, get_or, length}
-use Rattle.model_problems.specs.Ranges.{max_variables, max_constraints, max_cuts}
+use Rattle.model_problems.specs.Ranges.{max_variables, max_cuts}
 use Rattle.model_files.specs.Bytes.{block_length}
-use Rattle.model_problems.specs.Constraint.{falsified, in_range}
+use Rattle.model_problems.specs.Constraint.{falsified}
 use Rattle.model_files.specs.File.{no_constraint}
 use Rattle.model_files.specs.Journal.{record_bytes}
-use Rattle.layout.specs.Rows.{row_length, number_in, constraint_at, row_at, divided_at, input_at, box_of, rows_length}
-use Rattle.linear.specs.Ranges.{DivisorFits}
+use Rattle.layout.specs.Rows.{number_in, constraint_at, input_at, box_of}
 use Rattle.state.specs.View.{kept_cuts, number_for, divisor_for}
 use Rattle.state.specs.declared.Level.{Level}
 use Rattle.record.specs.Written.{record_of, Emitted}
@@ -59,24 +58,3 @@ pub record Counted (n m made j depth count done : ℕ) (keep : Bool) (rows : Lis
   pub marked : (inputs : List ℕ) → Masked n m (m + kept_cuts made) rows inputs masks → Masked n m (m + kept_cuts made₁) rows₁ inputs masks₁
   pub numbered : falsified ≡ number_for m made j
   pub written : Emitted keep done (record_bytes (record_of max_variables count falsified number depth back cut used)) buffer buffer₁
-
--- ---- a conflict that is dismissed, in the line in row j with divisor q
-pub record Dismissable (n j depth count done : ℕ) (keep : Bool) (q : ℤ) (lines lowers uppers : List ℤ) (buffer : List ℕ) : Type 0 where
-  pub few : n ≤ max_variables
-  pub position : j < max_constraints
-  pub lines_long : length lines ≡ rows_length
-  pub range : in_range (row_at n lines j) ≡ true
-  pub fits : DivisorFits q
-  pub deep : depth ≤ max_variables
-  pub nested : LevelsNested n depth lowers uppers
-  pub false : falsified (divided_at n lines (row_length * j) q) (box_in n lowers uppers depth) ≡ true
-  pub some : 1 ≤ count
-  pub room : keep ≡ true → block_length * (done + 1) ≤ length buffer
-
-pub record Dismissed (n j depth count falsified done : ℕ) (keep : Bool) (q : ℤ) (lines lowers uppers : List ℤ) (buffer : List ℕ) (back : ℕ) (buffer₁ : List ℕ) : Type 0 where
-  pub cut : List ℤ
-  pub used : List ℕ
-  pub cut_zero : (i : ℕ) → number_in cut i ≡ pos 0
-  pub used_zero : (i : ℕ) → get_or used i 0 ≡ 0
-  pub jump : LeastFalsifying (divided_at n lines (row_length * j) q) n depth lowers uppers back
-  pub written : Emitted keep done (record_bytes (record_of max_variables count falsified 0 depth back cut used)) buffer buffer₁

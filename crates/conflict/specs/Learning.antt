@@ -42,3 +42,10 @@ pub record LearnedFrom (n m made : ℕ) (rows : List ℤ) (numbers : List ℕ) (
   pub numbers_long : length numbers₁ ≡ max_cuts
   pub count : r.made ≤ suc made
   pub moved : RowsMoved n m made r.made rows rows₁
+
+-- zeros in place of a cut, and as many cuts as before
+pub record NothingLearned (made : ℕ) (r : Learned) : Type 0 where
+  pub cut_zero : (i : ℕ) → number_in r.cut i ≡ pos 0
+  pub used_zero : (i : ℕ) → get_or r.used i 0 ≡ 0
+  pub number_zero : r.number ≡ 0
+  pub same_made : r.made ≡ made

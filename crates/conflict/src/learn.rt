@@ -4,7 +4,7 @@ ghost use Rattle.model_problems.specs.Ranges.{max_cuts};
 ghost use Rattle.state.specs.View.{kept_cuts};
 ghost use Rattle.state.specs.Change.{held};
 ghost use Rattle.bits.specs.Masks.{Masked};
-ghost use Rattle.conflict.specs.Learning.{Learnable, LearnedFrom};
+ghost use Rattle.conflict.specs.Learning.{Learnable, LearnedFrom, NothingLearned};
 
 use analyze::analysis::{Analysis, Core};
 use bits::masks::row_mask;
@@ -18,6 +18,20 @@ pub struct Learned {
     pub used: [usize; 32],
     pub number: usize,
     pub made: usize,
+}
+
+impl Learned {
+    // At a constraint with a divisor.
+    pub(crate) fn nothing(made: usize) -> Learned
+        ensures { NothingLearned made result }
+    {
+        Learned {
+            cut: [0; 33],
+            used: [0; 32],
+            number: 0,
+            made,
+        }
+    }
 }
 
 // From the kept constraint in row j, which the level in hand falsifies. A cut that is new is kept, with its number and its mask.

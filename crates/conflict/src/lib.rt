@@ -5,7 +5,7 @@ pub mod learn;
 
 ghost use Rattle.std.specs.Prelude.{true, false, ◌≡◌};
 ghost use Rattle.state.specs.Change.{held};
-ghost use Rattle.conflict.specs.Counting.{Countable, Counted, Dismissable, Dismissed};
+ghost use Rattle.conflict.specs.Counting.{Countable, Counted};
 
 use crate::learn::{Learned, learn};
 use layout::{ROW, copy_row};
@@ -29,42 +29,9 @@ pub struct Met {
     pub made: usize,
 }
 
-// A conflict in the input in row j of the lines, which carries divisor q: nothing is learned, and the record has zeros for the cut. Returns the backjump
-// level of the constraint itself.
-fn dismiss(
-    lines: &[i64; 4224],
-    lowers: &[i64; 1056],
-    uppers: &[i64; 1056],
-    q: i64,
-    n: usize,
-    j: usize,
-    depth: usize,
-    count: usize,
-    falsified: usize,
-    done: usize,
-    keep: bool,
-    buffer: &mut [u8],
-) -> usize
-    requires { Dismissable n j depth count done keep q lines.now lowers.now uppers.now buffer.old }
-    ensures { Dismissed n j depth count falsified done keep q lines.now lowers.now uppers.now buffer.old result buffer.new }
-{
-    let line = copy_row(lines, ROW * j, n);
-    let back = backjump_level(&line, q, n, depth, lowers, uppers).level;
-    let record = Record {
-        count,
-        falsified,
-        number: 0,
-        depth,
-        back,
-        cut: [0; 33],
-        used: [0; 32],
-    };
-    record.emit(buffer, keep, done);
-    back
-}
-
 // The conflict in the kept constraint in row j, the `count`-th of the search. The cut is learned and kept, the backjump level sought outward from the
-// deepest level, and the record put as block `done` of the buffer, if records are kept. From a divisor constraint nothing is learned.
+// deepest level, and the record put as block `done` of the buffer, if records are kept. From a divisor constraint nothing is learned: its record has zeros for
+// the cut, and the level sought is its own.
 // Out of line: inlined, its arrays move those that the scans read, which then take 1.05 times as long on 07-blueprint-hard.
 // Stays: its parameters one by one, as `engine::advance` holds them, each an array in hand (document 01's forms by place).
 #[inline(never)]
@@ -96,21 +63,24 @@ pub fn conflict(
     keep_bounds(lower, upper, depth, lowers, uppers);
     let falsified = number_of(m, made, j);
     let q = divisor_of(divisors, m, j);
+    let learned;
+    let sought;
     if q != 0 {
-        let back = dismiss(
-            lines, lowers, uppers, q, n, j, depth, count, falsified, done, keep, buffer,
+        learned = Learned::nothing(made);
+        sought = copy_row(lines, ROW * j, n);
+    } else {
+        learned = learn(
+            lower, upper, below, above, n, m, made, j, rows, numbers, cuts,
         );
-        return Met { back, made };
+        sought = learned.cut;
     }
     let Learned {
         cut,
         used,
         number,
         made,
-    } = learn(
-        lower, upper, below, above, n, m, made, j, rows, numbers, cuts,
-    );
-    let back = backjump_level(&cut, 0, n, depth, lowers, uppers).level;
+    } = learned;
+    let back = backjump_level(&sought, q, n, depth, lowers, uppers).level;
     let record = Record {
         count,
         falsified,

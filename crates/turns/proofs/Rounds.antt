@@ -129,10 +129,6 @@ module _ {s : model.Search} {old : List ℕ} {limit : ℕ} {keep : Bool} {thresh
           less = unfold core_over in counts-here.1;
         })
 
-    -- the level where propagation stopped is ready too
-    pub ready-here : (q : Move) → stop_of found.found ≡ q → Whole here → Ready n m made rows here
-    ready-here q f w = state-ready thresholds n m made rows lines divisors numbers here (levels_from n levels depth) r.apart (propagates q f).fits r.counts.few r.counts.inputs made-small w
-
     -- a decision: its variable, and the measure falls
     pub decided-here : (i : ℕ) → stop_of found.found ≡ decide i → i < n
     decided-here i f =

@@ -3,21 +3,17 @@ use Prim.Native.Nat.{ℕ, ◌+◌, ◌*◌, ◌≤◌, ◌<◌}
 use native.Mathlib.Omega.{arith}
 use mathlib.Core.List.{List}
 use mathlib.Core.Logic.{⊎_elim}
-use mathlib.Core.Path.{◌≡◌, refl, ◌∙◌}
+use mathlib.Core.Path.{◌≡◌, ◌∙◌}
 use native.Mathlib.Nat.{eq-or-lt_of_le}
 use borrow.Author.Count.{below_more}
 use lib.IntN.{ℤ, pos}
-use lib.ListN.{length}
 use Rattle.model_problems.specs.Ranges.{max_variables}
 use Rattle.lists.proofs.Bools.{lt-or-le}
-use Rattle.layout.specs.Rows.{row_length, number_in, row_at, rows_length}
+use Rattle.layout.specs.Rows.{row_length, number_in, row_at}
 use Rattle.layout.specs.Copies.{Copied, Placed}
 use Rattle.layout.proofs.Rows.{row_same}
 use Rattle.layout.proofs.Placing.{placed-here, placed-before}
 use Rattle.turns.specs.Setting.{RowsPut}
-
-pub put-none : (n : ℕ) (divisors from rows : List ℤ) → length rows ≡ rows_length → RowsPut n 0 divisors from rows rows
-put-none n divisors from rows e = record { long = e; put = λ i l. absurd (omega arith); kept = λ i l z. refl }
 
 module _ (n j : ℕ) (divisors from before rows : List ℤ) (h : RowsPut n j divisors from before rows) where
   -- input j has no divisor
