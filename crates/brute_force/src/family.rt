@@ -26,6 +26,7 @@ const BOXES: [(i64, i64, i64); 14] = [
 const DIVISORS: [i64; 5] = [2, 3, 4, 6, 1048576];
 
 // A family as its line has it.
+// Stays: numbers for flags, since a line may have any number there and is printed with it.
 #[derive(Clone, Copy)]
 pub struct Family {
     variables: usize,

@@ -17,14 +17,14 @@ pub(crate) enum Command {
 }
 
 impl Command {
-    pub(crate) fn named(word: &[u8]) -> Option<Command> {
+    pub(crate) fn named(word: &str) -> Option<Command> {
         match word {
-            b"check" => Some(Command::Check),
-            b"begin" => Some(Command::Begin),
-            b"append" => Some(Command::Append),
-            b"replace" => Some(Command::Replace),
-            b"choose" => Some(Command::Choose),
-            b"close" => Some(Command::Close),
+            "check" => Some(Command::Check),
+            "begin" => Some(Command::Begin),
+            "append" => Some(Command::Append),
+            "replace" => Some(Command::Replace),
+            "choose" => Some(Command::Choose),
+            "close" => Some(Command::Close),
             _ => None,
         }
     }

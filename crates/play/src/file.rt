@@ -22,17 +22,17 @@ pub(crate) enum Command {
 }
 
 impl Command {
-    pub(crate) fn named(word: &[u8]) -> Option<Command> {
+    pub(crate) fn named(word: &str) -> Option<Command> {
         match word {
-            b"load" => Some(Command::Load),
-            b"length" => Some(Command::Length),
-            b"byte" => Some(Command::Byte),
-            b"word" => Some(Command::Word),
-            b"seal" => Some(Command::Seal),
-            b"read" => Some(Command::Read),
-            b"open" => Some(Command::Open),
-            b"verdict" => Some(Command::Verdict),
-            b"solutions" => Some(Command::Solutions),
+            "load" => Some(Command::Load),
+            "length" => Some(Command::Length),
+            "byte" => Some(Command::Byte),
+            "word" => Some(Command::Word),
+            "seal" => Some(Command::Seal),
+            "read" => Some(Command::Read),
+            "open" => Some(Command::Open),
+            "verdict" => Some(Command::Verdict),
+            "solutions" => Some(Command::Solutions),
             _ => None,
         }
     }

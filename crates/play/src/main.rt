@@ -7,10 +7,10 @@ use filling::read_full;
 use problem::Problem;
 use script::{Failure, Fault};
 use state::Search;
-use std::io;
 use std::io::{Input, IsTerminal};
 use std::rt::Files;
 use std::time::Clock;
+use std::{io, str};
 
 mod calls;
 mod changes;
@@ -61,6 +61,7 @@ impl Player {
         word: &[u8],
         rest: &[u8],
     ) -> Result<(), Failure> {
+        let word = str::from_utf8(word).or(Err(Fault::NoCommand))?;
         if let Some(command) = file::Command::named(word) {
             return self.play_file(rt, stderr, command, rest);
         }
@@ -80,7 +81,7 @@ impl Player {
             return searches::play(rt, command, rest, &mut self.state);
         }
         match word {
-            b"say" => say(rt, rest),
+            "say" => say(rt, rest),
             _ => Err(Failure::Fault(Fault::NoCommand)),
         }
     }

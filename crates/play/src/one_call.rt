@@ -20,14 +20,14 @@ pub(crate) enum Command {
 }
 
 impl Command {
-    pub(crate) fn named(word: &[u8]) -> Option<Command> {
+    pub(crate) fn named(word: &str) -> Option<Command> {
         match word {
-            b"step" => Some(Command::Step),
-            b"run" => Some(Command::Run),
-            b"trace" => Some(Command::Trace),
-            b"list" => Some(Command::List),
-            b"exclude" => Some(Command::Exclude),
-            b"each" => Some(Command::Each),
+            "step" => Some(Command::Step),
+            "run" => Some(Command::Run),
+            "trace" => Some(Command::Trace),
+            "list" => Some(Command::List),
+            "exclude" => Some(Command::Exclude),
+            "each" => Some(Command::Each),
             _ => None,
         }
     }

@@ -1,7 +1,7 @@
 // The problem, and the commands that set its fields and write it.
 use crate::calls;
 use crate::digest::Digest;
-use crate::script::{Failure, Fault, at_most, next_word, numbers, one_number};
+use crate::script::{Failure, Fault, at_most, next_name, numbers, one_number};
 use crate::words::{put, put_in_row};
 use problem::Problem;
 
@@ -11,10 +11,10 @@ pub(crate) enum Command {
 }
 
 impl Command {
-    pub(crate) fn named(word: &[u8]) -> Option<Command> {
+    pub(crate) fn named(word: &str) -> Option<Command> {
         match word {
-            b"set" => Some(Command::Set),
-            b"write" => Some(Command::Write),
+            "set" => Some(Command::Set),
+            "write" => Some(Command::Write),
             _ => None,
         }
     }
@@ -32,16 +32,16 @@ enum Field {
 }
 
 impl Field {
-    fn named(word: &[u8]) -> Option<Field> {
+    fn named(word: &str) -> Option<Field> {
         match word {
-            b"n" => Some(Field::N),
-            b"m" => Some(Field::M),
-            b"budget" => Some(Field::Budget),
-            b"lower" => Some(Field::Lower),
-            b"upper" => Some(Field::Upper),
-            b"threshold" => Some(Field::Threshold),
-            b"divisor" => Some(Field::Divisor),
-            b"row" => Some(Field::Row),
+            "n" => Some(Field::N),
+            "m" => Some(Field::M),
+            "budget" => Some(Field::Budget),
+            "lower" => Some(Field::Lower),
+            "upper" => Some(Field::Upper),
+            "threshold" => Some(Field::Threshold),
+            "divisor" => Some(Field::Divisor),
+            "row" => Some(Field::Row),
             _ => None,
         }
     }
@@ -73,7 +73,7 @@ pub(crate) fn digest(p: &Problem) -> Digest {
 
 // set FIELD [J [I]] Z
 fn set(rest: &[u8], p: &mut Problem) -> Result<(), Fault> {
-    let (name, rest) = next_word(rest).ok_or(Fault::NoField)?;
+    let (name, rest) = next_name(rest).ok_or(Fault::NoField)?;
     match Field::named(name).ok_or(Fault::NoField)? {
         Field::N => p.n = one_number(rest)?,
         Field::M => p.m = one_number(rest)?,

@@ -61,6 +61,12 @@ pub(crate) fn next_word(rest: &[u8]) -> Option<(&[u8], &[u8])> {
     Some(split_word(text))
 }
 
+// The same of a field's name. None is other than text.
+pub(crate) fn next_name(rest: &[u8]) -> Option<(&str, &[u8])> {
+    let (word, rest) = next_word(rest)?;
+    Some((str::from_utf8(word).ok()?, rest))
+}
+
 // The number that digits are.
 fn size(digits: &[u8]) -> Option<usize> {
     if !digits.iter().all(|byte| byte.is_ascii_digit()) {

@@ -15,11 +15,11 @@ pub(crate) enum Command {
 }
 
 impl Command {
-    pub(crate) fn named(word: &[u8]) -> Option<Command> {
+    pub(crate) fn named(word: &str) -> Option<Command> {
         match word {
-            b"steps" => Some(Command::Steps),
-            b"traces" => Some(Command::Traces),
-            b"lists" => Some(Command::Lists),
+            "steps" => Some(Command::Steps),
+            "traces" => Some(Command::Traces),
+            "lists" => Some(Command::Lists),
             _ => None,
         }
     }

@@ -152,6 +152,7 @@ pub(crate) fn litter(s: &mut Search, word: usize) {
     }
 }
 
+// Stays: equality by hand, since the crate `state` derives none.
 fn is_same_level(a: &Level, b: &Level) -> bool {
     a.lower == b.lower
         && a.upper == b.upper

@@ -1,5 +1,5 @@
 // The commands that change and print the state.
-use crate::script::{Failure, Fault, next_word, no_numbers, numbers, one_number};
+use crate::script::{Failure, Fault, next_name, no_numbers, numbers, one_number};
 use crate::state_words;
 use crate::words::{put, put_in_row};
 use state::{Level, Search, Status};
@@ -15,14 +15,14 @@ pub(crate) enum Command {
 }
 
 impl Command {
-    pub(crate) fn named(word: &[u8]) -> Option<Command> {
+    pub(crate) fn named(word: &str) -> Option<Command> {
         match word {
-            b"put" => Some(Command::Put),
-            b"litter" => Some(Command::Litter),
-            b"keep" => Some(Command::Keep),
-            b"back" => Some(Command::Back),
-            b"state" => Some(Command::State),
-            b"digest" => Some(Command::Digest),
+            "put" => Some(Command::Put),
+            "litter" => Some(Command::Litter),
+            "keep" => Some(Command::Keep),
+            "back" => Some(Command::Back),
+            "state" => Some(Command::State),
+            "digest" => Some(Command::Digest),
             _ => None,
         }
     }
@@ -45,20 +45,20 @@ enum Field {
 }
 
 impl Field {
-    fn named(word: &[u8]) -> Option<Field> {
+    fn named(word: &str) -> Option<Field> {
         match word {
-            b"n" => Some(Field::N),
-            b"m" => Some(Field::M),
-            b"budget" => Some(Field::Budget),
-            b"conflicts" => Some(Field::Conflicts),
-            b"propagations" => Some(Field::Propagations),
-            b"made" => Some(Field::Made),
-            b"depth" => Some(Field::Depth),
-            b"status" => Some(Field::Status),
-            b"threshold" => Some(Field::Threshold),
-            b"divisor" => Some(Field::Divisor),
-            b"number" => Some(Field::Number),
-            b"row" => Some(Field::Row),
+            "n" => Some(Field::N),
+            "m" => Some(Field::M),
+            "budget" => Some(Field::Budget),
+            "conflicts" => Some(Field::Conflicts),
+            "propagations" => Some(Field::Propagations),
+            "made" => Some(Field::Made),
+            "depth" => Some(Field::Depth),
+            "status" => Some(Field::Status),
+            "threshold" => Some(Field::Threshold),
+            "divisor" => Some(Field::Divisor),
+            "number" => Some(Field::Number),
+            "row" => Some(Field::Row),
             _ => None,
         }
     }
@@ -74,13 +74,13 @@ enum LevelField {
 }
 
 impl LevelField {
-    fn named(word: &[u8]) -> Option<LevelField> {
+    fn named(word: &str) -> Option<LevelField> {
         match word {
-            b"lower" => Some(LevelField::Lower),
-            b"upper" => Some(LevelField::Upper),
-            b"below" => Some(LevelField::Below),
-            b"above" => Some(LevelField::Above),
-            b"decided" => Some(LevelField::Decided),
+            "lower" => Some(LevelField::Lower),
+            "upper" => Some(LevelField::Upper),
+            "below" => Some(LevelField::Below),
+            "above" => Some(LevelField::Above),
+            "decided" => Some(LevelField::Decided),
             _ => None,
         }
     }
@@ -173,7 +173,7 @@ fn put_level_field(field: LevelField, rest: &[u8], levels: &mut [Level]) -> Resu
 
 // put FIELD [D or J [I]] Z
 fn put_number(rest: &[u8], s: &mut Search) -> Result<(), Fault> {
-    let (name, rest) = next_word(rest).ok_or(Fault::NoField)?;
+    let (name, rest) = next_name(rest).ok_or(Fault::NoField)?;
     if let Some(field) = Field::named(name) {
         return put_field(field, rest, s);
     }

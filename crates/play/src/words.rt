@@ -1,6 +1,7 @@
 // Numbers as words of 64 bits, their two's complement, and back.
 use crate::script::Fault;
 
+// A number that is kept as its 64 bits.
 pub(crate) trait Word: Copy {
     fn of(word: usize) -> Self;
 
