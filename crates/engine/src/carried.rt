@@ -1,4 +1,5 @@
 // What a walk carries along with the level in hand.
+// Stays: arrays side by side, and flat ones for all levels, for `propagate`, `backtrack` and `levels` take them so.
 
 // Of each kept constraint: its minimum activity at the level in hand, and a number that no variable's span exceeds, which may be stale but never too
 // small. Both are stale once a constraint is falsified. `told` is the position of the first that the level falsifies, or how many are kept.
@@ -6,6 +7,7 @@
 pub(crate) struct Track {
     pub activities: [i64; 128],
     pub reaches: [i64; 128],
+    // Stays: a number for 'none', for `propagate::propagate` takes it so.
     pub told: usize,
 }
 

@@ -56,6 +56,7 @@ impl<'a> Given<'a> {
     }
 
     // The first of the divisor constraints of a mask that the level falsifies, if it stands before position `limit`; else that.
+    // Stays: a number for 'none', for `bits::divided::first_indivisible` gives it so.
     pub(crate) fn first_divided(&self, mask: usize, level: &Level, limit: usize) -> usize
         requires { Testable self.now.n self.now.m self.now.lines.now self.now.divisors level.now.lower level.now.upper mask }
         ensures { FirstIndivisible self.now.n self.now.m self.now.lines.now self.now.divisors level.now.lower level.now.upper mask limit result }

@@ -27,20 +27,20 @@ pub(crate) struct Turn {
     pub earlier: usize,
 }
 
-// The level in hand, at the state's depth, which is stored when the search leaves it; the least depth that this call left by a decision; the turns that
-// were left after the last strike, how many of them are done, and the strikes; and what is carried along.
+// The level in hand, at the state's depth, which is stored when the search leaves it, and what is carried along. `left` turns were left after the last
+// strike, and `done` are done since; `low` is the least depth that this call left by a decision.
 #[derive(Drop)]
 pub(crate) struct Walk {
     pub level: Level,
-    pub low: usize,
+    pub tracked: Track,
+    pub masks: Masks,
     pub turn: Turn,
     pub left: usize,
     pub done: usize,
     pub struck: usize,
-    pub tracked: Track,
+    pub low: usize,
     pub saved: Saved,
     pub mirror: Mirror,
-    pub masks: Masks,
 }
 
 impl Walk {
