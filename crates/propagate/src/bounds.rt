@@ -1,6 +1,5 @@
 // Changes of a level's bounds. Everything that sets a bound goes through `set`.
 ghost use Rattle.std.specs.Prelude.{◌≡◌, ◌+◌, ◌≤◌, ◌-ℤ◌};
-ghost use Rattle.model_problems.specs.Ranges.{max_constraints};
 ghost use Rattle.layout.specs.Rows.{number_in};
 ghost use Rattle.state.specs.View.{kept_cuts};
 ghost use Rattle.propagate.specs.Tracked.{Shiftable, Shifted};
@@ -37,7 +36,6 @@ pub(crate) fn set_bound(
     level: &mut Level,
     track: &mut Track,
 ) -> usize
-    requires inputs { kept.now.m ≤ max_constraints }
     requires settable { SettableAt i bound level.old }
     requires shiftable { Shiftable (kept.now.m + kept_cuts kept.now.made) i (rise_of i bound level.old.lower) (fall_of i bound level.old.upper) kept.now.rows.now track.old.activities }
     ensures level { level.new ≡ bounded level.old i bound reason }

@@ -39,7 +39,6 @@ pub struct Track {
 impl Track {
     // The minimum activities of the constraints from position `from` on; what they reach is not known yet.
     pub fn measure(&mut self, kept: &Kept, level: &Level, from: usize)
-        requires inputs { kept.now.m ≤ max_constraints }
         requires fits { (ScanFits kept.now.n (kept.now.m + kept_cuts kept.now.made) kept.now.rows.now level.now.lower level.now.upper) × ((from ≤ kept.now.m + kept_cuts kept.now.made) × Tracked kept.now.n kept.now.rows.now level.now.lower level.now.upper self.old.activities self.old.reaches from) }
         ensures { Tracked kept.now.n kept.now.rows.now level.now.lower level.now.upper self.new.activities self.new.reaches (kept.now.m + kept_cuts kept.now.made) }
     {
@@ -53,7 +52,6 @@ impl Track {
     // The minimum activities after the bounds of variable i changed, the lower one by `rise` and the upper one by `fall`, up to the first constraint that
     // is falsified now. Returns its position, or how many are kept. Past a falsified constraint the activities are stale, and nobody reads them again.
     pub fn shift(&mut self, kept: &Kept, i: usize, rise: i64, fall: i64) -> usize
-        requires inputs { kept.now.m ≤ max_constraints }
         requires shiftable { Shiftable (kept.now.m + kept_cuts kept.now.made) i rise fall kept.now.rows.now self.old.activities }
         ensures shifted { Shifted (kept.now.m + kept_cuts kept.now.made) i rise fall kept.now.rows.now self.old.activities self.new.activities result }
         ensures reaches { self.new.reaches ≡ self.old.reaches }

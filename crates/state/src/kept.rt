@@ -16,7 +16,7 @@ pub fn kept_cuts(made: usize) -> usize
 
 // How many constraints are kept.
 pub fn kept_count(m: usize, made: usize) -> usize
-    requires { m ≤ max_constraints }
+    requires { m ≤ max_rows }
     ensures { result ≡ m + kept_cuts made }
 {
     m + kept_cuts(made)
@@ -72,7 +72,7 @@ pub struct Kept<'a> {
 impl<'a> Kept<'a> {
     // How many they are.
     pub fn count(&self) -> usize
-        requires { self.now.m ≤ max_constraints }
+        requires { self.now.m ≤ max_rows }
         ensures { result ≡ self.now.m + kept_cuts self.now.made }
     {
         kept_count(self.m, self.made)
