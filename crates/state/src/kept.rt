@@ -59,3 +59,52 @@ pub fn position_of(m: usize, made: usize, number: usize) -> Option<usize>
         None
     }
 }
+
+// A view of them, with their sizes.
+#[derive(Clone, Copy)]
+pub struct Kept<'a> {
+    pub rows: &'a [i64; 4224],
+    pub n: usize,
+    pub m: usize,
+    pub made: usize,
+}
+
+impl<'a> Kept<'a> {
+    // How many they are.
+    pub fn count(&self) -> usize
+        requires { self.now.m ≤ max_constraints }
+        ensures { result ≡ self.now.m + kept_cuts self.now.made }
+    {
+        kept_count(self.m, self.made)
+    }
+
+    // The number of the one at position j.
+    pub fn number_of(&self, j: usize) -> usize
+        requires { (j < max_rows) × (self.now.made ≤ max_budget) }
+        ensures { result ≡ number_for self.now.m self.now.made j }
+    {
+        number_of(self.m, self.made, j)
+    }
+}
+
+// The rows of the kept constraints, the numbers of the cuts among them, and how many cuts were made.
+#[derive(Drop)]
+pub struct Store {
+    pub rows: [i64; 4224],
+    pub numbers: [usize; 64],
+    pub made: usize,
+}
+
+impl Store {
+    // The kept constraints, where n and m are the sizes.
+    pub fn kept(&self, n: usize, m: usize) -> Kept<'_>
+        ensures { (result.rows.now ≡ self.now.rows) × ((result.n ≡ n) × ((result.m ≡ m) × (result.made ≡ self.now.made))) }
+    {
+        Kept {
+            rows: &self.rows,
+            n,
+            m,
+            made: self.made,
+        }
+    }
+}
