@@ -5,6 +5,7 @@ use Rattle.model_problems.specs.Constraint.{falsified, in_range}
 use Rattle.linear.specs.Ranges.{BoxFits, DivisorFits}
 use Rattle.layout.specs.Rows.{row_length, number_in, cell, row_at, input_at, box_of, rows_length}
 use Rattle.bits.specs.Masks.{bit}
+use Rattle.bits.specs.declared.divided.Divided.{Divided}
 
 -- ---- masks of inputs: each that is left out carries no divisor, or is spared
 pub record Due (m : ℕ) (divisors : List ℤ) (Spared : ℕ → Type 0) (mask : ℕ) : Type 0 where
@@ -22,6 +23,13 @@ Unmentioned lines i j = cell lines (row_length * j) i ≡ pos 0
 pub record Columns (n m : ℕ) (lines divisors : List ℤ) (columns : List ℕ) : Type 0 where
   pub long : length columns ≡ max_variables
   pub at : (i : ℕ) → i < n → Due m divisors (Unmentioned lines i) (get_or columns i 0)
+
+-- the inputs set apart, with the masks of those that carry a divisor
+pub record SetApart (n m : ℕ) (lines divisors : List ℤ) (d : Divided) : Type 0 where
+  pub given : d.lines ≡ lines
+  pub carried : d.divisors ≡ divisors
+  pub all : Due m divisors Everyone d.all
+  pub columns : Columns n m lines divisors d.columns
 
 -- ---- the first of a mask that these bounds falsify
 pub record Testable (n m : ℕ) (lines divisors lower upper : List ℤ) (mask : ℕ) : Type 0 where

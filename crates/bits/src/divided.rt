@@ -3,14 +3,24 @@
 ghost use Rattle.std.specs.Prelude.{◌≡◌, pos, ◌≤◌, ◌<◌, length};
 ghost use Rattle.model_problems.specs.Ranges.{max_variables, max_constraints};
 ghost use Rattle.layout.specs.Rows.{rows_length};
-ghost use Rattle.bits.specs.Divided.{Due, Everyone, Unmentioned, Testable, FirstIndivisible, Columns};
+ghost use Rattle.bits.specs.Divided.{Due, Everyone, Unmentioned, Testable, FirstIndivisible, Columns, SetApart};
 
 use crate::masks::{SetBits, mask_where};
 use layout::ROW;
 use linear::divisibility::is_falsified;
+use state::Level;
+
+// The rows of the inputs with their divisors; the inputs that carry a divisor, and those of them that mention each variable.
+#[derive(Drop)]
+pub struct Divided {
+    pub lines: [i64; 4224],
+    pub divisors: [i64; 64],
+    pub all: usize,
+    pub columns: [usize; 32],
+}
 
 // The inputs that carry a divisor.
-pub fn divided_mask(divisors: &[i64; 64], m: usize) -> usize
+fn divided_mask(divisors: &[i64; 64], m: usize) -> usize
     requires { (m ≤ max_constraints) × (length divisors.now ≡ max_constraints) }
     ensures { Due m divisors.now Everyone result }
 {
@@ -26,7 +36,7 @@ fn column_mask(lines: &[i64; 4224], divisors: &[i64; 64], m: usize, i: usize) ->
 }
 
 // Those of every variable; none where no input carries a divisor.
-pub fn columns(
+fn columns(
     lines: &[i64; 4224],
     divisors: &[i64; 64],
     n: usize,
@@ -45,27 +55,48 @@ pub fn columns(
     columns
 }
 
-// The position of the first constraint of a mask that these bounds falsify, if it stands before `limit`; else `limit`.
-pub fn first_indivisible(
-    lines: &[i64; 4224],
-    divisors: &[i64; 64],
-    mask: usize,
-    lower: &[i64; 32],
-    upper: &[i64; 32],
-    n: usize,
-    m: usize,
-    limit: usize,
-) -> usize
-    requires { Testable n m lines.now divisors.now lower.now upper.now mask }
-    ensures { FirstIndivisible n m lines.now divisors.now lower.now upper.now mask limit result }
-{
-    for j in SetBits(mask) {
-        if limit <= j {
-            return limit;
-        }
-        if is_falsified(lines, ROW * j, divisors[j], lower, upper, n) {
-            return j;
+impl Divided {
+    pub fn new(lines: &[i64; 4224], divisors: &[i64; 64], n: usize, m: usize) -> Divided
+        requires { (n ≤ max_variables) × ((m ≤ max_constraints) × ((length lines.now ≡ rows_length) × (length divisors.now ≡ max_constraints))) }
+        ensures { SetApart n m lines.now divisors.now result }
+    {
+        let all = divided_mask(divisors, m);
+        let columns = columns(lines, divisors, n, m, all);
+        Divided {
+            lines: *lines,
+            divisors: *divisors,
+            all,
+            columns,
         }
     }
-    limit
+
+    // The position of the first constraint of a mask that the level falsifies, if it stands before `limit`; else `limit`.
+    pub fn first_falsified(
+        &self,
+        due: usize,
+        level: &Level,
+        n: usize,
+        m: usize,
+        limit: usize,
+    ) -> usize
+        requires { Testable n m self.now.lines self.now.divisors level.now.lower level.now.upper due }
+        ensures { FirstIndivisible n m self.now.lines self.now.divisors level.now.lower level.now.upper due limit result }
+    {
+        for j in SetBits(due) {
+            if limit <= j {
+                return limit;
+            }
+            if is_falsified(
+                &self.lines,
+                ROW * j,
+                self.divisors[j],
+                &level.lower,
+                &level.upper,
+                n,
+            ) {
+                return j;
+            }
+        }
+        limit
+    }
 }

@@ -6,6 +6,8 @@ ghost use Rattle.layout.specs.Rows.{row_length};
 ghost use Rattle.bits.specs.Masks.{bit, Mentions, Opens, Masked};
 ghost use Rattle.bits.specs.Walk.{First, Rest, Step};
 
+use state::Level;
+
 // The numbers below `count` that pass a test. Each turn makes room at bit 0 for the number below.
 pub(crate) fn mask_where<F: Fn(usize) -> bool>(count: usize, test: F) -> usize
     requires few { count ≤ max_constraints }
@@ -29,11 +31,11 @@ pub fn row_mask(rows: &[i64], start: usize, n: usize) -> usize
 }
 
 // The variables with L < U.
-pub fn open_mask(lower: &[i64; 32], upper: &[i64; 32], n: usize) -> usize
+pub fn open_mask(level: &Level, n: usize) -> usize
     requires { n ≤ max_variables }
-    ensures { Opens n lower.now upper.now result }
+    ensures { Opens n level.now.lower level.now.upper result }
 {
-    mask_where(n, |i| lower[i] < upper[i])
+    mask_where(n, |i| level.lower[i] < level.upper[i])
 }
 
 // The lowest bit that is set.
@@ -80,10 +82,23 @@ pub fn both(a: usize, b: usize) -> usize
     a & b
 }
 
-// The mask of the constraint at position j: of the m inputs, or of the cuts after them.
-pub fn mask_of(inputs: &[usize; 64], cuts: &[usize; 64], m: usize, j: usize) -> usize
-    requires { (m ≤ max_constraints) × (j < m + max_cuts) }
-    ensures { (n kept : ℕ) (rows : List ℤ) → Masked n m kept rows inputs.now cuts.now → j < kept → Mentions n rows (row_length * j) result }
-{
-    if j < m { inputs[j] } else { cuts[j - m] }
+// The variables that each input and each kept cut mentions.
+#[derive(Drop)]
+pub struct Masks {
+    pub inputs: [usize; 64],
+    pub cuts: [usize; 64],
+}
+
+impl Masks {
+    // The mask of the constraint at position j: of the m inputs, or of the cuts after them.
+    pub fn of(&self, m: usize, j: usize) -> usize
+        requires { (m ≤ max_constraints) × (j < m + max_cuts) }
+        ensures { (n kept : ℕ) (rows : List ℤ) → Masked n m kept rows self.now.inputs self.now.cuts → j < kept → Mentions n rows (row_length * j) result }
+    {
+        if j < m {
+            self.inputs[j]
+        } else {
+            self.cuts[j - m]
+        }
+    }
 }

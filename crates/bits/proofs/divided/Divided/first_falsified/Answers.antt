@@ -1,4 +1,4 @@
--- `bits::divided::first_indivisible` meets its contract: the constraints whose bit is gone are not falsified. Assumes nothing.
+-- `bits::divided::Divided::first_falsified` meets its contract: the constraints whose bit is gone are not falsified. Assumes nothing.
 use Rattle.bits.proofs.Bits.{bit_past}
 use Prim.Native.Nat.{ℕ, ◌*◌, ◌≤◌, ◌<◌, ◌^◌}
 use native.Mathlib.Omega.{arith}
@@ -15,7 +15,7 @@ use Rattle.layout.proofs.Elements.{back, number_read}
 use Rattle.linear.proofs.Ranges.{row_fits}
 use Rattle.model_problems.specs.Constraint.{falsified}
 use Rattle.layout.specs.Rows.{row_length, row_at, divided_at, input_at, box_of}
-use Rattle.bits.proofs.divided.first_indivisible.Goals as goal
+use Rattle.bits.proofs.divided.Divided.first_falsified.Goals as goal
 
 -- what the test of an input told: the divisor is that of the input, as it is read
 tested : (n j : ℕ) (lines divisors lower upper : List ℤ) {b : Bool} → mag (get_or divisors j (pos 0)) < 2 ^ 63 →
@@ -25,7 +25,7 @@ unfolding input_at
 tested n j lines divisors lower upper h e = rw (number_read divisors j h) at e
 
 pub is_falsified-requires-clause-divisor_fits : goal.is_falsified-requires-clause-divisor_fits
-is_falsified-requires-clause-divisor_fits c = rw (number_read c.args.divisors.now c.in-Some.j (omega arith)) (c.requires.fits _ (c.in-Some.ensures.steps.0.inside _ c.loop-j.invariant.inside))
+is_falsified-requires-clause-divisor_fits c = rw (number_read c.args.self.now.divisors c.in-Some.j (omega arith)) (c.requires.fits _ (c.in-Some.ensures.steps.0.inside _ c.loop-j.invariant.inside))
 
 pub is_falsified-requires-clause-row_fits : goal.is_falsified-requires-clause-row_fits
 is_falsified-requires-clause-row_fits c =
@@ -40,7 +40,7 @@ returns-then-is_falsified c =
     record {
       most = omega arith;
       before = λ k h. c.loop-j.invariant.gone k (s.before k h);
-      here = λ h. (s.inside _ c.loop-j.invariant.inside, sym (tested _ j _ c.args.divisors.now _ _ (omega arith) c.is_falsified.ensures) ∙ c.if-is_falsified.true);
+      here = λ h. (s.inside _ c.loop-j.invariant.inside, sym (tested _ j _ c.args.self.now.divisors _ _ (omega arith) c.is_falsified.ensures) ∙ c.if-is_falsified.true);
     }
 
 pub loop-j-preserved : goal.loop-j-preserved
@@ -53,7 +53,7 @@ loop-j-preserved c =
           ⊎_elim
           (λ (h : k < j). c.loop-j.invariant.gone k (s.0.before k h))
           (λ (h : j ≤ k). ⊎_elim
-          (λ (e : j ≡ k). inr (rw (← e) (sym (tested _ j _ c.args.divisors.now _ _ (omega arith) c.is_falsified.ensures) ∙ c.if-is_falsified.false)))
+          (λ (e : j ≡ k). inr (rw (← e) (sym (tested _ j _ c.args.self.now.divisors _ _ (omega arith) c.is_falsified.ensures) ∙ c.if-is_falsified.false)))
           (λ (g : j < k). c.loop-j.invariant.gone k (sym (s.1.kept j s.0 k g) ∙ z))
           (eq-or-lt_of_le h))
           (lt-or-le k j);

@@ -1,8 +1,8 @@
--- `bits::masks::mask_of` meets its contract. Assumes nothing.
+-- `bits::masks::Masks::of` meets its contract. Assumes nothing.
 use Prim.Native.Nat.{◌+◌, ◌-◌}
 use native.Mathlib.Omega.{arith}
 use mathlib.Core.Path.{◌≡◌}
-use Rattle.bits.proofs.masks.mask_of.Goals as goal
+use Rattle.bits.proofs.masks.Masks.of.Goals as goal
 
 pub returns-then-j-m : goal.returns-then-j-m
 returns-then-j-m c = λ n kept rows k h. k.input _ c.if-j-m.true
