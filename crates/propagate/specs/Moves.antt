@@ -3,7 +3,7 @@ use Rattle.std.specs.Prelude.{ℕ, cond, ltb, Option, Some, None}
 use Rattle.std.proofs.Math.Option as math
 use Rattle.model_walk.specs.Move as model
 use Rattle.linear.specs.Improvement.{move_at}
-use Rattle.propagate.specs.declared.scan.Improvement.{Improvement}
+use Rattle.propagate.specs.declared.track.Improvement.{Improvement}
 use Rattle.propagate.specs.declared.propagate.Found.{Found}
 use Rattle.propagate.specs.declared.propagate.Found.TheVariants.{Conflict, Decide, Finish}
 

@@ -1,36 +1,15 @@
-// Changes of a level's bounds. Everything that sets a bound goes through `set`; `shift` lets the minimum activities follow, where they are kept.
-ghost use Rattle.std.specs.Prelude.{◌≡◌, ℕ, ◌-ℤ◌};
+// Changes of a level's bounds. Everything that sets a bound goes through `set`.
+ghost use Rattle.std.specs.Prelude.{◌≡◌, ◌+◌, ◌≤◌, ◌-ℤ◌};
+ghost use Rattle.model_problems.specs.Ranges.{max_constraints};
 ghost use Rattle.layout.specs.Rows.{number_in};
+ghost use Rattle.state.specs.View.{kept_cuts};
 ghost use Rattle.propagate.specs.Tracked.{Shiftable, Shifted};
 ghost use Rattle.propagate.specs.Bounds.{Settable, SettableAt, BoundSet, rise_of, fall_of, bounded};
-ghost use Rattle.state.specs.Change.{held};
 
-use layout::ROW;
-use linear::activity::{Bound, term};
-
-// The minimum activities after the bounds of variable i changed, the lower one by `rise` and the upper one by `fall`, up to the first constraint that
-// is falsified now. Returns its position, or `kept`. Past a falsified constraint the activities are stale, and nobody reads them again.
-pub fn shift(
-    rows: &[i64; 4224],
-    i: usize,
-    rise: i64,
-    fall: i64,
-    kept: usize,
-    activities: &mut [i64; 128],
-) -> usize
-    requires { Shiftable kept i rise fall rows.now activities.old }
-    ensures { Shifted kept i rise fall rows.now activities.old activities.new result }
-{
-    // Stays: `kept` stands for none, since the result is the limit of the scan for an indivisible sum that comes next (`FirstIndivisible`).
-    for j in 0..kept {
-        let activity = activities[j] + term(rows[ROW * j + 1 + i], rise, fall);
-        activities[j] = activity;
-        if 0 < activity {
-            return j;
-        }
-    }
-    kept
-}
+use crate::track::Track;
+use linear::activity::Bound;
+use state::Level;
+use state::kept::Kept;
 
 // Sets the bound of variable i on one side, and its reason. Returns by how much the bound changed.
 pub fn set(
@@ -49,33 +28,31 @@ pub fn set(
     v - old
 }
 
-// Sets a bound of variable i, and its reason. Returns the position of the first constraint that is falsified now, or `kept`.
+// Sets a bound of variable i, and its reason. Returns the position of the first constraint that is falsified now, or how many are kept.
 pub(crate) fn set_bound(
-    rows: &[i64; 4224],
+    kept: &Kept,
     i: usize,
     bound: Bound,
     reason: usize,
-    kept: usize,
-    lower: &mut [i64; 32],
-    upper: &mut [i64; 32],
-    below: &mut [usize; 32],
-    above: &mut [usize; 32],
-    activities: &mut [i64; 128],
+    level: &mut Level,
+    track: &mut Track,
 ) -> usize
-    requires settable { SettableAt i bound (held lower.old upper.old below.old above.old 0) }
-    requires shiftable { Shiftable kept i (rise_of i bound lower.old) (fall_of i bound upper.old) rows.now activities.old }
-    ensures level { (d : ℕ) → held lower.new upper.new below.new above.new d ≡ bounded (held lower.old upper.old below.old above.old d) i bound reason }
-    ensures shifted { Shifted kept i (rise_of i bound lower.old) (fall_of i bound upper.old) rows.now activities.old activities.new result }
+    requires inputs { kept.now.m ≤ max_constraints }
+    requires settable { SettableAt i bound level.old }
+    requires shiftable { Shiftable (kept.now.m + kept_cuts kept.now.made) i (rise_of i bound level.old.lower) (fall_of i bound level.old.upper) kept.now.rows.now track.old.activities }
+    ensures level { level.new ≡ bounded level.old i bound reason }
+    ensures shifted { Shifted (kept.now.m + kept_cuts kept.now.made) i (rise_of i bound level.old.lower) (fall_of i bound level.old.upper) kept.now.rows.now track.old.activities track.new.activities result }
+    ensures reaches { track.new.reaches ≡ track.old.reaches }
 {
     // Stays: a call of `shift` in each arm, where the other side's change is 0. One call after the match takes 1.05 times as long.
     match bound {
         Bound::Lower(v) => {
-            let rise = set(lower, below, i, v, reason);
-            shift(rows, i, rise, 0, kept, activities)
+            let rise = set(&mut level.lower, &mut level.below, i, v, reason);
+            track.shift(kept, i, rise, 0)
         }
         Bound::Upper(v) => {
-            let fall = set(upper, above, i, v, reason);
-            shift(rows, i, 0, fall, kept, activities)
+            let fall = set(&mut level.upper, &mut level.above, i, v, reason);
+            track.shift(kept, i, 0, fall)
         }
     }
 }

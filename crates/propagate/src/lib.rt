@@ -3,4 +3,4 @@
 
 pub mod bounds;
 pub mod propagate;
-pub mod scan;
+pub mod track;

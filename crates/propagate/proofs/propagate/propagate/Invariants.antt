@@ -7,7 +7,8 @@ use Rattle.propagate.proofs.propagate.propagate.Given as goal
 
 abbrev pub invariant-loop-falsified : goal.invariant-loop-falsified
 invariant-loop-falsified l =
-    Loop l.thresholds (kept_over l.n l.m l.made l.rows l.lines l.divisors) l.n l.m l.made l.rows l.«open» l.initial.lower l.initial.upper l.initial.below l.initial.above l.earlier l.lower l.upper l.below l.above l.activities l.reaches l.falsified l.count
+    let k = l.kept in
+    Loop l.thresholds (kept_over k.n k.m k.made k.rows.now l.divided.lines l.divided.divisors) k.n k.m k.made k.rows.now l.«open» l.initial.level l.earlier l.level l.track.activities l.track.reaches l.falsified l.count
 
 abbrev pub decreases-loop-falsified : goal.decreases-loop-falsified
-decreases-loop-falsified l = slack (box_of l.n l.lower l.upper)
+decreases-loop-falsified l = slack (box_of l.kept.n l.level.lower l.level.upper)

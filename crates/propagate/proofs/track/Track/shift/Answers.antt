@@ -1,4 +1,4 @@
--- `propagate::bounds::shift` meets its contract: the activities passed are changed and not above 0, and the others are as they were. Assumes nothing.
+-- `propagate::track::Track::shift` meets its contract: the activities passed are changed and not above 0, and the others are as they were. Assumes nothing.
 use Prim.Native.Nat.{ℕ, ◌<◌, ◌*◌}
 use native.Mathlib.Omega.{arith}
 use mathlib.Core.List.{List}
@@ -16,7 +16,7 @@ use Rattle.linear.specs.Reach.{widest_span}
 use Rattle.layout.specs.Rows.{row_length, number_in, cell, max_rows}
 use Rattle.propagate.specs.Tracked.{Shiftable}
 use Rattle.propagate.proofs.Tracking.{Shifting, shifting-more, shifting-hit}
-use Rattle.propagate.proofs.bounds.shift.Goals as goal
+use Rattle.propagate.proofs.track.Track.shift.Goals as goal
 
 module _ {kept i : ℕ} {rise fall : ℤ} {rows old : List ℤ} (p : Shiftable kept i rise fall rows old) where
   -- a coefficient and the change, as they are read
@@ -53,30 +53,33 @@ module _ {kept i : ℕ} {rise fall : ℤ} {rows old : List ℤ} (p : Shiftable k
 pub term-requires : goal.term-requires
 unfolding cell number_in
 term-requires c =
-    let p = c.requires in
-    let h = c.loop-j-test.true in
+    let p = c.requires.shiftable in
+    let h = rw c.count-count.ensures at c.loop-j-test.true in
     rw (coefficient p c.loop-j.j h, rises p, falls p) (change p c.loop-j.j h)
 
 pub overflow_add-activity : goal.overflow_add-activity
 unfolding number_in
-overflow_add-activity c = sum-fits c.requires c.loop-j.j (rw (rises c.requires, falls c.requires) at c.loop-j.invariant) c.loop-j-test.true c.term.ensures.by_index
+overflow_add-activity c = sum-fits c.requires.shiftable c.loop-j.j (rw (rises c.requires.shiftable, falls c.requires.shiftable) at c.loop-j.invariant.shifting) (rw c.count-count.ensures at c.loop-j-test.true) c.term.ensures.by_index
 
-pub returns-then-activity-gt0 : goal.returns-then-activity-gt0
+pub returns-then-activity-gt0-clause-shifted : goal.returns-then-activity-gt0-clause-shifted
 unfolding cell number_in
-returns-then-activity-gt0 c =
-    let p = c.requires in
-    let s = rw (rises p, falls p) at c.loop-j.invariant in
-    let h = c.loop-j-test.true in
+returns-then-activity-gt0-clause-shifted c =
+    let p = c.requires.shiftable in
+    let s = rw (rises p, falls p) at c.loop-j.invariant.shifting in
+    let h = rw c.count-count.ensures at c.loop-j-test.true in
     let e = rw (coefficient p c.loop-j.j h, rises p, falls p) at c.term.ensures.value in
     let d = stored p c.loop-j.j s h c.term.ensures.by_index in
-    rw d (shifting-hit _ _ _ _ _ _ _ _ s (room p c.loop-j.j s h c.term.ensures.by_index) (ap (λ (z : ℤ). number_in c.loop-j.activities c.loop-j.j +ℤ z) e) _ h (lt_z-true (rw d at c.if-activity-gt0.true)))
+    rw d (shifting-hit _ _ _ _ _ _ _ _ s (room p c.loop-j.j s h c.term.ensures.by_index) (ap (λ (z : ℤ). number_in c.loop-j.self.activities c.loop-j.j +ℤ z) e) _ h (lt_z-true (rw d at c.if-activity-gt0.true)))
 
 pub loop-j-preserved : goal.loop-j-preserved
 unfolding cell number_in
 loop-j-preserved c =
-    let p = c.requires in
-    let s = rw (rises p, falls p) at c.loop-j.invariant in
-    let h = c.loop-j-test.true in
+    let p = c.requires.shiftable in
+    let s = rw (rises p, falls p) at c.loop-j.invariant.shifting in
+    let h = rw c.count-count.ensures at c.loop-j-test.true in
     let e = rw (coefficient p c.loop-j.j h, rises p, falls p) at c.term.ensures.value in
     let d = stored p c.loop-j.j s h c.term.ensures.by_index in
-    rw (rises p, falls p, d) (shifting-more _ _ _ _ _ _ _ _ s (room p c.loop-j.j s h c.term.ensures.by_index) (ap (λ (z : ℤ). number_in c.loop-j.activities c.loop-j.j +ℤ z) e) (lt_z-false (rw d at c.if-activity-gt0.false)))
+    record {
+      shifting = rw (rises p, falls p, d) (shifting-more _ _ _ _ _ _ _ _ s (room p c.loop-j.j s h c.term.ensures.by_index) (ap (λ (z : ℤ). number_in c.loop-j.self.activities c.loop-j.j +ℤ z) e) (lt_z-false (rw d at c.if-activity-gt0.false)));
+      reaches = c.loop-j.invariant.reaches;
+    }

@@ -1,4 +1,4 @@
--- `propagate::scan::first_falsified` meets its contract: no number passed is above 0. Assumes nothing.
+-- `propagate::track::Track::first_falsified` meets its contract: no number passed is above 0. Assumes nothing.
 use Prim.Native.Nat.{ℕ, ◌<◌, ◌≤◌}
 use native.Mathlib.Omega.{arith}
 use mathlib.Core.Bool.{Bool, true, false}
@@ -18,7 +18,7 @@ use Rattle.integer.specs.Tests.{back, lt_z-true, lt_z-false}
 use Rattle.linear.specs.Ranges.{widest_activity}
 use Rattle.layout.specs.Rows.{number_in}
 use Rattle.propagate.specs.Tracked.{FirstAbove}
-use Rattle.propagate.proofs.scan.first_falsified.Goals as goal
+use Rattle.propagate.proofs.track.Track.first_falsified.Goals as goal
 
 -- whether the number at k is above 0, as the code tests it
 abbrev above : List ℤ → ℕ → Bool
@@ -37,6 +37,6 @@ module _ (kept : ℕ) (xs : List ℤ) (size : (k : ℕ) → k < kept → Within 
 pub returns : goal.returns
 unfolding number_in
 returns c =
-    let xs = c.args.activities.now in
+    let xs = c.args.self.now.activities in
     let found = first_from_Range _ _ _ c.find.result (λ k. above xs k ≡ true) (λ k. above xs k ≡ false) c.find.ensures.ran (λ x q k. search (rules, tests)) (λ x q k. search (rules, tests)) in
-    rw c.unwrap_or.ensures (first c.args.kept xs c.requires.1 c.find.result found)
+    rw c.unwrap_or.ensures (first c.args.count xs c.requires.1 c.find.result found)
