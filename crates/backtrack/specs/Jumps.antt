@@ -2,13 +2,21 @@
 use Rattle.std.specs.Prelude.{ℕ, ◌+◌, ◌≤◌, ◌<◌, List, ◌≡◌, ℤ, get_or, set, length}
 use Rattle.model_problems.specs.Ranges.{max_variables, max_constraints, max_budget}
 use Rattle.model_problems.specs.Threshold.{next_value}
-use Rattle.layout.specs.Rows.{number_in}
+use Rattle.layout.specs.Rows.{number_in, max_rows}
 use Rattle.state.specs.View.{kept_cuts, decision_reason, flipped_reason}
 use Rattle.state.specs.declared.Level.{Level}
 use Rattle.propagate.specs.Tracked.{ScanFits, Tracked, Told}
 use Rattle.backtrack.specs.Saved.{Roomy, SavedAt, Saved}
 
 -- ---- a decision at variable i
+-- the level at `depth` can be saved
+pub record Savable (m depth : ℕ) (activities reaches olds limits : List ℤ) (gones counts : List ℕ) : Type 0 where
+  pub inputs : m ≤ max_constraints
+  pub deep : depth ≤ max_variables
+  pub activities_long : length activities ≡ max_rows
+  pub reaches_long : length reaches ≡ max_rows
+  pub room : Roomy olds limits gones counts
+
 pub record Decidable (n m made : ℕ) (rows lower upper : List ℤ) (i depth : ℕ) (activities reaches olds limits : List ℤ) (gones counts : List ℕ) : Type 0 where
   pub inputs : m ≤ max_constraints
   pub fits : ScanFits n (m + kept_cuts made) rows lower upper

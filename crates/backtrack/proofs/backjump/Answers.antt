@@ -1,6 +1,6 @@
 -- `backtrack::backjump` meets its contract. Assumes nothing.
 use native.Mathlib.Omega.{arith}
-use mathlib.Core.Path.{◌≡◌, ◌∙◌}
+use mathlib.Core.Path.{◌≡◌, ap, ◌∙◌}
 use lib.Dec.{lit≤}
 use lib.IntN.{ℤ}
 use lib.ListN.{length-set}
@@ -10,6 +10,7 @@ use mir.Val.{SFits, to_z, of_z}
 use Rattle.integer.specs.Size.{weaken}
 use Rattle.lists.proofs.Bools.{true_of}
 use Rattle.linear.proofs.Ranges.{lower-within}
+use Rattle.state.specs.declared.Level.{Level}
 use Rattle.propagate.proofs.Tracking.{shiftable, told-set, raised-closes}
 use Rattle.backtrack.proofs.Moving.{flipped_above, flipped-rise}
 use borrow.Author.Rules.{rules}
@@ -23,25 +24,23 @@ pub flip-rise-requires : goal.flip-rise-requires
 flip-rise-requires c =
     let a = c.args in
     let p = c.requires.0 in
-    (omega (arith, p.fits.few, p.variable), (weaken (lit≤ tt) (lower-within _ a.lower.now a.upper.now (true_of _ p.fits.bounds) a.i p.variable), flipped-rise _ _ _ _ _ _ _ p.fits p.next p.variable p.lowers))
+    (omega (arith, p.fits.few, p.variable), (weaken (lit≤ tt) (lower-within _ a.level.now.lower a.level.now.upper (true_of _ p.fits.bounds) a.i p.variable), flipped-rise _ _ _ _ _ _ _ p.fits p.next p.variable p.lowers))
 
-pub shift-requires : goal.shift-requires
-shift-requires c =
+pub shift-requires-clause-shiftable : goal.shift-requires-clause-shiftable
+shift-requires-clause-shiftable c =
     let p = c.requires.0 in
-    let k = c.kept_count-kept.ensures in
-    rw (rise (search rules) c.flip-rise.ensures.0, k)
-    (shiftable _ _ _ _ _ _ _ _ _ _ p.fits (rw k at c.measure.ensures) p.variable (flipped-rise _ _ _ _ _ _ _ p.fits p.next p.variable p.lowers) (record { within = omega arith }))
+    rw (rise (search rules) c.flip-rise.ensures.0)
+    (shiftable _ _ _ _ _ _ _ _ _ _ p.fits c.measure.ensures p.variable (flipped-rise _ _ _ _ _ _ _ p.fits p.next p.variable p.lowers) (record { within = omega arith }))
 
-pub returns : goal.returns
-returns c =
+pub returns-clause-flipped : goal.returns-clause-flipped
+returns-clause-flipped c =
     let a = c.args in
     let p = c.requires.0 in
-    let k = c.kept_count-kept.ensures in
     let set = c.flip-rise.ensures.1 in
-    let t = rw (rise (search rules) c.flip-rise.ensures.0, k) at c.shift.ensures in
+    let t = rw (rise (search rules) c.flip-rise.ensures.0) at c.shift.ensures.shifted in
     record {
-      bound = set.bound;
-      why = set.why;
-      told = rw set.bound (told-set _ _ _ _ _ _ _ _ _ _ _ _ _ _ (rw k at c.measure.ensures) p.next (length-set a.lower.now _ _ ∙ p.lowers) p.uppers
-          (raised-closes _ _ _ _ a.i _ p.variable (omega (arith, p.fits.few, p.lowers)) (flipped_above a.thresholds.now a.lower.now a.i)) t);
+      bound = ap (λ (l : Level). l.lower) set;
+      why = ap (λ (l : Level). l.below) set;
+      told = rw (ap (λ (l : Level). l.lower) set, c.shift.ensures.reaches) (told-set _ _ _ _ _ _ _ _ _ _ _ _ _ _ c.measure.ensures p.next (length-set a.level.now.lower _ _ ∙ p.lowers) p.uppers
+          (raised-closes _ _ _ _ a.i _ p.variable (omega (arith, p.fits.few, p.lowers)) (flipped_above a.thresholds.now a.level.now.lower a.i)) t);
     }

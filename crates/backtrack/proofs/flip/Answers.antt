@@ -1,6 +1,6 @@
 -- `backtrack::flip` meets its contract. Assumes nothing.
 use mathlib.Core.List.{List}
-use mathlib.Core.Path.{◌≡◌, ◌∙◌}
+use mathlib.Core.Path.{◌≡◌, refl, ◌∙◌}
 use Prim.Native.Nat.{ℕ}
 use lib.Dec.{lit<, lit≤}
 use lib.IntN.{ℤ, pos}
@@ -33,14 +33,14 @@ module _ (lower : List ℤ) (i : ℕ) (w : Within widest_bound (number_in lower 
 
 pub next_value-next-requires : goal.next_value-next-requires
 unfolding number_in
-next_value-next-requires c = rw (value c.args.lower.now c.args.i c.requires.1.0) (weaken (lit≤ tt) c.requires.1.0)
+next_value-next-requires c = rw (value c.args.level.now.lower c.args.i c.requires.1.0) (weaken (lit≤ tt) c.requires.1.0)
 
 pub set-requires : goal.set-requires
 set-requires c =
     let p = c.requires in
-    rw (next c.args.lower.now c.args.i p.1.0 c.args.thresholds.now (search rules) (search rules) c.next_value-next.ensures) (record { variable = p.0; old = p.1.0; change = p.1.1 })
+    rw (next c.args.level.now.lower c.args.i p.1.0 c.args.thresholds.now (search rules) (search rules) c.next_value-next.ensures) (record { variable = p.0; old = p.1.0; change = p.1.1 })
 
 pub returns : goal.returns
 returns c =
     let f : SFits w64 c.set.result = search rules in
-    rw (to_z-of_z f, ← next c.args.lower.now c.args.i c.requires.1.0 c.args.thresholds.now (search rules) (search rules) c.next_value-next.ensures) c.set.ensures
+    rw (to_z-of_z f, ← next c.args.level.now.lower c.args.i c.requires.1.0 c.args.thresholds.now (search rules) (search rules) c.next_value-next.ensures) (c.set.ensures.0, rw (c.set.ensures.1.bound, c.set.ensures.1.why) refl)

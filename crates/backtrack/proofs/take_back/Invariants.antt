@@ -1,6 +1,0 @@
--- `backtrack::take_back` meets its contract: the constraints passed are tracked. Assumes nothing.
-use Rattle.propagate.specs.Tracked.{Tracked}
-use Rattle.backtrack.proofs.take_back.Given as goal
-
-abbrev pub invariant-loop-j : goal.invariant-loop-j
-invariant-loop-j l = Tracked l.n l.rows l.lower l.upper l.activities l.reaches l.j
