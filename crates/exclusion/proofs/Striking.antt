@@ -23,7 +23,7 @@ use Rattle.linear.proofs.Ranges.{lower-within, upper-within}
 use Rattle.layout.specs.Rows.{number_in, box_of, thresholds_of}
 use Rattle.layout.proofs.Rows.{lower-at, upper-at}
 use Rattle.state.specs.View.{flipped_reason, no_level, level_of, level_at, levels_from, core_over, inputs_of, core_of, status_of, view}
-use Rattle.state.specs.Change.{Whole, held}
+use Rattle.state.specs.Change.{Whole, raised}
 use Rattle.state.specs.declared.Level.{Level}
 use Rattle.state.specs.declared.Search.{Search}
 use Rattle.state.specs.declared.Status.TheVariants.{Undecided}
@@ -33,7 +33,6 @@ use Rattle.validity.specs.Valid.{Valid}
 use Rattle.validity.proofs.Boxes.{gap_parts}
 use Rattle.validity.proofs.Thresholds.{Outside, outside-at, follows}
 use Rattle.validity.proofs.States.{CoreFits, core-fits}
-use Rattle.propagate.specs.Bounds.{BoundSet}
 use Rattle.propagate.proofs.States.{sizes}
 use Rattle.backtrack.specs.Jumps.{next_in}
 
@@ -81,15 +80,12 @@ module _ (s : Search) (v : Valid (view s)) (d : ℕ) (e : s.depth ≡ suc d) (o 
   flips = (omega (arith, variable, (sizes s v).few), (weaken (lit≤ tt) (lower-within s.n o.lower o.upper range i variable), rise-small))
 
   -- with the decision flipped
-  module _ (lower : List ℤ) (below : List ℕ) (b : BoundSet i (next_in s.thresholds o.lower i) flipped_reason o.lower o.below lower below) (w : Whole o) where
-    abbrev flipped : Level
-    flipped = held lower o.upper below o.above o.decided
-
+  module _ (flipped : Level) (b : flipped ≡ raised o i (next_in s.thresholds o.lower i) flipped_reason) (w : Whole o) where
     flipped-is : level_of s.n flipped ≡ model.flip_at thresholds (level_at s.n s.levels (suc d)).decided (level_at s.n s.levels d)
     flipped-is =
         let j : i ≡ (level_at s.n s.levels (suc d)).decided = unfold level_at level_of in ap (λ (k : ℕ). (get_or s.levels k no_level).decided) e in
         let q : level_of s.n o ≡ level_at s.n s.levels d = unfold level_at in ap (level_of s.n) above in
-        rw (b.bound, b.why) (level-flipped s.n o w (sizes s v).few s.thresholds i variable) ∙ ap₂ (model.flip_at thresholds) j q
+        rw b (level-flipped s.n o w (sizes s v).few s.thresholds i variable) ∙ ap₂ (model.flip_at thresholds) j q
 
     backed : core_over thresholds (inputs_of s) s.n s.m s.made s.rows s.numbers (level_of s.n flipped) (levels_from s.n s.levels d) ≡ back_up s.depth (core_of s)
     unfolding core_of inputs_of

@@ -40,4 +40,4 @@ returns c =
     let o = c.whole-level.ensures in
     -- the levels, as they are declared
     let long : length s.levels ≡ 33 = search (rules, elements-kept) in
-    struck s p.0 _ (one_more p.1) _ o.0 _ _ c.flip.ensures.1 (rw o.0 o.1) (omega (arith, shallow s p.0, long))
+    struck s p.0 _ (one_more p.1) _ o.0 _ c.flip.ensures.1 (rw o.0 o.1) (omega (arith, shallow s p.0, long))
