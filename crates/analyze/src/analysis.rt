@@ -26,9 +26,9 @@ pub struct Analysis {
 
 // What analysis reads of a state: the kept constraints, and the bounds of the level in hand, each with its reason.
 #[derive(Clone, Copy)]
-pub struct Core<'a> {
+pub struct Core<'a, 'b> {
     pub kept: Kept<'a>,
-    pub level: &'a Level,
+    pub level: &'b Level,
     ghost in_range: { Analyzable kept.n kept.m kept.made kept.rows.now level.now.lower level.now.upper },
 }
 
@@ -39,7 +39,7 @@ fn used_reason(a: i64, below: usize, above: usize) -> usize
     if a < 0 { above } else { below }
 }
 
-impl Core<'_> {
+impl Core<'_, '_> {
     // Whether a constraint is in range and not falsified. Rounding changes neither, so what is combined is tried before it is rounded. Only in range does the
     // lowest value fit.
     fn is_holding(&self, c: &[i64; 33]) -> bool

@@ -16,7 +16,7 @@ use Rattle.model_problems.specs.Ranges.{max_variables}
 use Rattle.model_problems.specs.Constraint.{Constraint, falsified, in_range}
 use Rattle.lists.proofs.Bools.{lt-or-le}
 use Rattle.lists.proofs.Tab.{get_d-const}
-use Rattle.layout.specs.Rows.{number_in, cell, constraint_at, divided_at, input_at, box_of}
+use Rattle.layout.specs.Rows.{number_in, cell, constraint_at, divided_at, input_at}
 use Rattle.layout.specs.Copies.{Copied}
 use Rattle.linear.specs.Ranges.{RowFits, DivisorFits}
 use Rattle.linear.proofs.Ranges.{row_fits}
@@ -24,11 +24,10 @@ use Rattle.record.specs.Written.{CutFits}
 use Rattle.propagate.proofs.Warning.{over-input}
 use Rattle.state.specs.View.{divisor_for}
 use Rattle.state.specs.declared.Level.{Level}
-use Rattle.levels.specs.Mirror.{box_in, BoundsKept}
 use Rattle.conflict.specs.Counting.{Countable, DismissedAt}
 use Rattle.conflict.specs.Learning.{NothingLearned}
 use Rattle.conflict.specs.declared.learn.Learned.{Learned}
-use Rattle.levels.specs.Level.{LevelsNested, LeastFalsifying}
+use Rattle.levels.specs.Level.{box_at, LevelsNested, LeastFalsifying}
 use Rattle.layout.specs.Rows.{row_length, row_at}
 use Rattle.conflict.proofs.Learning.{within-zero}
 
@@ -71,15 +70,15 @@ module _ {q : ℤ} (f : SFits w64 q) where
   some-divisor h e = h (ap (of_z w64) e)
 
 -- ---- the constraint whose level is sought: a row with its divisor, which the deepest level falsifies
-pub record Sought (n depth : ℕ) (row : List ℤ) (q : ℤ) (lowers uppers : List ℤ) : Type 0 where
+pub record Sought (n depth : ℕ) (row : List ℤ) (q : ℤ) (levels : List Level) : Type 0 where
   pub fits : DivisorFits q
   pub row_fits : RowFits n row 0
-  pub nested : LevelsNested n depth lowers uppers
-  pub false : falsified (divided_at n row 0 q) (box_in n lowers uppers depth) ≡ true
+  pub nested : LevelsNested n depth levels
+  pub false : falsified (divided_at n row 0 q) (box_at n levels depth) ≡ true
 
 -- ---- at an input with a divisor
-module _ {n m made j depth count done : ℕ} {keep : Bool} {rows : List ℤ} {numbers : List ℕ} {level : Level} {lowers uppers lines divisors : List ℤ} {masks buffer : List ℕ}
-    (p : Countable n m made j depth count done keep rows numbers level lowers uppers lines divisors masks buffer) {q : ℤ} (e : q ≡ divisor_for m divisors j) (d : q ≡ pos 0 → ⊥) where
+module _ {n m made j depth count done : ℕ} {keep : Bool} {rows : List ℤ} {numbers : List ℕ} {levels : List Level} {lines divisors : List ℤ} {masks buffer : List ℕ}
+    (p : Countable n m made j depth count done keep rows numbers levels lines divisors masks buffer) {q : ℤ} (e : q ≡ divisor_for m divisors j) (d : q ≡ pos 0 → ⊥) where
   -- a divisor that is not 0 is an input's
   divided-input : (j < m) × (q ≡ number_in divisors j)
   unfolding divisor_for
@@ -88,25 +87,24 @@ module _ {n m made j depth count done : ℕ} {keep : Bool} {rows : List ℤ} {nu
   pub input-place : j < m
   input-place = divided-input.0
 
-  module _ {row lowers₁ uppers₁ : List ℤ} (c : Copied n lines (row_length * j) row) (f : SFits w64 q) (k : BoundsKept depth level.lower level.upper lowers uppers lowers₁ uppers₁) where
+  module _ {row : List ℤ} (c : Copied n lines (row_length * j) row) (f : SFits w64 q) where
     input-is : divided_at n row 0 (to_z w64 (of_z w64 q)) ≡ input_at n lines divisors j
     unfolding input_at
     input-is = line-same n _ _ _ c q f ∙ ap (divided_at n lines (row_length * j)) divided-input.1
 
-    pub input-sought : Sought n depth row (to_z w64 (of_z w64 q)) lowers₁ uppers₁
+    pub input-sought : Sought n depth row (to_z w64 (of_z w64 q)) levels
     unfolding row_at
     input-sought =
         let i = divided-input in
-        let v = p.levels _ _ k in
         record {
           fits = rw (to_z-of_z f, i.1) (p.apart.fits j i.0);
           row_fits = copy-fits n _ _ _ c p.learnable.variables (p.apart.range j i.0);
-          nested = v.0;
-          false = rw (input-is, v.1) (ap (λ (k : Constraint). falsified k (box_of n level.lower level.upper)) (sym (over-input n m made rows lines divisors j i.0)) ∙ p.false);
+          nested = p.nested;
+          false = rw input-is (ap (λ (k : Constraint). falsified k (box_at n levels depth)) (sym (over-input n m made rows lines divisors j i.0)) ∙ p.false);
         }
 
-    pub dismissed-at : {r : Learned} {back : ℕ} → NothingLearned made r → LeastFalsifying (divided_at n row 0 (to_z w64 (of_z w64 q))) n depth lowers₁ uppers₁ back →
-        DismissedAt n m made j depth rows numbers lowers₁ uppers₁ lines divisors r.cut r.used r.number back r.made rows numbers
+    pub dismissed-at : {r : Learned} {back : ℕ} → NothingLearned r → LeastFalsifying (divided_at n row 0 (to_z w64 (of_z w64 q))) n depth levels back →
+        DismissedAt n m made j depth rows numbers levels lines divisors r.cut r.used r.number back made rows numbers
     dismissed-at z l =
         let i = divided-input in
         record {
@@ -115,7 +113,7 @@ module _ {n m made j depth count done : ℕ} {keep : Bool} {rows : List ℤ} {nu
           cut_zero = z.cut_zero;
           used_zero = z.used_zero;
           nothing = z.number_zero;
-          same_made = z.same_made;
+          same_made = refl;
           same_rows = refl;
           same_numbers = refl;
           jump = rw input-is at l;

@@ -23,8 +23,7 @@ use Rattle.linear.specs.Ranges.{RowFits}
 use Rattle.linear.proofs.Ranges.{row_fits}
 use Rattle.record.specs.Written.{CutFits}
 use Rattle.validity.proofs.Conflicts.{analyze-false}
-use Rattle.state.specs.View.{level_of, kept_cuts, number_for, divisor_for, core_over, core_with}
-use Rattle.state.specs.Change.{held}
+use Rattle.state.specs.View.{no_level, level_of, kept_cuts, number_for, divisor_for, core_over, core_with}
 use Rattle.state.specs.declared.Level.{Level}
 use Rattle.state.proofs.Cores.{kept-rows, number-at}
 use Rattle.analyze.specs.Analyzed.{Analyzed, analysis_of}
@@ -32,29 +31,13 @@ use Rattle.cuts.specs.Storing.{RowKept, NumberKept, found_at}
 use Rattle.std.specs.Prelude.{Option, None, Some}
 use Rattle.analyze.specs.declared.analysis.Analysis.{Analysis}
 use Rattle.cuts.proofs.Numbering.{numbered-equal, numbered-kept}
-use Rattle.levels.specs.Mirror.{box_in, BoundsKept}
+use Rattle.levels.specs.Level.{box_at}
 use Rattle.state.proofs.Moved.{rows_stay}
 use Rattle.propagate.proofs.Warning.{kept-plain}
 use Rattle.conflict.specs.Counting.{Countable}
 use Rattle.conflict.proofs.Keeping.{rows-kept}
 use Rattle.conflict.specs.Learning.{Learnable, LearnedFrom}
 use Rattle.conflict.specs.declared.learn.Learned.{Learned}
-
--- whatever the decision variable is
-pub learnable-at : {n m made : ℕ} {rows lower upper : List ℤ} {below above numbers : List ℕ} {j d : ℕ} (e : ℕ) → Learnable n m made rows numbers (held lower upper below above d) j → Learnable n m made rows numbers (held lower upper below above e) j
-learnable-at e l =
-    let w = l.whole in
-    record {
-      variables = l.variables;
-      inputs = l.inputs;
-      cuts = l.cuts;
-      rows_long = l.rows_long;
-      numbers_long = l.numbers_long;
-      whole = record { lower = w.lower; upper = w.upper; below = w.below; above = w.above };
-      constraints = l.constraints;
-      bounds = l.bounds;
-      position = l.position;
-    }
 
 -- the constraint in position j is that of row j
 pub kept_row : (n m made : ℕ) (rows : List ℤ) (numbers : List ℕ) (level : Level) (outer : List model.Level) (j : ℕ) → j < m + kept_cuts made → get_or (model.kept (core_with n m made rows numbers (level_of n level) outer)) j no_constraint ≡ row_at n rows j
@@ -71,7 +54,7 @@ module _ (n m made : ℕ) (rows : List ℤ) (numbers : List ℕ) (level : Level)
 
   pub learned-equal : (found : Option ℕ) (p number : ℕ) → first_equal 0 (tab (row_at n rows) 0 (m + kept_cuts made)) (constraint_at n a.cut 0) ≡ found_at found → found ≡ Some p →
       number ≡ number_for m made p →
-      LearnedFrom n m made rows numbers level j (record { cut = a.cut; used = a.used; number = number; made = made }) rows numbers
+      LearnedFrom n m made rows numbers level j (record { cut = a.cut; used = a.used; number = number }) made rows numbers
   learned-equal found p number e h f =
       record {
         learns = λ outer.
@@ -93,7 +76,7 @@ module _ (n m made : ℕ) (rows : List ℤ) (numbers : List ℕ) (level : Level)
   pub learned-kept : (found : Option ℕ) (rows₁ : List ℤ) (numbers₁ : List ℕ) →
       first_equal 0 (tab (row_at n rows) 0 (m + kept_cuts made)) (constraint_at n a.cut 0) ≡ found_at found → found ≡ None →
       RowKept m made rows a.cut rows₁ → NumberKept made (m + made + 1) numbers numbers₁ →
-      LearnedFrom n m made rows numbers level j (record { cut = a.cut; used = a.used; number = m + made + 1; made = made + 1 }) rows₁ numbers₁
+      LearnedFrom n m made rows numbers level j (record { cut = a.cut; used = a.used; number = m + made + 1 }) (made + 1) rows₁ numbers₁
   learned-kept found rows₁ numbers₁ e h r k =
       record {
         learns = λ outer.
@@ -115,8 +98,8 @@ module _ (n m made : ℕ) (rows : List ℤ) (numbers : List ℕ) (level : Level)
 pub within-zero : (z : ℤ) → z ≡ pos 0 → Within max_coefficient z
 within-zero z q = rw q (record { within = lit≤ tt })
 
-module _ {n m made : ℕ} {rows : List ℤ} {numbers : List ℕ} {level : Level} {j : ℕ} {x : Learned} {rows₁ : List ℤ} {numbers₁ : List ℕ}
-    (few : n ≤ max_variables) (l : LearnedFrom n m made rows numbers level j x rows₁ numbers₁) where
+module _ {n m made : ℕ} {rows : List ℤ} {numbers : List ℕ} {level : Level} {j : ℕ} {x : Learned} {made₁ : ℕ} {rows₁ : List ℤ} {numbers₁ : List ℕ}
+    (few : n ≤ max_variables) (l : LearnedFrom n m made rows numbers level j x made₁ rows₁ numbers₁) where
   pub cut-row : RowFits n x.cut 0
   cut-row = row_fits n x.cut 0 few (omega (arith, l.cut_size)) l.range
 
@@ -137,11 +120,12 @@ module _ {n m made : ℕ} {rows : List ℤ} {numbers : List ℕ} {level : Level}
       }
 
 -- the cut of a conflict that is counted, at the deepest level
-pub deepest-false : {n m made j depth count done : ℕ} {keep : Bool} {rows : List ℤ} {numbers : List ℕ} {level : Level} {lowers uppers lines divisors : List ℤ} {masks buffer : List ℕ} →
-    Countable n m made j depth count done keep rows numbers level lowers uppers lines divisors masks buffer → divisor_for m divisors j ≡ pos 0 →
-    {lowers₁ uppers₁ : List ℤ} → BoundsKept depth level.lower level.upper lowers uppers lowers₁ uppers₁ → {x : Learned} {rows₁ : List ℤ} {numbers₁ : List ℕ} → LearnedFrom n m made rows numbers level j x rows₁ numbers₁ →
-    falsified (constraint_at n x.cut 0) (box_in n lowers₁ uppers₁ depth) ≡ true
-deepest-false {n = n} {m = m} {made = made} {j = j} {rows = rows} {level = level} {lines = lines} {divisors = divisors} p e k l =
+pub deepest-false : {n m made j depth count done : ℕ} {keep : Bool} {rows : List ℤ} {numbers : List ℕ} {levels : List Level} {lines divisors : List ℤ} {masks buffer : List ℕ} →
+    Countable n m made j depth count done keep rows numbers levels lines divisors masks buffer → divisor_for m divisors j ≡ pos 0 →
+    {x : Learned} {made₁ : ℕ} {rows₁ : List ℤ} {numbers₁ : List ℕ} → LearnedFrom n m made rows numbers (get_or levels depth no_level) j x made₁ rows₁ numbers₁ →
+    falsified (constraint_at n x.cut 0) (box_at n levels depth) ≡ true
+unfolding box_at
+deepest-false {n = n} {m = m} {made = made} {j = j} {depth = depth} {rows = rows} {levels = levels} {lines = lines} {divisors = divisors} p e l =
     let own = kept-plain n m made rows lines divisors p.apart j p.learnable.position e in
-    let f : falsified (row_at n rows j) (box_of n level.lower level.upper) ≡ true = ap (λ (k : Constraint). falsified k (box_of n level.lower level.upper)) (sym own) ∙ p.false in
-    rw (p.levels _ _ k).1 (true_of _ (cut-false p.learnable.variables l p.learnable.position (subst T (sym f) tt)))
+    let f : falsified (row_at n rows j) (box_at n levels depth) ≡ true = ap (λ (k : Constraint). falsified k (box_at n levels depth)) (sym own) ∙ p.false in
+    true_of _ (cut-false p.learnable.variables l p.learnable.position (subst T (sym f) tt))

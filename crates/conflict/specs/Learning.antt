@@ -30,22 +30,21 @@ pub record Learnable (n m made : ℕ) (rows : List ℤ) (numbers : List ℕ) (le
   pub bounds : T (all_of bounds_in_range (box_of n level.lower level.upper))
   pub position : j < m + kept_cuts made
 
-pub record LearnedFrom (n m made : ℕ) (rows : List ℤ) (numbers : List ℕ) (level : Level) (j : ℕ) (r : Learned) (rows₁ : List ℤ) (numbers₁ : List ℕ) : Type 0 where
+pub record LearnedFrom (n m made : ℕ) (rows : List ℤ) (numbers : List ℕ) (level : Level) (j : ℕ) (r : Learned) (made₁ : ℕ) (rows₁ : List ℤ) (numbers₁ : List ℕ) : Type 0 where
   pub learns : (outer : List model.Level) →
       Learns (core_with n m made rows numbers (level_of n level) outer) j (constraint_at n r.cut 0) (tab (λ i. get_or r.used i 0) 0 n) r.number
-      (core_with n m r.made rows₁ numbers₁ (level_of n level) outer)
+      (core_with n m made₁ rows₁ numbers₁ (level_of n level) outer)
   pub range : in_range (constraint_at n r.cut 0) ≡ true
   pub cut_size : length r.cut ≡ row_length
   pub cut_rest : (i : ℕ) → n < i → number_in r.cut i ≡ pos 0
   pub used_rest : (i : ℕ) → n ≤ i → get_or r.used i 0 ≡ 0
   pub rows_long : length rows₁ ≡ 4224
   pub numbers_long : length numbers₁ ≡ max_cuts
-  pub count : r.made ≤ suc made
-  pub moved : RowsMoved n m made r.made rows rows₁
+  pub count : made₁ ≤ suc made
+  pub moved : RowsMoved n m made made₁ rows rows₁
 
--- zeros in place of a cut, and as many cuts as before
-pub record NothingLearned (made : ℕ) (r : Learned) : Type 0 where
+-- zeros in place of a cut
+pub record NothingLearned (r : Learned) : Type 0 where
   pub cut_zero : (i : ℕ) → number_in r.cut i ≡ pos 0
   pub used_zero : (i : ℕ) → get_or r.used i 0 ≡ 0
   pub number_zero : r.number ≡ 0
-  pub same_made : r.made ≡ made

@@ -2,86 +2,68 @@
 ghost use Rattle.std.specs.Prelude.{List, ◌≡◌, ℕ, ◌+◌, length};
 ghost use Rattle.model_problems.specs.Ranges.{max_cuts};
 ghost use Rattle.state.specs.View.{kept_cuts};
-ghost use Rattle.state.specs.Change.{held};
 ghost use Rattle.bits.specs.Masks.{Masked};
 ghost use Rattle.conflict.specs.Learning.{Learnable, LearnedFrom, NothingLearned};
 
 use analyze::analysis::{Analysis, Core};
-use bits::masks::row_mask;
+use bits::masks::{Masks, row_mask};
 use cuts::keeping::{equal_row, keep_number, keep_row};
-use state::kept::{kept_count, number_of};
+use state::Level;
+use state::kept::Store;
 
-// The cut and what it was resolved from, its number, and how many cuts are made now.
+// The cut and what it was resolved from, and its number.
 #[derive(Clone, Copy)]
 pub struct Learned {
     pub cut: [i64; 33],
     pub used: [usize; 32],
     pub number: usize,
-    pub made: usize,
 }
 
 impl Learned {
     // At a constraint with a divisor.
-    pub(crate) fn nothing(made: usize) -> Learned
-        ensures { NothingLearned made result }
+    pub(crate) fn nothing() -> Learned
+        ensures { NothingLearned result }
     {
         Learned {
             cut: [0; 33],
             used: [0; 32],
             number: 0,
-            made,
         }
     }
 }
 
-// From the kept constraint in row j, which the level in hand falsifies. A cut that is new is kept, with its number and its mask.
+// From the kept constraint in row j, which the level falsifies. A cut that is new is kept, with its number and its mask.
 pub fn learn(
-    lower: &[i64; 32],
-    upper: &[i64; 32],
-    below: &[usize; 32],
-    above: &[usize; 32],
+    level: &Level,
     n: usize,
     m: usize,
-    made: usize,
     j: usize,
-    rows: &mut [i64; 4224],
-    numbers: &mut [usize; 64],
-    masks: &mut [usize; 64],
+    store: &mut Store,
+    masks: &mut Masks,
 ) -> Learned
-    requires learnable { Learnable n m made rows.old numbers.old (held lower.now upper.now below.now above.now 0) j }
-    requires masks_len { length masks.old ≡ max_cuts }
-    ensures by_index { (d : ℕ) → LearnedFrom n m made rows.old numbers.old (held lower.now upper.now below.now above.now d) j result rows.new numbers.new }
-    ensures by_index_2 { (inputs : List ℕ) → Masked n m (m + kept_cuts made) rows.old inputs masks.old → Masked n m (m + kept_cuts result.made) rows.new inputs masks.new }
+    requires learnable { Learnable n m store.old.made store.old.rows store.old.numbers level.now j }
+    requires masks_len { length masks.old.cuts ≡ max_cuts }
+    ensures learned { LearnedFrom n m store.old.made store.old.rows store.old.numbers level.now j result store.new.made store.new.rows store.new.numbers }
+    ensures marked { (inputs : List ℕ) → Masked n m (m + kept_cuts store.old.made) store.old.rows inputs masks.old.cuts → Masked n m (m + kept_cuts store.new.made) store.new.rows inputs masks.new.cuts }
+    ensures inputs { masks.new.inputs ≡ masks.old.inputs }
 {
-    let core = Core {
-        rows,
-        lower,
-        upper,
-        below,
-        above,
-        n,
-        m,
-        made,
-    };
+    let made = store.made;
+    let kept = store.kept(n, m);
+    let core = Core { kept, level };
     let Analysis { cut, used } = core.analyze(j);
-    match equal_row(rows, &cut, n, kept_count(m, made)) {
+    match equal_row(kept.rows, &cut, n, kept.count()) {
         Some(p) => Learned {
             cut,
             used,
-            number: number_of(m, made, p),
-            made,
+            number: kept.number_of(p),
         },
         None => {
             let number = m + made + 1;
-            keep_row(rows, &cut, m, made);
-            keep_number(numbers, made, number);
-            keep_number(masks, made, row_mask(&cut, 0, n));
-            Learned {
-                cut,
-                used,
-                number,
-                made: made + 1,
-            }
+            keep_row(&mut store.rows, &cut, m, made);
+            keep_number(&mut store.numbers, made, number);
+            keep_number(&mut masks.cuts, made, row_mask(&cut, 0, n));
+            store.made = made + 1;
+            Learned { cut, used, number }
         }
     }
 }

@@ -2,7 +2,7 @@
 use native.Mathlib.Omega.{arith}
 use lib.Dec.{lit≤}
 use mathlib.Core.Logic.{inl, inr}
-use mathlib.Core.Path.{sym, ◌∙◌}
+use mathlib.Core.Path.{refl, sym, ◌∙◌}
 use borrow.Author.Rules.{sfits_of}
 use Rattle.state.specs.View.{kept_cuts}
 use Rattle.conflict.proofs.Learning.{cut-row, cut_fits, deepest-false}
@@ -32,12 +32,11 @@ backjump_level-back-requires c =
     let p = c.requires in
     let d = c.divisor_of-q in
     let f = sfits_of {z = d.result} d.type_inv in
-    let k = c.keep_bounds.ensures in
     elim c.if-q-ne0.branch [
-      | then-q-ne0 w ↦ rw w.sought-is (let s = input-sought p d.ensures (some-divisor f w.if-q-ne0.true) w.copy_row-sought.ensures f k in (s.fits, (s.row_fits, (p.deep, (s.nested, s.false)))))
+      | then-q-ne0 w ↦ rw w.sought-is (let s = input-sought p d.ensures (some-divisor f w.if-q-ne0.true) w.copy_row-sought.ensures f in (s.fits, (s.row_fits, (p.deep, (s.nested, s.false)))))
       | else-q-ne0 w ↦ rw (w.sought-is, divisor-back f, no-divisor f w.if-q-ne0.false)
-          (let l = w.learn-learned.ensures.by_index 0 in
-          (lit≤ tt, (cut-row p.learnable.variables l, (p.deep, ((p.levels _ _ k).0, rw undivided (deepest-false p (sym d.ensures ∙ no-divisor f w.if-q-ne0.false) k l))))))
+          (let l = w.learn-learned.ensures.learned in
+          (lit≤ tt, (cut-row p.learnable.variables l, (p.deep, (p.nested, rw undivided (deepest-false p (sym d.ensures ∙ no-divisor f w.if-q-ne0.false) l))))))
     ]
 
 pub invariant_of-record : goal.invariant_of-record
@@ -47,16 +46,15 @@ invariant_of-record c =
       counted = p.some;
       cut_fits = elim c.if-q-ne0.branch [
         | then-q-ne0 w ↦ rw w.learned-is (zeros-fit _ w.nothing-learned.ensures.cut_zero)
-        | else-q-ne0 w ↦ rw w.learned-is (cut_fits p.learnable.variables (w.learn-learned.ensures.by_index 0))
+        | else-q-ne0 w ↦ rw w.learned-is (cut_fits p.learnable.variables (w.learn-learned.ensures.learned))
       ];
     }
 
-pub returns : goal.returns
-returns c =
+pub returns-clause-counted : goal.returns-clause-counted
+returns-clause-counted c =
     let p = c.requires in
     let d = c.divisor_of-q in
     let f = sfits_of {z = d.result} d.type_inv in
-    let k = c.keep_bounds.ensures in
     let l = c.if-q-ne0.learned in
     let j = c.backjump_level-back.ensures.0 in
     record {
@@ -64,16 +62,22 @@ returns c =
       used = l.used;
       number = l.number;
       falsified = c.number_of-falsified.result;
-      boxes = k;
       concluded = elim c.if-q-ne0.branch [
-        | then-q-ne0 w ↦ inr (rw (w.learned-is, w.rows-is, w.numbers-is) (dismissed-at p d.ensures (some-divisor f w.if-q-ne0.true) w.copy_row-sought.ensures f k w.nothing-learned.ensures (rw w.sought-is at j)))
-        | else-q-ne0 w ↦ inl (rw (w.learned-is, w.rows-is, w.numbers-is)
-            (record { plain = sym d.ensures ∙ no-divisor f w.if-q-ne0.false; learned = w.learn-learned.ensures.by_index; jump = rw (w.sought-is, divisor-back f, no-divisor f w.if-q-ne0.false, undivided) at j }))
+        | then-q-ne0 w ↦ inr (rw (w.learned-is, w.store-is) (dismissed-at p d.ensures (some-divisor f w.if-q-ne0.true) w.copy_row-sought.ensures f w.nothing-learned.ensures (rw w.sought-is at j)))
+        | else-q-ne0 w ↦ inl (rw (w.learned-is, w.store-is)
+            (record { plain = sym d.ensures ∙ no-divisor f w.if-q-ne0.false; learned = w.learn-learned.ensures.learned; jump = rw (w.sought-is, divisor-back f, no-divisor f w.if-q-ne0.false, undivided) at j }))
       ];
       marked = elim c.if-q-ne0.branch [
-        | then-q-ne0 w ↦ rw (w.learned-is, w.rows-is, w.cuts-is, w.nothing-learned.ensures.same_made) (λ inputs v. v)
-        | else-q-ne0 w ↦ rw (w.learned-is, w.rows-is, w.cuts-is) w.learn-learned.ensures.by_index_2
+        | then-q-ne0 w ↦ rw (w.store-is, w.masks-is) (λ inputs v. v)
+        | else-q-ne0 w ↦ rw (w.store-is, w.masks-is) w.learn-learned.ensures.marked
       ];
       numbered = c.number_of-falsified.ensures;
       written = c.emit.ensures;
     }
+
+pub returns-clause-inputs : goal.returns-clause-inputs
+returns-clause-inputs c =
+    elim c.if-q-ne0.branch [
+      | then-q-ne0 w ↦ rw w.masks-is refl
+      | else-q-ne0 w ↦ rw w.masks-is w.learn-learned.ensures.inputs
+    ]

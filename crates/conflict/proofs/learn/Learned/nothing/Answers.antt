@@ -8,4 +8,4 @@ use Rattle.conflict.proofs.Dismissing.{zero-at}
 use Rattle.conflict.proofs.learn.Learned.nothing.Goals as goal
 
 pub returns : goal.returns
-returns c = record { cut_zero = zero-at row_length; used_zero = get_d-const {A = ℕ} 0 max_variables; number_zero = refl; same_made = refl }
+returns c = record { cut_zero = zero-at row_length; used_zero = get_d-const {A = ℕ} 0 max_variables; number_zero = refl }
