@@ -6,7 +6,6 @@ use Rattle.bits.specs.Divided.{Everyone}
 use Rattle.propagate.proofs.Tracking.{scan-box, told-start}
 use Rattle.propagate.proofs.Warning.{testable, warned}
 use Rattle.turns.proofs.Masking.{masked-starts}
-use Rattle.turns.proofs.Carrying.{tracked-none}
 use Rattle.engine.proofs.walk.Walk.scan.Goals as goal
 
 pub first_divided-self-requires : goal.first_divided-self-requires
