@@ -25,11 +25,11 @@ pub fn is_spent(conflicts: usize, budget: usize) -> bool
 
 // What a conflict is met in: the sizes, the constraints set apart, and the levels down to the one in hand, which stands at `depth`.
 #[derive(Clone, Copy)]
-pub struct Branch<'a> {
+pub struct Branch<'a, 'b> {
     pub n: usize,
     pub m: usize,
     pub divided: &'a Divided,
-    pub levels: &'a [Level; 33],
+    pub levels: &'b [Level; 33],
     pub depth: usize,
 }
 

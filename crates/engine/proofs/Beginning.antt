@@ -18,10 +18,10 @@ use Rattle.turns.proofs.Starting.{running-starts, view-unmarked}
 use Rattle.engine.specs.Given.{Taken}
 use Rattle.engine.specs.declared.given.Given.{Given}
 
-pub running-begins : {s : Search} {limit : ℕ} {keep : Bool} {room : ℕ} {buffer : List ℕ} {list : List ℤ} → Starts s limit keep room buffer list → {g : Given} → Taken s s.rows g → {rows : List ℤ} →
-    RowsPut g.n g.m g.divisors (replicate rows_length (pos 0)) s.rows rows → length s.rows ≡ rows_length → length s.divisors ≡ 64 → Whole (get_or s.levels s.depth no_level) →
+pub running-begins : {s : Search} {limit : ℕ} {keep : Bool} {room : ℕ} {buffer : List ℕ} {list : List ℤ} → Starts s limit keep room buffer list → {g : Given} → Taken s g → {rows : List ℤ} →
+    RowsPut g.n g.m g.divided.divisors (replicate rows_length (pos 0)) s.rows rows → length s.rows ≡ rows_length → length s.divisors ≡ 64 → Whole (get_or s.levels s.depth no_level) →
     length s.numbers ≡ 64 → length s.levels ≡ 33 → length s.thresholds ≡ 32 → let l : Level = get_or s.levels s.depth no_level in
-    Running (view s) buffer limit keep g.thresholds g.lines.now g.divisors g.n g.m g.budget buffer rows s.numbers s.levels s.made s.conflicts s.depth l l s.depth 0 s.propagations s.propagations
+    Running (view s) buffer limit keep g.thresholds g.divided.lines g.divided.divisors g.n g.m g.budget buffer rows s.numbers s.levels s.made s.conflicts s.depth l l s.depth 0 s.propagations s.propagations
 running-begins {s} {limit} {keep} {buffer = buffer} i {g} t {rows} p rl dl w nl ll tl =
     let l : Level = get_or s.levels s.depth no_level in
     let f = t.of_state in

@@ -32,8 +32,8 @@ use Rattle.engine.proofs.Counting.{started_here}
 begun : {s : model.Search} {limit room n left many : ℕ} {list : List ℤ} {Here : model.Search → Type 0} → left ≡ limit → many ≡ 0 → Here s → Struck s limit room n list left many list Here
 begun e f h = rw (e, f) (started h)
 
-pub walk-begins : {s : Search} {limit : ℕ} {keep : Bool} {room : ℕ} {buffer : List ℕ} {list : List ℤ} → Starts s limit keep room buffer list → {g : Given} {v : Walk} → Fresh s limit v → {s₁ : Search} {w : Walk} → Begins g s v s₁ w →
-    Struck (view s) limit room g.n list w.left w.struck list (λ b. On g b buffer keep buffer s₁ w)
+pub walk-begins : {s : Search} {limit : ℕ} {keep : Bool} {room : ℕ} {buffer : List ℕ} {list : List ℤ} → Starts s limit keep room buffer list → {g : Given} {v : Walk} → Fresh s limit v → {w : Walk} → Begins g s v w →
+    Struck (view s) limit room g.n list w.left w.struck list (λ b. On g b buffer keep buffer s w)
 walk-begins {s} {limit} {keep} {room} {buffer} {list} i h b =
     let e = ap (λ (z : Walk). z.left) h.is in
     begun (b.left ∙ e) b.struck (b.on keep room buffer list (subst (λ (k : ℕ). Starts s k keep room buffer list) (sym e) i))
@@ -72,7 +72,7 @@ module _ {g : Given} {base : model.Search} {limit room : ℕ} {list list₁ : Li
           way = onward k q.left q.struck (finishes p.running w.level s.propagations (omega (arith, q.done, q.left)) (moved p finish (ap stop_of z ∙ at_finish)));
           final = λ u. last-final _ _ _ _ b e h;
           ends = record {
-            of_state = given_same p.fixed.of_state _ _ _ _ _ _ _ _;
+            of_state = given_same p.fixed.of_state _ _ _ _ _;
             few = p.running.counts.few;
             inputs = p.running.counts.inputs;
             apart = p.running.apart;

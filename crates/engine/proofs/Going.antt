@@ -3,7 +3,6 @@ use Prim.Native.Nat.{ℕ}
 use mathlib.Core.Bool.{Bool}
 use mathlib.Core.List.{List}
 use mathlib.Core.Path.{◌≡◌, refl}
-use lib.IntN.{ℤ}
 use Rattle.model_walk.specs.Search as model
 use Rattle.model_walk.specs.Move.{Move, conflict, decide, finish}
 use Rattle.propagate.specs.Moves.{stop_of}
@@ -20,8 +19,8 @@ use Rattle.engine.specs.Walk.{Fixed, Stopped}
 use Rattle.engine.specs.declared.given.Given.{Given}
 use Rattle.engine.specs.declared.walk.Walk.{Walk}
 
-abbrev pub core_at : Given → Search → Level → model.Core
-core_at g s l = core_here g.thresholds g.lines.now g.divisors g.n g.m s.rows s.numbers s.levels s.made s.depth l
+abbrev pub core_at : Given → Search → Walk → Level → model.Core
+core_at g s w l = core_here g.thresholds g.divided.lines g.divided.divisors g.n g.m w.store.rows w.store.numbers s.levels w.store.made s.depth l
 
 abbrev pub found_with : Found → ℕ → Propagated
 found_with f k = record { found = f; count = k }
@@ -39,14 +38,13 @@ unfolding stop_of
 at_finish = refl
 
 -- the same state, with another level in hand
-pub given_same : {g : Given} {s : Search} → GivenOf s g → (rows : List ℤ) (numbers : List ℕ) (levels : List Level) (conflicts propagations made depth : ℕ) (status : Status) →
-    GivenOf (record s { rows = rows; numbers = numbers; levels = levels; conflicts = conflicts; propagations = propagations; made = made; depth = depth; status = status }) g
-given_same f rows numbers levels conflicts propagations made depth status = record { variables = f.variables; inputs = f.inputs; budget = f.budget; thresholds = f.thresholds; divisors = f.divisors }
+pub given_same : {g : Given} {s : Search} → GivenOf s g → (levels : List Level) (conflicts propagations depth : ℕ) (status : Status) →
+    GivenOf (record s { levels = levels; conflicts = conflicts; propagations = propagations; depth = depth; status = status }) g
+given_same f levels conflicts propagations depth status = record { variables = f.variables; inputs = f.inputs; budget = f.budget; thresholds = f.thresholds; divisors = f.divisors }
 
-pub fixed-same : {g : Given} {s : Search} → Fixed g s → (rows : List ℤ) (numbers : List ℕ) (levels : List Level) (conflicts propagations made depth : ℕ) →
-    Fixed g (record s { rows = rows; numbers = numbers; levels = levels; conflicts = conflicts; propagations = propagations; made = made; depth = depth })
-fixed-same f rows numbers levels conflicts propagations made depth = record { of_state = given_same f.of_state rows numbers levels conflicts propagations made depth _; sorted = f.sorted; unmarked = f.unmarked }
+pub fixed-same : {g : Given} {s : Search} → Fixed g s → (levels : List Level) (conflicts propagations depth : ℕ) → Fixed g (record s { levels = levels; conflicts = conflicts; propagations = propagations; depth = depth })
+fixed-same f levels conflicts propagations depth = record { of_state = given_same f.of_state levels conflicts propagations depth _; sorted = f.sorted; unmarked = f.unmarked }
 
 module _ {g : Given} {base : model.Search} {old : List ℕ} {keep : Bool} {now : List ℕ} {v : Walk} {tally : ℕ} {s : Search} {w : Walk} {f : Found} (p : Stopped g base old keep now v tally s w f) where
-  pub moved : (q : Move) → stop_of f ≡ q → Propagates (core_at g s v.level) (core_at g s w.level) q tally s.propagations
+  pub moved : (q : Move) → stop_of f ≡ q → Propagates (core_at g s w v.level) (core_at g s w w.level) q tally s.propagations
   moved q e = propagates p.running w.level (found_with f s.propagations) p.answered q e

@@ -3,9 +3,9 @@ use Prim.Native.Nat.{ℕ, ◌+◌, ◌-◌, ◌≤◌, ◌<◌}
 use native.Mathlib.Omega.{arith}
 use mathlib.Core.Bool.{Bool}
 use mathlib.Core.List.{List}
-use mathlib.Core.Path.{◌≡◌, sym, subst}
+use mathlib.Core.Path.{◌≡◌, sym, subst, ◌∙◌}
 use lib.IntN.{ℤ}
-use lib.ListN.{length}
+use lib.ListN.{length, length-set}
 use Rattle.model_walk.specs.Search as model
 use Rattle.model_walk.specs.Move.{finish}
 use Rattle.state.specs.Change.{Whole}
@@ -14,7 +14,6 @@ use Rattle.state.proofs.Moved.{rows_stay}
 use Rattle.propagate.specs.declared.propagate.Found.TheVariants.{Finish}
 use Rattle.backtrack.proofs.Saving.{saved-stored}
 use Rattle.levels.specs.Struck.{ValuesPut}
-use Rattle.levels.proofs.Mirroring.{mirrored-stored, mirrored-less}
 use Rattle.turns.proofs.Carrying.{clear-stored}
 use Rattle.turns.proofs.Returning.{Back}
 use Rattle.turns.proofs.Striking.{Struck, struck_to, struck-out, struck-on, struck-less}
@@ -34,11 +33,14 @@ module _ {g : Given} {base : model.Search} {limit room : ℕ} {list list₁ : Li
   abbrev p : Stopped g u.base old keep now v tally s w Finish
   p = u.here
 
-  back-of : Whole (outer s w s.depth) → Back g.thresholds g.lines.now g.divisors g.n g.m s.rows s.numbers s.levels s.made s.depth w.level s.depth s.made s.rows
+  pub deep : s.depth ≤ 32
+  deep = depth_small p.running
+
+  back-of : Whole (outer (stored s w) s.depth) → Back g.thresholds g.divided.lines g.divided.divisors g.n g.m w.store.rows w.store.numbers s.levels w.store.made s.depth w.level s.depth w.store.made w.store.rows
   back-of o =
       record {
         few = p.running.counts.few;
-        deep = depth_small p.running;
+        deep = deep;
         levels_long = p.running.levels_long;
         fits = (moved p finish at_finish).fits;
         some = h.some;
@@ -47,10 +49,9 @@ module _ {g : Given} {base : model.Search} {limit room : ℕ} {list list₁ : Li
         whole = o;
       }
 
-  pub leaves : Leaves g s (struck_once w) s.depth
+  pub leaves : Leaves g (stored s w) (struck_once w) s.depth
   leaves =
       let r = p.running in
-      let deep = depth_small r in
       let to = moved p finish at_finish in
       let d = s.depth in
       let k = w.saved in
@@ -60,7 +61,7 @@ module _ {g : Given} {base : model.Search} {limit room : ℕ} {list list₁ : Li
         few = r.counts.few;
         inputs = r.counts.inputs;
         deep = deep;
-        levels_long = r.levels_long;
+        levels_long = length-set s.levels d w.level ∙ r.levels_long;
         some = h.some;
         reach = all;
         decided = decided-fits g s w d to r.levels_long deep h.some all;
@@ -71,25 +72,24 @@ module _ {g : Given} {base : model.Search} {limit room : ℕ} {list list₁ : Li
         activities_long = p.lengths.room;
         reaches_long = p.lengths.reach_room;
         room = p.carried.room;
-        saved = saved-stored g.n g.m k.olds k.limits k.gones k.counts s.made s.rows s.levels d d w.level (omega arith) p.carried.saved;
-        clear = clear-stored g.n g.m g.lines.now g.divisors s.levels w.low d w.level p.carried.clear;
-        bounds = mirrored-less _ _ _ _ _ (mirrored-stored _ _ _ _ _ p.carried.bounds _ w.level (omega arith)) _ (omega arith);
+        saved = saved-stored g.n g.m k.olds k.limits k.gones k.counts w.store.made w.store.rows s.levels d d w.level (omega arith) p.carried.saved;
+        clear = clear-stored g.n g.m g.divided.lines g.divided.divisors s.levels w.low d w.level p.carried.clear;
         masks = p.carried.masks;
       }
 
-  pub strikes : {next : List ℤ} → ValuesPut g.n w.struck w.level.lower list₁ next → length next ≡ length list₁ → {s₁ : Search} {y : Walk} → GoneBack g s (struck_once w) s.depth s₁ y →
+  pub strikes : {next : List ℤ} → ValuesPut g.n w.struck w.level.lower list₁ next → length next ≡ length list₁ → {s₁ : Search} {y : Walk} → GoneBack g (stored s w) (struck_once w) s.depth s₁ y →
       StruckOut g base limit room list old keep now v s₁ y next
   strikes {next} put size {s₁} {y} q =
       let k = back-of q.whole in
-      let to = flipped g s (struck_once w) s.depth in
-      let state = record s { levels = stored s w; depth = s.depth - 1 } in
-      let walk = record (struck_once w) { level = to; low = y.low; turn = record { before = to; start = s.depth - 1; earlier = s.propagations }; tracked = y.tracked } in
+      let to = flipped g (stored s w) s.depth in
+      let state = record (stored s w) { depth = s.depth - 1 } in
+      let walk = record (struck_once w) { level = to; low = y.low; turn = record { before = to; start = s.depth - 1; earlier = s.propagations }; track = y.track; told = y.told } in
       let a : s₁ ≡ state = q.state in
       let e : y ≡ walk = q.is in
       let t = p.same in
       let after = struck_to u p.running s.propagations k in
       let on : On g after old keep now s₁ y = record {
-        fixed = subst (Fixed g) (sym a) (fixed-same p.fixed _ _ _ _ _ _ _);
+        fixed = subst (Fixed g) (sym a) (fixed-same p.fixed _ _ _ _);
         running =
             subst (λ (z : Search). RunningAt g after old keep now z y y.level z.propagations) (sym a)
             (subst (λ (z : Walk). RunningAt g after old keep now state z z.level s.propagations) (sym e) (struck-on u p.running s.propagations k h.unkept h.few));

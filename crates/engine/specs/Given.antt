@@ -1,13 +1,13 @@
 -- What a call is given.
-use Rattle.std.specs.Prelude.{List, ℤ, ◌≡◌}
+use Rattle.std.specs.Prelude.{◌≡◌}
 use Rattle.state.specs.declared.Search.{Search}
 use Rattle.bits.specs.Divided.{Due, Everyone, Columns}
 use Rattle.engine.specs.declared.given.Given.{Given}
 
 -- which inputs are divisor constraints
 pub record Sorted (g : Given) : Type 0 where
-  pub every : Due g.m g.divisors Everyone g.divided
-  pub columns : Columns g.n g.m g.lines.now g.divisors g.mentions
+  pub every : Due g.m g.divided.divisors Everyone g.divided.all
+  pub columns : Columns g.n g.m g.divided.lines g.divided.divisors g.divided.columns
 
 -- of a state, whatever its turns changed
 pub record GivenOf (s : Search) (g : Given) : Type 0 where
@@ -15,10 +15,10 @@ pub record GivenOf (s : Search) (g : Given) : Type 0 where
   pub inputs : s.m ≡ g.m
   pub budget : s.budget ≡ g.budget
   pub thresholds : s.thresholds ≡ g.thresholds
-  pub divisors : s.divisors ≡ g.divisors
+  pub divisors : s.divisors ≡ g.divided.divisors
 
 -- taken from a state
-pub record Taken (s : Search) (lines : List ℤ) (g : Given) : Type 0 where
+pub record Taken (s : Search) (g : Given) : Type 0 where
   pub of_state : GivenOf s g
-  pub rows : g.lines.now ≡ lines
+  pub rows : g.divided.lines ≡ s.rows
   pub sorted : Sorted g

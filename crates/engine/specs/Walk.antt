@@ -8,7 +8,7 @@ use Rattle.model_walk.specs.Search as model
 use Rattle.model_walk.specs.Move.{slack}
 use Rattle.layout.specs.Rows.{box_of, max_rows, rows_length, thresholds_of}
 use Rattle.state.specs.View.{flipped_reason, no_level, kept_cuts, number_for, level_of, status_of, view}
-use Rattle.state.specs.Change.{Whole, held, raised}
+use Rattle.state.specs.Change.{Whole, raised}
 use Rattle.state.specs.declared.Level.{Level}
 use Rattle.state.specs.declared.Search.{Search}
 use Rattle.state.specs.declared.Status.TheVariants.{Undecided}
@@ -17,10 +17,12 @@ use Rattle.propagate.specs.Apart.{kept_over, Apart, Warned}
 use Rattle.propagate.specs.Propagation.{propagation, propagation_of}
 use Rattle.propagate.specs.Ready.{Ready}
 use Rattle.propagate.specs.Tracked.{ScanFits, Tracked}
+use Rattle.propagate.specs.declared.track.Track.{Track}
 use Rattle.propagate.specs.declared.propagate.Found.{Found}
 use Rattle.propagate.specs.declared.propagate.Found.TheVariants.{Conflict, Decide, Finish}
-use Rattle.levels.specs.Mirror.{Mirrored}
-use Rattle.backtrack.specs.Saved.{Roomy, Saved}
+use Rattle.backtrack.specs.Saved as saved
+use Rattle.backtrack.specs.Saved.{Roomy}
+use Rattle.backtrack.specs.declared.Saved.{Saved}
 use Rattle.backtrack.specs.Jumps.{next_in}
 use Rattle.conflict.specs.Counting.{Countable, Counted}
 use Rattle.turns.specs.Advancing.{Starts}
@@ -33,20 +35,18 @@ use Rattle.turns.proofs.Carrying.{ClearFrom, Carried}
 use Rattle.turns.proofs.Striking.{Struck}
 use Rattle.engine.specs.Given.{Sorted, GivenOf}
 use Rattle.engine.specs.declared.given.Given.{Given}
-use Rattle.engine.specs.declared.carried.Track.{Track}
 use Rattle.engine.specs.declared.walk.Walk.{Walk}
 
 -- ---- the turns of a call from the state `base`, with the buffer as it was then and as it is now
 -- at a level in hand, with so many bounds counted
 abbrev pub RunningAt : Given → model.Search → List ℕ → Bool → List ℕ → Search → Walk → Level → ℕ → Type 0
 RunningAt g base old keep now s w level tally =
-    Running base old w.left keep g.thresholds g.lines.now g.divisors g.n g.m g.budget now s.rows s.numbers s.levels s.made s.conflicts s.depth level w.turn.before w.turn.start w.done w.turn.earlier tally
+    Running base old w.left keep g.thresholds g.divided.lines g.divided.divisors g.n g.m g.budget now w.store.rows w.store.numbers s.levels w.store.made s.conflicts s.depth level w.turn.before w.turn.start w.done w.turn.earlier tally
 
 -- what is kept of the constraints and the levels above
 abbrev pub CarriedAt : Given → Search → Walk → Level → Track → Type 0
 CarriedAt g s w level t =
-    Carried g.lines.now g.divisors g.mentions g.divided w.low g.n g.m s.rows s.levels s.made s.depth level.lower level.upper t.activities t.reaches t.told w.saved.olds w.saved.limits w.saved.gones w.saved.counts w.mirror.lowers w.mirror.uppers w.masks.inputs
-    w.masks.cuts
+    Carried g.divided.lines g.divided.divisors w.low g.n g.m w.store.rows s.levels w.store.made s.depth level.lower level.upper t.activities t.reaches w.told w.saved.olds w.saved.limits w.saved.gones w.saved.counts w.masks.inputs w.masks.cuts
 
 -- what no turn changes
 pub record Fixed (g : Given) (s : Search) : Type 0 where
@@ -58,7 +58,7 @@ pub record Fixed (g : Given) (s : Search) : Type 0 where
 pub record On (g : Given) (base : model.Search) (old : List ℕ) (keep : Bool) (now : List ℕ) (s : Search) (w : Walk) : Type 0 where
   pub fixed : Fixed g s
   pub running : RunningAt g base old keep now s w w.level s.propagations
-  pub carried : CarriedAt g s w w.level w.tracked
+  pub carried : CarriedAt g s w w.level w.track
 
 -- from wherever the turns came
 pub record Underway (g : Given) (s : Search) (w : Walk) : Type 0 where
@@ -79,8 +79,8 @@ abbrev pub weight : Given → ℕ → Walk → ℕ
 weight g room w = (room - w.struck + (w.left - w.done)) * step_weight + slack (box_of g.n w.level.lower w.level.upper)
 
 -- ---- where it begins: at a state's level, with nothing kept
-abbrev pub fresh : Search → ℕ → Walk
-fresh s limit =
+abbrev pub fresh : Search → ℕ → Saved → Walk
+fresh s limit saved =
     let level = get_or s.levels s.depth no_level in
     record {
       level = level;
@@ -89,35 +89,39 @@ fresh s limit =
       left = limit;
       done = 0;
       struck = 0;
-      tracked = record { activities = replicate 128 (pos 0); reaches = replicate 128 (pos 0); told = 0 };
-      saved = record { olds = replicate 4224 (pos 0); limits = replicate 4224 (pos 0); gones = replicate 33 0; counts = replicate 33 0 };
-      mirror = record { lowers = replicate 1056 (pos 0); uppers = replicate 1056 (pos 0) };
+      store = record { rows = replicate 4224 (pos 0); numbers = replicate 64 0; made = 0 };
+      track = record { activities = replicate 128 (pos 0); reaches = replicate 128 (pos 0) };
+      told = 0;
+      saved = saved;
       masks = record { inputs = replicate 64 0; cuts = replicate 64 0 };
     }
 
 pub record Fresh (s : Search) (limit : ℕ) (w : Walk) : Type 0 where
-  pub is : w ≡ fresh s limit
+  pub is : w ≡ fresh s limit w.saved
+  pub room : Roomy w.saved.olds w.saved.limits w.saved.gones w.saved.counts
+  pub gones : w.saved.gones ≡ replicate 33 0
+  pub counts : w.saved.counts ≡ replicate 33 0
   pub levels_long : length s.levels ≡ 33
   pub whole : Whole (get_or s.levels s.depth no_level)
 
 -- the constraints are scanned at the level in hand
-pub record Scannable (g : Given) (s : Search) (w : Walk) : Type 0 where
+pub record Scannable (g : Given) (w : Walk) : Type 0 where
   pub sorted : Sorted g
   pub inputs : g.m ≤ max_constraints
-  pub fits : ScanFits g.n (g.m + kept_cuts s.made) s.rows w.level.lower w.level.upper
-  pub rows_long : length s.rows ≡ rows_length
-  pub apart : Apart g.n g.m s.rows g.lines.now g.divisors
+  pub fits : ScanFits g.n (g.m + kept_cuts w.store.made) w.store.rows w.level.lower w.level.upper
+  pub rows_long : length w.store.rows ≡ rows_length
+  pub apart : Apart g.n g.m w.store.rows g.divided.lines g.divided.divisors
   pub whole : Whole w.level
-  pub activities_long : length w.tracked.activities ≡ max_rows
-  pub reaches_long : length w.tracked.reaches ≡ max_rows
+  pub activities_long : length w.track.activities ≡ max_rows
+  pub reaches_long : length w.track.reaches ≡ max_rows
 
-pub record Scanned (g : Given) (s : Search) (v w : Walk) : Type 0 where
-  pub is : w ≡ record v { tracked = w.tracked; masks = w.masks }
-  pub falsified : Warned (kept_over g.n g.m s.made s.rows g.lines.now g.divisors) g.n s.rows w.level.lower w.level.upper w.tracked.activities w.tracked.reaches (g.m + kept_cuts s.made) w.tracked.told
-  pub masks : Masked g.n g.m (g.m + kept_cuts s.made) s.rows w.masks.inputs w.masks.cuts
+pub record Scanned (g : Given) (v w : Walk) : Type 0 where
+  pub is : w ≡ record v { track = w.track; told = w.told; masks = w.masks }
+  pub falsified : Warned (kept_over g.n g.m w.store.made w.store.rows g.divided.lines g.divided.divisors) g.n w.store.rows w.level.lower w.level.upper w.track.activities w.track.reaches (g.m + kept_cuts w.store.made) w.told
+  pub masks : Masked g.n g.m (g.m + kept_cuts w.store.made) w.store.rows w.masks.inputs w.masks.cuts
 
-pub record Begins (g : Given) (s : Search) (v : Walk) (s₁ : Search) (w : Walk) : Type 0 where
-  pub on : (keep : Bool) (room : ℕ) (buffer : List ℕ) (list : List ℤ) → Starts s v.left keep room buffer list → On g (view s) buffer keep buffer s₁ w
+pub record Begins (g : Given) (s : Search) (v w : Walk) : Type 0 where
+  pub on : (keep : Bool) (room : ℕ) (buffer : List ℕ) (list : List ℤ) → Starts s v.left keep room buffer list → On g (view s) buffer keep buffer s w
   pub left : w.left ≡ v.left
   pub struck : w.struck ≡ 0
 
@@ -125,12 +129,12 @@ pub record Begins (g : Given) (s : Search) (v : Walk) (s₁ : Search) (w : Walk)
 pub record Stopped (g : Given) (base : model.Search) (old : List ℕ) (keep : Bool) (now : List ℕ) (v : Walk) (tally : ℕ) (s : Search) (w : Walk) (f : Found) : Type 0 where
   pub fixed : Fixed g s
   pub running : RunningAt g base old keep now s w v.level tally
-  pub carried : CarriedAt g s w v.level v.tracked
+  pub carried : CarriedAt g s w v.level v.track
   pub answered : propagation_of g.n w.level (record { found = f; count = s.propagations }) ≡
-      propagation (thresholds_of g.n g.thresholds) (kept_over g.n g.m s.made s.rows g.lines.now g.divisors) (number_for g.m s.made) (level_of g.n v.level) tally
-  pub ready : Ready g.n g.m s.made s.rows w.level
-  pub lengths : Tracked g.n s.rows w.level.lower w.level.upper w.tracked.activities w.tracked.reaches 0
-  pub tracked : (i : ℕ) → f ≡ Decide i → Tracked g.n s.rows w.level.lower w.level.upper w.tracked.activities w.tracked.reaches (g.m + kept_cuts s.made)
+      propagation (thresholds_of g.n g.thresholds) (kept_over g.n g.m w.store.made w.store.rows g.divided.lines g.divided.divisors) (number_for g.m w.store.made) (level_of g.n v.level) tally
+  pub ready : Ready g.n g.m w.store.made w.store.rows w.level
+  pub lengths : Tracked g.n w.store.rows w.level.lower w.level.upper w.track.activities w.track.reaches 0
+  pub tracked : (i : ℕ) → f ≡ Decide i → Tracked g.n w.store.rows w.level.lower w.level.upper w.track.activities w.track.reaches (g.m + kept_cuts w.store.made)
   pub same : SameTurns v w
 
 -- wherever the turns came from
@@ -157,19 +161,19 @@ Decides g s w i s₁ w₁ =
     (base : model.Search) (old : List ℕ) (keep : Bool) (now : List ℕ) (v : Walk) (tally : ℕ) → Stopped g base old keep now v tally s w (Decide i) → Decided g base old keep now v s₁ w₁
 
 -- ---- going back to the level above the one at depth `back`
--- the level in hand, stored with those above it
-abbrev pub stored : Search → Walk → List Level
-stored s w = set s.levels s.depth w.level
+-- the state with the level in hand stored
+abbrev pub stored : Search → Walk → Search
+stored s w = record s { levels = set s.levels s.depth w.level }
 
-abbrev pub outer : Search → Walk → ℕ → Level
-outer s w back = get_or (stored s w) (back - 1) no_level
+abbrev pub outer : Search → ℕ → Level
+outer s back = get_or s.levels (back - 1) no_level
 
 -- the decision that led from there
-abbrev pub variable : Search → Walk → ℕ → ℕ
-variable s w back = (get_or (stored s w) back no_level).decided
+abbrev pub variable : Search → ℕ → ℕ
+variable s back = (get_or s.levels back no_level).decided
 
-abbrev pub flipped : Given → Search → Walk → ℕ → Level
-flipped g s w back = raised (outer s w back) (variable s w back) (next_in g.thresholds (outer s w back).lower (variable s w back)) flipped_reason
+abbrev pub flipped : Given → Search → ℕ → Level
+flipped g s back = raised (outer s back) (variable s back) (next_in g.thresholds (outer s back).lower (variable s back)) flipped_reason
 
 -- what it asks
 pub record Leaves (g : Given) (s : Search) (w : Walk) (back : ℕ) : Type 0 where
@@ -180,24 +184,23 @@ pub record Leaves (g : Given) (s : Search) (w : Walk) (back : ℕ) : Type 0 wher
   pub levels_long : length s.levels ≡ 33
   pub some : 1 ≤ back
   pub reach : back ≤ s.depth
-  pub decided : variable s w back < g.n
-  pub range : T (all_of bounds_in_range (box_of g.n (outer s w back).lower (outer s w back).upper))
-  pub ready : Whole (outer s w back) → Ready g.n g.m s.made s.rows (flipped g s w back)
-  pub apart : Apart g.n g.m s.rows g.lines.now g.divisors
-  pub rows_long : length s.rows ≡ rows_length
-  pub activities_long : length w.tracked.activities ≡ max_rows
-  pub reaches_long : length w.tracked.reaches ≡ max_rows
+  pub decided : variable s back < g.n
+  pub range : T (all_of bounds_in_range (box_of g.n (outer s back).lower (outer s back).upper))
+  pub ready : Whole (outer s back) → Ready g.n g.m w.store.made w.store.rows (flipped g s back)
+  pub apart : Apart g.n g.m w.store.rows g.divided.lines g.divided.divisors
+  pub rows_long : length w.store.rows ≡ rows_length
+  pub activities_long : length w.track.activities ≡ max_rows
+  pub reaches_long : length w.track.reaches ≡ max_rows
   pub room : Roomy w.saved.olds w.saved.limits w.saved.gones w.saved.counts
-  pub saved : Saved g.n g.m s.made s.rows (stored s w) w.saved.olds w.saved.limits w.saved.gones w.saved.counts s.depth
-  pub clear : ClearFrom g.n g.m g.lines.now g.divisors (stored s w) w.low s.depth
-  pub bounds : Mirrored g.n (stored s w) w.mirror.lowers w.mirror.uppers (back - 1)
-  pub masks : Masked g.n g.m (g.m + kept_cuts s.made) s.rows w.masks.inputs w.masks.cuts
+  pub saved : saved.Saved g.n g.m w.store.made w.store.rows s.levels w.saved.olds w.saved.limits w.saved.gones w.saved.counts s.depth
+  pub clear : ClearFrom g.n g.m g.divided.lines g.divided.divisors s.levels w.low s.depth
+  pub masks : Masked g.n g.m (g.m + kept_cuts w.store.made) w.store.rows w.masks.inputs w.masks.cuts
 
 pub record GoneBack (g : Given) (s : Search) (v : Walk) (back : ℕ) (s₁ : Search) (w : Walk) : Type 0 where
-  pub whole : Whole (outer s v back)
-  pub state : s₁ ≡ record s { levels = stored s v; depth = back - 1 }
-  pub is : w ≡ record v { level = flipped g s v back; low = w.low; turn = record { before = flipped g s v back; start = back - 1; earlier = s.propagations }; tracked = w.tracked }
-  pub carried : CarriedAt g s₁ w w.level w.tracked
+  pub whole : Whole (outer s back)
+  pub state : s₁ ≡ record s { depth = back - 1 }
+  pub is : w ≡ record v { level = flipped g s back; low = w.low; turn = record { before = flipped g s back; start = back - 1; earlier = s.propagations }; track = w.track; told = w.told }
+  pub carried : CarriedAt g s₁ w w.level w.track
 
 -- ---- a solution that is struck out, of those that there is room for
 pub record Spare (room : ℕ) (keep : Bool) (s : Search) (w : Walk) : Type 0 where
@@ -234,13 +237,12 @@ StrikesOut g s w solutions s₁ w₁ next =
 -- ---- a conflict in constraint j that is counted
 abbrev pub CountableAt : Given → Search → Walk → ℕ → Bool → List ℕ → Type 0
 CountableAt g s w j keep now =
-    Countable g.n g.m s.made j s.depth (s.conflicts + 1) w.done keep s.rows s.numbers (held w.level.lower w.level.upper w.level.below w.level.above 0) w.mirror.lowers w.mirror.uppers g.lines.now g.divisors w.masks.cuts now
+    Countable g.n g.m w.store.made j s.depth (s.conflicts + 1) w.done keep w.store.rows w.store.numbers (set s.levels s.depth w.level) g.divided.lines g.divided.divisors w.masks.cuts now
 
 pub record Learns (g : Given) (s : Search) (v : Walk) (s₁ : Search) (w : Walk) (j : ℕ) (keep : Bool) (now : List ℕ) (back : ℕ) (next : List ℕ) : Type 0 where
-  pub state : s₁ ≡ record s { rows = s₁.rows; numbers = s₁.numbers; made = s₁.made; conflicts = s.conflicts + 1 }
-  pub is : w ≡ record v { done = v.done + 1; mirror = w.mirror; masks = record { inputs = v.masks.inputs; cuts = w.masks.cuts } }
-  pub counted : Counted g.n g.m s.made j s.depth (s.conflicts + 1) v.done keep s.rows s.numbers (held v.level.lower v.level.upper v.level.below v.level.above) v.mirror.lowers v.mirror.uppers g.lines.now g.divisors v.masks.cuts now back s₁.made s₁.rows
-      s₁.numbers w.masks.cuts w.mirror.lowers w.mirror.uppers next
+  pub state : s₁ ≡ record s { levels = set s.levels s.depth v.level; conflicts = s.conflicts + 1 }
+  pub is : w ≡ record v { done = v.done + 1; store = w.store; masks = record { inputs = v.masks.inputs; cuts = w.masks.cuts } }
+  pub counted : Counted g.n g.m v.store.made j s.depth (s.conflicts + 1) v.done keep v.store.rows v.store.numbers (set s.levels s.depth v.level) g.divided.lines g.divided.divisors v.masks.cuts now back w.store.made w.store.rows w.store.numbers w.masks.cuts next
 
 pub record Affordable (g : Given) (s : Search) (w : Walk) (j : ℕ) (keep : Bool) (now : List ℕ) : Type 0 where
   pub base : model.Search
@@ -255,14 +257,14 @@ pub record Affordable (g : Given) (s : Search) (w : Walk) (j : ℕ) (keep : Bool
 -- ---- the end
 -- the state, with the level where the turn began
 abbrev pub state_of : Given → Search → Walk → model.Search
-state_of g s w = state_at g.thresholds g.lines.now g.divisors g.n g.m g.budget s.conflicts s.made w.turn.start (status_of s.status) s.rows s.numbers s.levels w.turn.before w.turn.earlier
+state_of g s w = state_at g.thresholds g.divided.lines g.divided.divisors g.n g.m g.budget s.conflicts w.store.made w.turn.start (status_of s.status) w.store.rows w.store.numbers s.levels w.turn.before w.turn.earlier
 
 pub record Endable (g : Given) (s : Search) (w : Walk) : Type 0 where
   pub of_state : GivenOf s g
   pub few : g.n ≤ max_variables
   pub inputs : g.m ≤ max_constraints
-  pub apart : Apart g.n g.m s.rows g.lines.now g.divisors
-  pub rows_long : length s.rows ≡ rows_length
+  pub apart : Apart g.n g.m w.store.rows g.divided.lines g.divided.divisors
+  pub rows_long : length w.store.rows ≡ rows_length
   pub shallow : w.turn.start ≤ max_variables
   pub levels_long : length s.levels ≡ 33
 

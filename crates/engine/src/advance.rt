@@ -24,10 +24,9 @@ pub fn advance(
     requires { Starts s limit keep room buffer.old solutions.old }
     ensures { Advances (view s) limit keep room result buffer.old buffer.new solutions.old solutions.new }
 {
-    let lines = s.rows;
-    let given = Given::new(&s, &lines);
+    let given = Given::new(&s);
     let mut walk = Walk::new(&s, limit);
-    walk.begin(&given, &mut s);
+    walk.begin(&given, &s);
     let ending = run(&mut walk, &given, &mut s, buffer, keep, room, solutions);
     walk.end(&given, &mut s);
     Advanced {

@@ -4,40 +4,31 @@ ghost use Rattle.model_problems.specs.Ranges.{max_variables, max_constraints};
 ghost use Rattle.bits.specs.Divided.{Testable, FirstIndivisible};
 ghost use Rattle.engine.specs.Given.{Taken};
 
-use bits::divided::{columns, divided_mask, first_indivisible};
+use bits::divided::Divided;
 use state::{Level, Search};
 
-// The sizes, the thresholds, the inputs with their divisors, and which inputs are divisor constraints: all, and those that mention each variable.
+// The sizes, the thresholds, and the divisor constraints set apart.
 #[derive(Drop)]
-pub(crate) struct Given<'a> {
+pub(crate) struct Given {
     pub n: usize,
     pub m: usize,
     pub budget: usize,
     pub thresholds: [i64; 32],
-    pub lines: &'a [i64; 4224],
-    pub divisors: [i64; 64],
-    pub divided: usize,
-    pub mentions: [usize; 32],
+    pub divided: Divided,
 }
 
-impl<'a> Given<'a> {
-    // The lines are the rows of the state, which change in place.
-    pub(crate) fn new(s: &Search, lines: &'a [i64; 4224]) -> Given<'a>
+impl Given {
+    pub(crate) fn new(s: &Search) -> Given
         requires few { s.now.n ≤ max_variables }
         requires most { s.now.m ≤ max_constraints }
-        ensures { Taken s.now lines.now result }
+        ensures { Taken s.now result }
     {
-        let divided = divided_mask(&s.divisors, s.m);
-        let mentions = columns(lines, &s.divisors, s.n, s.m, divided);
         Given {
             n: s.n,
             m: s.m,
             budget: s.budget,
             thresholds: s.thresholds,
-            lines,
-            divisors: s.divisors,
-            divided,
-            mentions,
+            divided: Divided::new(&s.rows, &s.divisors, s.n, s.m),
         }
     }
 
@@ -45,31 +36,22 @@ impl<'a> Given<'a> {
     // decision of this call, when none was falsified there; else all. Those levels are the ones from depth `low` on.
     pub(crate) fn due(&self, i: usize, depth: usize, low: usize) -> usize
         requires { i < max_variables }
-        ensures all { depth < low → result ≡ self.now.divided }
-        ensures mentioned { low ≤ depth → result ≡ get_or self.now.mentions i 0 }
+        ensures all { depth < low → result ≡ self.now.divided.all }
+        ensures mentioned { low ≤ depth → result ≡ get_or self.now.divided.columns i 0 }
     {
         if depth < low {
-            self.divided
+            self.divided.all
         } else {
-            self.mentions[i]
+            self.divided.columns[i]
         }
     }
 
     // The first of the divisor constraints of a mask that the level falsifies, if it stands before position `limit`; else that.
-    // Stays: a number for 'none', for `bits::divided::first_indivisible` gives it so.
     pub(crate) fn first_divided(&self, mask: usize, level: &Level, limit: usize) -> usize
-        requires { Testable self.now.n self.now.m self.now.lines.now self.now.divisors level.now.lower level.now.upper mask }
-        ensures { FirstIndivisible self.now.n self.now.m self.now.lines.now self.now.divisors level.now.lower level.now.upper mask limit result }
+        requires { Testable self.now.n self.now.m self.now.divided.lines self.now.divided.divisors level.now.lower level.now.upper mask }
+        ensures { FirstIndivisible self.now.n self.now.m self.now.divided.lines self.now.divided.divisors level.now.lower level.now.upper mask limit result }
     {
-        first_indivisible(
-            self.lines,
-            &self.divisors,
-            mask,
-            &level.lower,
-            &level.upper,
-            self.n,
-            self.m,
-            limit,
-        )
+        self.divided
+            .first_falsified(mask, level, self.n, self.m, limit)
     }
 }

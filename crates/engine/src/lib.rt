@@ -2,6 +2,5 @@
 #![tactic(auto)]
 
 pub mod advance;
-mod carried;
 mod given;
 mod walk;

@@ -6,15 +6,14 @@ ghost use Rattle.turns.specs.Advancing.{Starts};
 ghost use Rattle.engine.specs.Given.{Taken};
 ghost use Rattle.engine.specs.Walk.{Fresh, Scannable, Scanned, Begins, Underway, Propagates, Halted, Decides, Leaves, GoneBack, Strikable, StrikesOut, CountableAt, Learns, Affordable, Counts, Endable, state_of};
 
-use crate::carried::{Masks, Mirror, Saved, Track};
 use crate::given::Given;
-use backtrack::{backjump, decide};
-use conflict::conflict;
-use levels::mirror::{keep_bounds, mirror};
+use backtrack::{Saved, backjump, decide};
+use bits::masks::Masks;
+use conflict::{Branch, conflict};
 use levels::struck::put_values;
 use propagate::propagate::{Found, propagate};
-use propagate::scan::{first_falsified, measure};
-use state::kept::kept_count;
+use propagate::track::Track;
+use state::kept::Store;
 use state::{Level, Search, Status};
 use turns::apart::put_rows;
 use turns::masks::marks;
@@ -27,20 +26,22 @@ pub(crate) struct Turn {
     pub earlier: usize,
 }
 
-// The level in hand, at the state's depth, which is stored when the search leaves it, and what is carried along. `left` turns were left after the last
-// strike, and `done` are done since; `low` is the least depth that this call left by a decision.
+// The level in hand, at the state's depth, which is stored when the search leaves it; the least depth that this call left by a decision; the turns that
+// were left after the last strike, how many of them are done, and the strikes; the kept constraints, with the divisor constraints blank; what is tracked
+// of them and of the levels above, and what they mention. `told` is the position of the first that the level falsifies, or how many are kept.
 #[derive(Drop)]
 pub(crate) struct Walk {
     pub level: Level,
-    pub tracked: Track,
-    pub masks: Masks,
+    pub low: usize,
     pub turn: Turn,
     pub left: usize,
     pub done: usize,
     pub struck: usize,
-    pub low: usize,
+    pub store: Store,
+    pub track: Track,
+    pub told: usize,
     pub saved: Saved,
-    pub mirror: Mirror,
+    pub masks: Masks,
 }
 
 impl Walk {
@@ -61,21 +62,17 @@ impl Walk {
             left: limit,
             done: 0,
             struck: 0,
-            tracked: Track {
+            store: Store {
+                rows: [0; 4224],
+                numbers: [0; 64],
+                made: 0,
+            },
+            track: Track {
                 activities: [0; 128],
                 reaches: [0; 128],
-                told: 0,
             },
-            saved: Saved {
-                olds: [0; 4224],
-                limits: [0; 4224],
-                gones: [0; 33],
-                counts: [0; 33],
-            },
-            mirror: Mirror {
-                lowers: [0; 1056],
-                uppers: [0; 1056],
-            },
+            told: 0,
+            saved: Saved::new(),
             masks: Masks {
                 inputs: [0; 64],
                 cuts: [0; 64],
@@ -83,49 +80,38 @@ impl Walk {
         }
     }
 
-    // The divisor constraints are blanked among the rows, and what is carried is filled in.
-    pub(crate) fn begin(&mut self, given: &Given, s: &mut Search)
-        requires taken { Taken s.old s.old.rows given.now }
-        requires startable { Starts s.old 0 false 0 [] [] }
-        requires fresh { Fresh s.old self.old.left self.old }
-        ensures { Begins given.now s.old self.old s.new self.new }
+    // The kept constraints are taken over, those with a divisor blanked, and what is carried is filled in.
+    pub(crate) fn begin(&mut self, given: &Given, s: &Search)
+        requires taken { Taken s.now given.now }
+        requires startable { Starts s.now 0 false 0 [] [] }
+        requires fresh { Fresh s.now self.old.left self.old }
+        ensures { Begins given.now s.now self.old self.new }
     {
-        mirror(
-            s.levels,
-            s.depth,
-            &mut self.mirror.lowers,
-            &mut self.mirror.uppers,
-        );
+        self.store.rows = s.rows;
+        self.store.numbers = s.numbers;
+        self.store.made = s.made;
         put_rows(
-            &self.saved.olds,
-            &given.divisors,
+            &[0; 4224],
+            &given.divided.divisors,
             given.n,
             given.m,
-            &mut s.rows,
+            &mut self.store.rows,
         );
-        self.scan(given, s);
+        self.scan(given);
     }
 
     // What is tracked of the constraints at the level in hand, and the variables that they mention.
-    fn scan(&mut self, given: &Given, s: &Search)
-        requires { Scannable given.now s.now self.old }
-        ensures { Scanned given.now s.now self.old self.new }
+    fn scan(&mut self, given: &Given)
+        requires { Scannable given.now self.old }
+        ensures { Scanned given.now self.old self.new }
     {
-        let kept = kept_count(given.m, s.made);
-        measure(
-            &s.rows,
-            &self.level.lower,
-            &self.level.upper,
-            given.n,
-            0,
-            kept,
-            &mut self.tracked.activities,
-            &mut self.tracked.reaches,
-        );
-        let first = first_falsified(&self.tracked.activities, kept);
-        self.tracked.told = given.first_divided(given.divided, &self.level, first);
-        self.masks.inputs = marks(&s.rows, given.n, 0, given.m);
-        self.masks.cuts = marks(&s.rows, given.n, given.m, kept - given.m);
+        let kept = self.store.kept(given.n, given.m);
+        let count = kept.count();
+        self.track.measure(&kept, &self.level, 0);
+        let first = self.track.first_falsified(count);
+        self.told = given.first_divided(given.divided.all, &self.level, first);
+        self.masks.inputs = marks(kept.rows, given.n, 0, given.m);
+        self.masks.cuts = marks(kept.rows, given.n, given.m, count - given.m);
     }
 
     // Propagation at the level in hand. Returns where it stops.
@@ -133,25 +119,16 @@ impl Walk {
         requires { Underway given.now s.old self.old }
         ensures { Propagates given.now s.old self.old s.new self.new result }
     {
+        let kept = self.store.kept(given.n, given.m);
         let stopped = propagate(
-            &s.rows,
-            given.lines,
-            &given.divisors,
-            &given.mentions,
-            given.n,
-            given.m,
-            s.made,
-            &self.masks.inputs,
-            &self.masks.cuts,
+            &kept,
+            &given.divided,
+            &self.masks,
             &given.thresholds,
-            self.tracked.told,
+            self.told,
             s.propagations,
-            &mut self.level.lower,
-            &mut self.level.upper,
-            &mut self.level.below,
-            &mut self.level.above,
-            &mut self.tracked.activities,
-            &mut self.tracked.reaches,
+            &mut self.level,
+            &mut self.track,
         );
         s.propagations = stopped.count;
         stopped.found
@@ -162,33 +139,17 @@ impl Walk {
         requires { Halted given.now s.old self.old (Found.Decide i) }
         ensures { Decides given.now s.old self.old i s.new self.new }
     {
-        keep_bounds(
-            &self.level.lower,
-            &self.level.upper,
-            s.depth,
-            &mut self.mirror.lowers,
-            &mut self.mirror.uppers,
-        );
         s.levels[s.depth] = self.level;
+        let kept = self.store.kept(given.n, given.m);
         let first = decide(
-            &s.rows,
-            given.n,
-            given.m,
-            s.made,
+            &kept,
             i,
             s.depth,
-            &self.level.lower,
-            &self.tracked.reaches,
-            &mut self.level.upper,
-            &mut self.level.above,
-            &mut self.tracked.activities,
-            &mut self.saved.olds,
-            &mut self.saved.limits,
-            &mut self.saved.gones,
-            &mut self.saved.counts,
+            &mut self.level,
+            &mut self.track,
+            &mut self.saved,
         );
-        self.tracked.told = given.first_divided(given.mentions[i], &self.level, first);
-        self.level.decided = i;
+        self.told = given.first_divided(given.divided.columns[i], &self.level, first);
         s.depth += 1;
     }
 
@@ -201,6 +162,7 @@ impl Walk {
         self.struck += 1;
         self.left -= self.done;
         self.done = 0;
+        s.levels[s.depth] = self.level;
         self.go_back(given, s, s.depth);
     }
 
@@ -226,7 +188,7 @@ impl Walk {
         true
     }
 
-    // What the conflict teaches is kept, and its record written. Returns the backjump level.
+    // The level in hand is stored, what the conflict teaches is kept, and its record written. Returns the backjump level.
     fn learn(
         &mut self,
         given: &Given,
@@ -240,63 +202,50 @@ impl Walk {
         requires done { self.old.done + 1 < 2 ^ 64 }
         ensures { Learns given.now s.old self.old s.new self.new j keep buffer.old result buffer.new }
     {
-        s.conflicts += 1;
-        let met = conflict(
-            &self.level.lower,
-            &self.level.upper,
-            &self.level.below,
-            &self.level.above,
-            given.lines,
-            &given.divisors,
-            given.n,
-            given.m,
-            s.made,
+        s.levels[s.depth] = self.level;
+        let count = s.conflicts + 1;
+        s.conflicts = count;
+        let branch = Branch {
+            n: given.n,
+            m: given.m,
+            divided: &given.divided,
+            levels: &s.levels,
+            depth: s.depth,
+        };
+        let back = conflict(
+            &branch,
             j,
-            s.depth,
-            s.conflicts,
-            self.done,
+            count,
             keep,
-            &mut s.rows,
-            &mut s.numbers,
-            &mut self.masks.cuts,
-            &mut self.mirror.lowers,
-            &mut self.mirror.uppers,
+            self.done,
+            &mut self.store,
+            &mut self.masks,
             buffer,
         );
-        s.made = met.made;
         self.done += 1;
-        met.back
+        back
     }
 
-    // Back at the level above the one at depth `back`, with the decision that led from it flipped. The next turn starts there.
+    // Back at the level above the one at depth `back`, with the decision that led from it flipped. The next turn starts there. The levels are all stored.
     fn go_back(&mut self, given: &Given, s: &mut Search, back: usize)
         requires { Leaves given.now s.old self.old back }
         ensures { GoneBack given.now s.old self.old back s.new self.new }
     {
-        s.levels[s.depth] = self.level;
         let i = state::whole(s.levels[back]).decided;
         s.depth = back - 1;
         self.level = state::whole(s.levels[s.depth]);
+        let kept = self.store.kept(given.n, given.m);
         let first = backjump(
-            &s.rows,
-            given.n,
-            given.m,
-            s.made,
+            &kept,
             i,
             s.depth,
             &given.thresholds,
-            &self.level.upper,
-            &self.saved.olds,
-            &self.saved.limits,
-            &self.saved.gones,
-            &self.saved.counts,
-            &mut self.level.lower,
-            &mut self.level.below,
-            &mut self.tracked.activities,
-            &mut self.tracked.reaches,
+            &self.saved,
+            &mut self.level,
+            &mut self.track,
         );
         let due = given.due(i, s.depth, self.low);
-        self.tracked.told = given.first_divided(due, &self.level, first);
+        self.told = given.first_divided(due, &self.level, first);
         self.low = self.low.min(s.depth);
         self.start_turn(s);
     }
@@ -312,13 +261,22 @@ impl Walk {
         };
     }
 
-    // The state is what it was where the turn began, with the rows of the divisor constraints.
+    // The state is what it was where the turn began, with the constraints that are kept now and the rows of the divisor constraints.
     pub(crate) fn end(&self, given: &Given, s: &mut Search)
         requires { Endable given.now s.old self.now }
         ensures { view s.new ≡ state_of given.now s.old self.now }
     {
         s.levels[self.turn.start] = self.turn.before;
-        put_rows(given.lines, &given.divisors, given.n, given.m, &mut s.rows);
+        s.rows = self.store.rows;
+        s.numbers = self.store.numbers;
+        s.made = self.store.made;
+        put_rows(
+            &given.divided.lines,
+            &given.divided.divisors,
+            given.n,
+            given.m,
+            &mut s.rows,
+        );
         s.depth = self.turn.start;
         s.propagations = self.turn.earlier;
     }

@@ -18,19 +18,16 @@ use Rattle.propagate.specs.Tracked.{Tracked}
 use Rattle.propagate.specs.Apart.{kept_over, Warned}
 use Rattle.bits.specs.Masks.{Masked}
 use Rattle.backtrack.specs.Saved.{Saved, Roomy}
-use Rattle.levels.specs.Mirror.{Mirrored}
 
 -- the levels from depth `low` on, above depth, falsify no input
 abbrev pub ClearFrom : ℕ → ℕ → List ℤ → List ℤ → List Level → ℕ → ℕ → Type 0
 ClearFrom n m lines divisors levels low depth =
     (t : ℕ) → low ≤ t → t < depth → (j : ℕ) → j < m → falsified (input_at n lines divisors j) (box_of n (get_or levels t no_level).lower (get_or levels t no_level).upper) ≡ false
 
-pub record Carried (lines divisors : List ℤ) (columns : List ℕ) (divided low n m : ℕ) (rows : List ℤ) (levels : List Level) (made depth : ℕ) (lower upper activities reaches : List ℤ) (told : ℕ) (olds limits : List ℤ) (gones counts : List ℕ) (lowers uppers : List ℤ)
-    (inputs cuts : List ℕ) : Type 0 where
+pub record Carried (lines divisors : List ℤ) (low n m : ℕ) (rows : List ℤ) (levels : List Level) (made depth : ℕ) (lower upper activities reaches : List ℤ) (told : ℕ) (olds limits : List ℤ) (gones counts inputs cuts : List ℕ) : Type 0 where
   pub falsified : Warned (kept_over n m made rows lines divisors) n rows lower upper activities reaches (m + kept_cuts made) told
   pub room : Roomy olds limits gones counts
   pub saved : Saved n m made rows levels olds limits gones counts depth
-  pub bounds : Mirrored n levels lowers uppers depth
   pub masks : Masked n m (m + kept_cuts made) rows inputs cuts
   -- the levels from depth `low` on were left by decisions of this call: they falsify no input
   pub clear : ClearFrom n m lines divisors levels low depth

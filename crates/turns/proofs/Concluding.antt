@@ -3,10 +3,11 @@ use Prim.Native.Nat.{ℕ, suc, ◌+◌, ◌-◌, ◌≤◌, ◌<◌}
 use native.Mathlib.Omega.{arith}
 use mathlib.Core.Bool.{Bool}
 use mathlib.Core.List.{List}
-use mathlib.Core.Path.{◌≡◌, sym, ap, ap₂, subst, ◌∙◌}
+use mathlib.Core.Path.{◌≡◌, refl, sym, ap, ap₂, subst, ◌∙◌}
 use lib.Dec.{T}
 use lib.IntN.{ℤ, pos}
 use lib.ListN.{get_or, set, length}
+use lib.Seq.{get_or-set_same}
 use Rattle.model_problems.specs.Lists.{tab}
 use Rattle.model_problems.specs.Ranges.{max_cuts}
 use Rattle.model_problems.specs.Constraint.{Constraint, modulus, falsified}
@@ -20,21 +21,18 @@ use Rattle.layout.specs.Rows.{number_in, cell, constraint_at, row_at, input_at, 
 use Rattle.layout.proofs.Rows.{row_plain, constraint-eq}
 use Rattle.validity.proofs.Blank.{Blanked, analyze-blanked, numbered-blanked}
 use Rattle.validity.proofs.Tests.{nested-out}
-use Rattle.state.specs.View.{level_of, level_at, levels_from, kept_cuts, dropped_cuts, divisor_for, core_over, core_with}
-use Rattle.state.specs.Change.{held}
+use Rattle.state.specs.View.{no_level, level_of, level_at, levels_from, kept_cuts, dropped_cuts, divisor_for, core_over, core_with}
 use Rattle.state.specs.declared.Level.{Level}
 use Rattle.state.proofs.Cores.{level-here, levels-above}
 use Rattle.state.specs.Moved.{RowsMoved}
-use Rattle.levels.specs.Mirror.{box_in, Mirrored}
-use Rattle.levels.specs.Level.{LevelsNested, LeastFalsifying}
-use Rattle.levels.proofs.Mirroring.{mirrored-kept}
+use Rattle.levels.specs.Level.{box_at, LevelsNested, LeastFalsifying}
 use Rattle.propagate.specs.Apart.{kept_over, core_apart, Apart}
 use Rattle.propagate.proofs.Warning.{plain_row, divided-input, inputs-blanked, length_over, over-input, kept-plain}
 use Rattle.state.proofs.Moved.{place-less, rows_stay}
 use Rattle.conflict.specs.Counting.{Countable}
 use Rattle.conflict.specs.Learning.{Learnable, LearnedFrom}
 use Rattle.conflict.specs.declared.learn.Learned.{Learned}
-use Rattle.conflict.proofs.Learning.{learnable-at, kept_row, cut-false}
+use Rattle.conflict.proofs.Learning.{kept_row, cut-false}
 use Rattle.turns.proofs.Backjumping.{backjump-found}
 use Rattle.turns.proofs.Running.{Running, Propagates, core_here}
 use Rattle.turns.proofs.Conflicting.{conflict_with, learned-is, dismissed-is}
@@ -68,8 +66,8 @@ apart-moved n m made made₁ rows rows₁ lines divisors a v =
         let p = place-less m (dropped_cuts made₁ - dropped_cuts made) j h in
         v.at j (omega arith) (omega (arith, p)) ∙ ap (row_at n rows) p
 
-pub keeps-learned : (n m made : ℕ) (rows lines divisors : List ℤ) → Apart n m rows lines divisors → {numbers : List ℕ} {level : Level} {j : ℕ} {x : Learned} {rows₁ : List ℤ} {numbers₁ : List ℕ} →
-    LearnedFrom n m made rows numbers level j x rows₁ numbers₁ → Keeps n m made rows lines divisors x.cut x.used x.made rows₁ numbers₁
+pub keeps-learned : (n m made : ℕ) (rows lines divisors : List ℤ) → Apart n m rows lines divisors → {numbers : List ℕ} {level : Level} {j : ℕ} {x : Learned} {made₁ : ℕ} {rows₁ : List ℤ} {numbers₁ : List ℕ} →
+    LearnedFrom n m made rows numbers level j x made₁ rows₁ numbers₁ → Keeps n m made rows lines divisors x.cut x.used made₁ rows₁ numbers₁
 keeps-learned n m made rows lines divisors a l =
     record {
       apart = apart-moved n m made _ rows _ lines divisors a l.moved;
@@ -117,40 +115,38 @@ module _ {s : model.Search} {old : List ℕ} {limit : ℕ} {keep : Bool} {thresh
   false-here : T (falsified (get_or (kept_over n m made rows lines divisors) j no_constraint) (box_of n here.lower here.upper))
   false-here = unfold core_over model.kept level_of in moved.chosen.false
 
-  -- all levels as they lie in the flat arrays
-  module _ (lowers uppers : List ℤ) (b : Mirrored n all lowers uppers (depth + 1)) where
-    same-box : (t : ℕ) → t ≤ depth → box_in n lowers uppers t ≡ (level_at n all t).box
-    same-box t h = unfold level_at level_of in b.at t (omega arith)
+  same-box : (t : ℕ) → box_at n all t ≡ (level_at n all t).box
+  unfolding box_at level_at level_of
+  same-box t = refl
 
-    box-here : box_in n lowers uppers depth ≡ box_of n here.lower here.upper
-    box-here = same-box depth (omega arith) ∙ (unfold level_of in ap (λ (l : model.Level). l.box) (level-here n levels depth here deep))
+  box-here : box_at n all depth ≡ box_of n here.lower here.upper
+  unfolding box_at
+  box-here = rw (get_or-set_same levels depth here no_level deep)
 
-    levels-nested : LevelsNested n depth lowers uppers
-    levels-nested =
-        record {
-          lowers_long = b.lowers_long;
-          uppers_long = b.uppers_long;
-          range = λ t h. rw (same-box t h) (stored-range thresholds lines divisors n m rows numbers levels made depth here deep moved.fits t h);
-          inside = λ t h. rw (same-box (suc t) h, same-box t (omega arith)) (nested-out _ _ (stored-under thresholds lines divisors n m rows numbers levels made depth here deep moved.fits t h).inside);
-        }
+  levels-nested : LevelsNested n depth all
+  levels-nested =
+      record {
+        range = λ t h. rw (same-box t) (stored-range thresholds lines divisors n m rows numbers levels made depth here deep moved.fits t h);
+        inside = λ t h. rw (same-box (suc t), same-box t) (nested-out _ _ (stored-under thresholds lines divisors n m rows numbers levels made depth here deep moved.fits t h).inside);
+      }
 
-    -- the level that the search found
-    pub level-is : (k : Constraint) (back : ℕ) → LeastFalsifying k n depth lowers uppers back → backjump_level k (core_here thresholds lines divisors n m rows numbers levels made depth here) ≡ back
-    level-is k back q =
-        ap₂ (λ (l : model.Level) (ls : List model.Level). backjump_level k (core_apart thresholds n m made rows lines divisors numbers l ls))
-        (sym (level-here n levels depth here deep)) (sym (levels-above n levels depth depth here (omega arith))) ∙
-        backjump-found thresholds lines divisors n m made rows numbers all depth back k q.reach (λ t h. rw (← same-box t (omega (arith, q.reach))) (q.least t h)) (rw (← same-box back q.reach) q.falsifies)
+  -- the level that the search found
+  pub level-is : (k : Constraint) (back : ℕ) → LeastFalsifying k n depth all back → backjump_level k (core_here thresholds lines divisors n m rows numbers levels made depth here) ≡ back
+  level-is k back q =
+      ap₂ (λ (l : model.Level) (ls : List model.Level). backjump_level k (core_apart thresholds n m made rows lines divisors numbers l ls))
+      (sym (level-here n levels depth here deep)) (sym (levels-above n levels depth depth here (omega arith))) ∙
+      backjump-found thresholds lines divisors n m made rows numbers all depth back k q.reach (λ t h. rw (← same-box t) (q.least t h)) (rw (← same-box back) q.falsifies)
 
   -- what counting it asks
-  pub countable : (d : ℕ) (lowers uppers : List ℤ) → Mirrored n levels lowers uppers depth → (masks : List ℕ) → length masks ≡ max_cuts → done < limit → Learnable n m made rows numbers here j →
-      Countable n m made j depth (conflicts + 1) done keep rows numbers (held here.lower here.upper here.below here.above d) lowers uppers lines divisors masks now
-  countable d lowers uppers b masks e h l =
+  pub countable : (masks : List ℕ) → length masks ≡ max_cuts → done < limit → Learnable n m made rows numbers here j →
+      Countable n m made j depth (conflicts + 1) done keep rows numbers all lines divisors masks now
+  countable masks e h l =
       record {
-        learnable = learnable-at d l;
+        learnable = rw (get_or-set_same levels depth here no_level deep) l;
         apart = r.apart;
         deep = depth_small r;
-        levels = λ lowers₁ uppers₁ k. let c = mirrored-kept n r.counts.few levels lowers uppers lowers₁ uppers₁ depth here k deep b in (levels-nested lowers₁ uppers₁ c, box-here lowers₁ uppers₁ c);
-        false = true_of _ false-here;
+        nested = levels-nested;
+        false = rw box-here (true_of _ false-here);
         masked = e;
         some = omega arith;
         room = λ k. omega (arith, r.room k, same_length r);
@@ -158,7 +154,7 @@ module _ {s : model.Search} {old : List ℕ} {limit : ℕ} {keep : Bool} {thresh
 
   -- ---- what the conflict is
   -- at an inequality
-  module _ (plain : divisor_for m divisors j ≡ pos 0) (x : Learned) {rows₁ : List ℤ} {numbers₁ : List ℕ} (l : LearnedFrom n m made rows numbers here j x rows₁ numbers₁) where
+  module _ (plain : divisor_for m divisors j ≡ pos 0) (x : Learned) {made₁ : ℕ} {rows₁ : List ℤ} {numbers₁ : List ℕ} (l : LearnedFrom n m made rows numbers here j x made₁ rows₁ numbers₁) where
     abbrev cut : Constraint
     cut = constraint_at n x.cut 0
 
@@ -190,25 +186,25 @@ module _ {s : model.Search} {old : List ℕ} {limit : ℕ} {keep : Bool} {thresh
     cut-falsified : T (falsified cut (level_of n here).box)
     cut-falsified = unfold level_of in cut-false r.counts.few l position (subst (λ (k : Constraint). T (falsified k (box_of n here.lower here.upper))) own false-here)
 
-    numbers-it : numbered (core_here thresholds lines divisors n m rows numbers levels made depth here) cut ≡ record { number = x.number; core = core_here thresholds lines divisors n m rows₁ numbers₁ levels x.made depth here }
+    numbers-it : numbered (core_here thresholds lines divisors n m rows numbers levels made depth here) cut ≡ record { number = x.number; core = core_here thresholds lines divisors n m rows₁ numbers₁ levels made₁ depth here }
     unfolding core_over
     numbers-it = numbered-blanked bare (thresholds_of n thresholds) (tab (input_at n lines divisors) 0 m) blanked cut (level_of n here).box (row_plain n x.cut 0) cut-falsified x.number _ (l.learns (levels_from n levels depth)).numbering
 
-    pub is-learned : (lowers uppers : List ℤ) → Mirrored n all lowers uppers (depth + 1) → (back : ℕ) → LeastFalsifying cut n depth lowers uppers back →
+    pub is-learned : (back : ℕ) → LeastFalsifying cut n depth all back →
         at_conflict (core_here thresholds lines divisors n m rows numbers levels made depth here) j ≡
-        conflict_with (core_here thresholds lines divisors n m rows numbers levels made depth here) j cut (tab (λ i. get_or x.used i 0) 0 n) x.number back (core_here thresholds lines divisors n m rows₁ numbers₁ levels x.made depth here)
-    is-learned lowers uppers b back q =
-        learned-is (core_here thresholds lines divisors n m rows numbers levels made depth here) j cut _ x.number back _ inequality analyzed numbers-it (level-is lowers uppers b cut back q)
+        conflict_with (core_here thresholds lines divisors n m rows numbers levels made depth here) j cut (tab (λ i. get_or x.used i 0) 0 n) x.number back (core_here thresholds lines divisors n m rows₁ numbers₁ levels made₁ depth here)
+    is-learned back q =
+        learned-is (core_here thresholds lines divisors n m rows numbers levels made depth here) j cut _ x.number back _ inequality analyzed numbers-it (level-is cut back q)
 
   -- at an input with a divisor
-  pub is-dismissed : (lowers uppers : List ℤ) → Mirrored n all lowers uppers (depth + 1) → (cut : List ℤ) (used : List ℕ) (back : ℕ) → j < m → (number_in divisors j ≡ pos 0 → ⊥) → ((i : ℕ) → number_in cut i ≡ pos 0) → ((i : ℕ) → get_or used i 0 ≡ 0) →
-      LeastFalsifying (input_at n lines divisors j) n depth lowers uppers back →
+  pub is-dismissed : (cut : List ℤ) (used : List ℕ) (back : ℕ) → j < m → (number_in divisors j ≡ pos 0 → ⊥) → ((i : ℕ) → number_in cut i ≡ pos 0) → ((i : ℕ) → get_or used i 0 ≡ 0) →
+      LeastFalsifying (input_at n lines divisors j) n depth all back →
       at_conflict (core_here thresholds lines divisors n m rows numbers levels made depth here) j ≡
       conflict_with (core_here thresholds lines divisors n m rows numbers levels made depth here) j (constraint_at n cut 0) (tab (λ i. get_or used i 0) 0 n) 0 back (core_here thresholds lines divisors n m rows numbers levels made depth here)
   unfolding core_over
-  is-dismissed lowers uppers b cut used back h d zc zu q =
+  is-dismissed cut used back h d zc zu q =
       let c = core_here thresholds lines divisors n m rows numbers levels made depth here in
       let k = input_at n lines divisors j in
       let own : get_or (model.kept c) j no_constraint ≡ k = unfold core_over model.kept in over-input n m made rows lines divisors j h in
-      let x = dismissed-is c j k back own (divided-input n lines divisors j d) (level-is lowers uppers b k back q) in
+      let x = dismissed-is c j k back own (divided-input n lines divisors j d) (level-is k back q) in
       rw (zero-cut n cut zc, zero-used n used zu) x

@@ -7,6 +7,7 @@ use mathlib.Core.Logic.{⊎_elim}
 use mathlib.Core.Path.{◌≡◌, sym, ap, ap₂, subst, ◌∙◌}
 use lib.IntN.{ℤ}
 use lib.ListN.{get_or, set, length}
+use lib.Seq.{get_or-set_same}
 use Rattle.model_problems.specs.Lists.{tab}
 use Rattle.model_problems.specs.Ranges.{max_variables}
 use Rattle.model_walk.specs.Search as model
@@ -17,13 +18,11 @@ use Rattle.model_walk.specs.Step as step
 use Rattle.lists.proofs.Tab.{length-tab}
 use Rattle.layout.specs.Rows.{cell, constraint_at, input_at, box_of}
 use Rattle.state.specs.View.{no_level, level_of, core_over}
-use Rattle.state.specs.Change.{Whole, held}
+use Rattle.state.specs.Change.{Whole}
 use Rattle.state.specs.declared.Level.{Level}
-use Rattle.state.proofs.Cores.{number-over, length-levels}
+use Rattle.state.proofs.Cores.{number-over, length-levels, levels-above}
 use Rattle.record.specs.Written.{record_of, Emitted}
 use Rattle.record.proofs.Narrow.{record-narrow}
-use Rattle.levels.specs.Mirror.{BoundsKept, Mirrored}
-use Rattle.levels.proofs.Mirroring.{mirrored-kept, mirrored-less}
 use Rattle.conflict.specs.Counting.{LearnedAt, DismissedAt, Counted}
 use Rattle.turns.specs.declared.Ending.TheVariants.{NoSolution}
 use Rattle.turns.proofs.Measures.{step_weight, core-slack}
@@ -56,22 +55,21 @@ pub record Meets (s : model.Search) (old : List ℕ) (limit : ℕ) (keep : Bool)
 
 pub meets : {s : model.Search} {old : List ℕ} {limit : ℕ} {keep : Bool} {thresholds lines divisors : List ℤ} {n m budget : ℕ} {now : List ℕ} {rows : List ℤ} {numbers : List ℕ} {levels : List Level} {made conflicts depth : ℕ}
     {level before : Level} {start done earlier tally : ℕ} → Running s old limit keep thresholds lines divisors n m budget now rows numbers levels made conflicts depth level before start done earlier tally →
-    (lower upper : List ℤ) (below above : List ℕ) (d j : ℕ) {tally₁ : ℕ} →
-    Propagates (core_here thresholds lines divisors n m rows numbers levels made depth level) (core_here thresholds lines divisors n m rows numbers levels made depth (held lower upper below above d)) (conflict j) tally tally₁ →
-    {lowers uppers : List ℤ} → Mirrored n levels lowers uppers depth → done < limit → conflicts < budget →
-    {masks : List ℕ} {back made₁ : ℕ} {rows₁ : List ℤ} {numbers₁ masks₁ : List ℕ} {lowers₁ uppers₁ : List ℤ} {next : List ℕ} →
-    Counted n m made j depth (conflicts + 1) done keep rows numbers (held lower upper below above) lowers uppers lines divisors masks now back made₁ rows₁ numbers₁ masks₁ lowers₁ uppers₁ next →
-    Meets s old limit keep thresholds lines divisors n m budget now rows numbers levels made conflicts depth level before start done earlier tally (held lower upper below above d) tally₁ back made₁ rows₁ numbers₁ next
-meets {thresholds = thresholds} {lines = lines} {divisors = divisors} {n = n} {m = m} {rows = rows} {numbers = numbers} {levels = levels} {made = made} {depth = depth} r lower upper below above d j moved {lowers} {uppers} b left afford {back = back} {made₁ = made₁} {rows₁ = rows₁} {numbers₁ = numbers₁} {lowers₁ = lowers₁} {uppers₁ = uppers₁} q =
-    let here = held lower upper below above d in
-    let c = mirrored-kept n r.counts.few levels lowers uppers lowers₁ uppers₁ depth here q.boxes (omega (arith, depth_small r, r.levels_long)) b in
+    (here : Level) (j : ℕ) {tally₁ : ℕ} →
+    Propagates (core_here thresholds lines divisors n m rows numbers levels made depth level) (core_here thresholds lines divisors n m rows numbers levels made depth here) (conflict j) tally tally₁ →
+    done < limit → conflicts < budget → {masks : List ℕ} {back made₁ : ℕ} {rows₁ : List ℤ} {numbers₁ masks₁ next : List ℕ} →
+    Counted n m made j depth (conflicts + 1) done keep rows numbers (set levels depth here) lines divisors masks now back made₁ rows₁ numbers₁ masks₁ next →
+    Meets s old limit keep thresholds lines divisors n m budget now rows numbers levels made conflicts depth level before start done earlier tally here tally₁ back made₁ rows₁ numbers₁ next
+meets {thresholds = thresholds} {lines = lines} {divisors = divisors} {n = n} {m = m} {rows = rows} {numbers = numbers} {levels = levels} {made = made} {depth = depth} r here j moved left afford {back = back} {made₁ = made₁} {rows₁ = rows₁} {numbers₁ = numbers₁} q =
+    let same : get_or (set levels depth here) depth no_level ≡ here = get_or-set_same levels depth here no_level (omega (arith, depth_small r, r.levels_long)) in
     let facts =
     ⊎_elim {C = Facts thresholds lines divisors n m rows numbers levels made depth here j q.cut q.used q.number back made₁ rows₁ numbers₁}
-    (λ (l : LearnedAt n m made j depth rows numbers (held lower upper below above) lowers₁ uppers₁ divisors q.cut q.used q.number back made₁ rows₁ numbers₁).
-    record { is = is-learned r here j moved l.plain _ (l.learned d) lowers₁ uppers₁ c back l.jump; reach = l.jump.reach; kept = keeps-learned n m made rows lines divisors r.apart (l.learned d) })
-    (λ (l : DismissedAt n m made j depth rows numbers lowers₁ uppers₁ lines divisors q.cut q.used q.number back made₁ rows₁ numbers₁).
+    (λ (l : LearnedAt n m made j depth rows numbers (set levels depth here) divisors q.cut q.used q.number back made₁ rows₁ numbers₁).
+    let x = rw same at l.learned in
+    record { is = is-learned r here j moved l.plain _ x back l.jump; reach = l.jump.reach; kept = keeps-learned n m made rows lines divisors r.apart x })
+    (λ (l : DismissedAt n m made j depth rows numbers (set levels depth here) lines divisors q.cut q.used q.number back made₁ rows₁ numbers₁).
     rw (l.nothing, l.same_made, l.same_rows, l.same_numbers)
-    (record { is = is-dismissed r here j moved lowers₁ uppers₁ c q.cut q.used back l.position l.divided l.cut_zero l.used_zero l.jump; reach = l.jump.reach; kept = keeps-dismissed n m made rows numbers lines divisors q.cut q.used r.apart r.rows_long r.numbers_long l.cut_zero l.used_zero }))
+    (record { is = is-dismissed r here j moved q.cut q.used back l.position l.divided l.cut_zero l.used_zero l.jump; reach = l.jump.reach; kept = keeps-dismissed n m made rows numbers lines divisors q.cut q.used r.apart r.rows_long r.numbers_long l.cut_zero l.used_zero }))
     q.concluded in
     record {
       running = r;
@@ -123,16 +121,12 @@ module _ {s : model.Search} {old : List ℕ} {limit : ℕ} {keep : Bool} {thresh
   emitted : (e : ℕ) → back ≡ e → Emitted keep done (block e) now next
   emitted e q = subst (λ (bytes : List ℕ). Emitted keep done bytes now next) (block-is ∙ ap block q) k.written
 
+  -- at the end the level is stored too
   pub counted_none : back ≡ 0 →
-      Reaches s limit keep NoSolution (done + 1) (state_at thresholds lines divisors n m budget (conflicts + 1) made₁ depth model.infeasible rows₁ numbers₁ levels here tally₁) old next
+      Reaches s limit keep NoSolution (done + 1) (state_at thresholds lines divisors n m budget (conflicts + 1) made₁ depth model.infeasible rows₁ numbers₁ stored here tally₁) old next
   counted_none z =
-      ends-none s old limit keep thresholds lines divisors n m budget now rows numbers levels made conflicts depth level before start done earlier tally here r k.left inside k.afford k.j tally₁ k.moved _ _ k.number rows₁ numbers₁ made₁
-      (is_at 0 z) next (emitted 0 z)
-
-  -- the bounds of the levels above, there
-  pub mirrored-on : {lowers uppers lowers₁ uppers₁ : List ℤ} → BoundsKept depth here.lower here.upper lowers uppers lowers₁ uppers₁ → Mirrored n levels lowers uppers depth → Mirrored n stored lowers₁ uppers₁ (back - 1)
-  mirrored-on {lowers} {uppers} {lowers₁} {uppers₁} q b =
-      mirrored-less n stored lowers₁ uppers₁ (depth + 1) (mirrored-kept n r.counts.few levels lowers uppers lowers₁ uppers₁ depth here q inside b) (back - 1) (omega (arith, k.reach))
+      rw (levels-above n levels depth depth here (omega arith)) (ends-none s old limit keep thresholds lines divisors n m budget now rows numbers levels made conflicts depth level before start done earlier tally here r k.left inside k.afford k.j tally₁ k.moved _ _ k.number rows₁ numbers₁ made₁
+      (is_at 0 z) next (emitted 0 z))
 
   -- the level to go back to
   module _ (some : 1 ≤ back) (wo : Whole (get_or stored (back - 1) no_level)) where
