@@ -22,12 +22,7 @@ pub fn strike(s: Search) -> Search
     let mut levels = s.levels;
     let d = levels[depth];
     let mut level = state::whole(levels[back]);
-    flip(
-        d.decided,
-        &s.thresholds,
-        &mut level.lower,
-        &mut level.below,
-    );
+    flip(d.decided, &s.thresholds, &mut level.lower, &mut level.below);
     levels[back] = level;
     Search {
         depth: back,
