@@ -55,7 +55,7 @@ pub(crate) fn show_answer(rt: &impl Print, ran: &Ran) -> io::Result<()> {
         Verdict::OutOfBudget => print!(rt; " spent")?,
         Verdict::Solution(values) => {
             print!(rt; " solution")?;
-            for value in values.iter().take(ran.state.n) {
+            for value in calls::values(ran).iter().take(ran.state.n) {
                 print!(rt; " {value}")?;
             }
         }
