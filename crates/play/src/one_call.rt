@@ -53,9 +53,9 @@ pub(crate) fn show_answer(rt: &impl Print, ran: &Ran) -> io::Result<()> {
         Verdict::GoOn => print!(rt; " go on")?,
         Verdict::NoSolution => print!(rt; " none")?,
         Verdict::OutOfBudget => print!(rt; " spent")?,
-        Verdict::Solution(values) => {
+        Verdict::Solution(_) => {
             print!(rt; " solution")?;
-            for value in values.iter().take(ran.state.n) {
+            for value in calls::values(ran).iter().take(ran.state.n) {
                 print!(rt; " {value}")?;
             }
         }
