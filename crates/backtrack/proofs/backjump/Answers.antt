@@ -26,8 +26,8 @@ flip-rise-requires c =
     let p = c.requires.0 in
     (omega (arith, p.fits.few, p.variable), (weaken (lit≤ tt) (lower-within _ a.level.now.lower a.level.now.upper (true_of _ p.fits.bounds) a.i p.variable), flipped-rise _ _ _ _ _ _ _ p.fits p.next p.variable p.lowers))
 
-pub shift-requires-clause-shiftable : goal.shift-requires-clause-shiftable
-shift-requires-clause-shiftable c =
+pub shift-requires : goal.shift-requires
+shift-requires c =
     let p = c.requires.0 in
     rw (rise (search rules) c.flip-rise.ensures.0)
     (shiftable _ _ _ _ _ _ _ _ _ _ p.fits c.measure.ensures p.variable (flipped-rise _ _ _ _ _ _ _ p.fits p.next p.variable p.lowers) (record { within = omega arith }))

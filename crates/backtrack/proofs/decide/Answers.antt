@@ -40,10 +40,10 @@ falls : (c : After-set-fall) → to_z w64 (of_z w64 c.set-fall.result) ≡ numbe
 unfolding number_in
 falls c = to_z-of_z {w = w64} (sfits_of c.set-fall.type_inv) ∙ rw (value c.args.i c.requires.fits c.requires.variable) at c.set-fall.ensures.0
 
-pub shift-requires-clause-shiftable : goal.shift-requires-clause-shiftable
-shift-requires-clause-shiftable c =
+pub shift-requires : goal.shift-requires
+shift-requires c =
     let p = c.requires in
-    rw (falls (goal.at.shift-requires-clause-shiftable c).After-set-fall)
+    rw (falls (goal.at.shift-requires c).After-set-fall)
     (shiftable _ _ _ _ _ _ _ _ _ _ p.fits p.tracked p.variable (record { within = omega arith }) (decided-settable _ _ _ _ _ c.args.level.now.above _ p.fits p.variable p.uppers).change)
 
 pub returns-clause-decided : goal.returns-clause-decided
