@@ -1,4 +1,3 @@
--- Laws of numbers copied, of the bounds of the levels, and of levels inside each other.
+-- Laws of numbers copied, and of levels inside each other.
 pub mod Copying
-pub mod Mirroring
 pub mod Nesting

@@ -1,5 +1,5 @@
 -- Levels that nest: where one does not falsify a constraint, none above it does.
-use Prim.Native.Nat.{ℕ, zero, suc, ◌*◌, ◌≤◌, ◌<◌}
+use Prim.Native.Nat.{ℕ, zero, suc, ◌≤◌, ◌<◌}
 use native.Mathlib.Nat.{eq-or-lt_of_le}
 use native.Mathlib.Omega.{arith}
 use mathlib.Core.Bool.{Bool, true, false}
@@ -7,8 +7,7 @@ use mathlib.Core.List.{List}
 use mathlib.Core.Logic.{⊎_elim}
 use mathlib.Core.Path.{◌≡◌, refl}
 use lib.Dec.{T}
-use lib.IntN.{ℤ}
-use lib.ListN.{drop, length-drop}
+use lib.ListN.{get_or}
 use Rattle.model_problems.specs.Ranges.{max_variables}
 use Rattle.model_problems.specs.Constraint.{Constraint, falsified}
 use Rattle.lists.proofs.Bools.{true_of, clash}
@@ -16,22 +15,23 @@ use Rattle.linear.specs.Ranges.{BoxFits}
 use Rattle.linear.proofs.Ranges.{box-fits}
 use Rattle.validity.proofs.Tests.{range-ordered, nested-in}
 use Rattle.validity.proofs.Constraints.{falsified-nested}
-use Rattle.levels.specs.Mirror.{box_in}
-use Rattle.levels.specs.Level.{LevelsNested}
+use Rattle.state.specs.View.{no_level}
+use Rattle.state.specs.declared.Level.{Level}
+use Rattle.levels.specs.Level.{box_at, LevelsNested}
 
 -- a test that is passed only with another fails with it
 fails : (a b : Bool) → (T a → T b) → b ≡ false → a ≡ false
 fails true b f e = clash (true_of b (f tt)) e
 fails false b f e = refl
 
-module _ {n depth : ℕ} {lowers uppers : List ℤ} (l : LevelsNested n depth lowers uppers) where
-  pub level-fits : n ≤ max_variables → depth ≤ max_variables → (t : ℕ) → t ≤ depth → BoxFits n (drop (max_variables * t) lowers) (drop (max_variables * t) uppers)
-  unfolding box_in
-  level-fits few deep t h =
-      box-fits n (drop (max_variables * t) lowers) (drop (max_variables * t) uppers) (true_of _ (l.range t h))
-      (omega (arith, length-drop (max_variables * t) lowers, l.lowers_long)) (omega (arith, length-drop (max_variables * t) uppers, l.uppers_long))
+module _ {n depth : ℕ} {levels : List Level} (l : LevelsNested n depth levels) where
+  pub level-fits : n ≤ max_variables → (t : ℕ) → t ≤ depth → BoxFits n (get_or levels t no_level).lower (get_or levels t no_level).upper
+  unfolding box_at
+  level-fits few t h =
+      let w = l.whole t h in
+      box-fits n _ _ (true_of _ (l.range t h)) (omega (arith, w.lower)) (omega (arith, w.upper))
 
-  pub clear-outward : (k : Constraint) (e : ℕ) → e ≤ depth → falsified k (box_in n lowers uppers e) ≡ false → (t : ℕ) → t ≤ e → falsified k (box_in n lowers uppers t) ≡ false
+  pub clear-outward : (k : Constraint) (e : ℕ) → e ≤ depth → falsified k (box_at n levels e) ≡ false → (t : ℕ) → t ≤ e → falsified k (box_at n levels t) ≡ false
   clear-outward k zero h f t g = let z : t ≡ 0 = omega arith in rw z f
   clear-outward k (suc e) h f t g =
       ⊎_elim

@@ -5,11 +5,10 @@ ghost use Rattle.model_problems.specs.Constraint.{falsified};
 ghost use Rattle.model_walk.specs.Conflict.{levels_tested};
 ghost use Rattle.linear.specs.Ranges.{RowFits, DivisorFits};
 ghost use Rattle.layout.specs.Rows.{divided_at};
-ghost use Rattle.levels.specs.Mirror.{box_in};
-ghost use Rattle.levels.specs.Level.{LevelsNested, LeastFalsifying};
+ghost use Rattle.levels.specs.Level.{box_at, LevelsNested, LeastFalsifying};
 
-use crate::mirror::ROOM;
 use linear::divisibility::is_falsified;
+use state::Level;
 
 // The backjump level, and how many levels were tested to find it.
 #[derive(Clone, Copy)]
@@ -25,17 +24,16 @@ pub fn backjump_level(
     q: i64,
     n: usize,
     depth: usize,
-    lowers: &[i64],
-    uppers: &[i64],
+    levels: &[Level; 33],
 ) -> BackjumpLevel
-    requires { DivisorFits q × ((RowFits n cut.now 0) × ((depth ≤ max_variables) × ((LevelsNested n depth lowers.now uppers.now) × (falsified (divided_at n cut.now 0 q) (box_in n lowers.now uppers.now depth) ≡ true)))) }
-    ensures { (LeastFalsifying (divided_at n cut.now 0 q) n depth lowers.now uppers.now result.level) × (result.tested ≡ levels_tested depth result.level) }
+    requires { DivisorFits q × ((RowFits n cut.now 0) × ((depth ≤ max_variables) × ((LevelsNested n depth levels.now) × (falsified (divided_at n cut.now 0 q) (box_at n levels.now depth) ≡ true)))) }
+    ensures { (LeastFalsifying (divided_at n cut.now 0 q) n depth levels.now result.level) × (result.tested ≡ levels_tested depth result.level) }
 {
     let mut tested = 0;
     for level in (0..=depth).rev() {
-        let at = ROOM * level;
+        let Level { lower, upper, .. } = &levels[level];
         tested += 1;
-        if !is_falsified(cut, 0, q, &lowers[at..], &uppers[at..], n) {
+        if !is_falsified(cut, 0, q, lower, upper, n) {
             return BackjumpLevel {
                 level: level + 1,
                 tested,

@@ -1,8 +1,7 @@
-// What a search keeps of its levels in flat arrays, the backjump level, which is sought there, and the values of solutions that it strikes out.
+// The backjump level, which is sought among the levels of a search, and the values of solutions that it strikes out.
 #![tactic(auto)]
 
 pub mod level;
-pub mod mirror;
 pub mod struck;
 
 ghost use Rattle.std.specs.Prelude.{◌+◌, ◌≤◌, length};

@@ -1,6 +1,6 @@
 -- `levels::level::backjump_level` meets its contract: every level passed falsifies the constraint, and where one does not, none above it does. Assumes
 -- nothing.
-use Prim.Native.Nat.{ℕ, suc, ◌+◌, ◌*◌, ◌-◌, ◌≤◌, ◌<◌}
+use Prim.Native.Nat.{ℕ, suc, ◌+◌, ◌-◌, ◌≤◌, ◌<◌}
 use native.Mathlib.Omega.{arith}
 use native.Mathlib.Nat.{eq-or-lt_of_le}
 use mathlib.Core.Bool.{Bool, true, false}
@@ -8,31 +8,29 @@ use mathlib.Core.List.{List}
 use mathlib.Core.Logic.{⊎_elim}
 use mathlib.Core.Path.{◌≡◌, sym, subst, ◌∙◌}
 use mir.Facts.{to_z-of_z}
-use lib.IntN.{ℤ}
-use lib.ListN.{length, drop, take}
-use Rattle.std.proofs.lemmas.List.{take_rest}
+use lib.ListN.{get_or}
 use Rattle.lists.proofs.Bools.{clash}
-use Rattle.model_problems.specs.Ranges.{max_variables}
 use Rattle.model_problems.specs.Constraint.{Constraint, falsified}
 use Rattle.model_walk.specs.Conflict.{levels_tested}
 use Rattle.layout.specs.Rows.{box_of}
-use Rattle.levels.specs.Mirror.{box_in}
-use Rattle.levels.specs.Level.{LevelsNested, LeastFalsifying}
+use Rattle.state.specs.View.{no_level}
+use Rattle.state.specs.declared.Level.{Level}
+use Rattle.levels.specs.Level.{box_at, LevelsNested, LeastFalsifying}
 use Rattle.levels.proofs.Nesting.{level-fits, clear-outward}
 use Rattle.levels.proofs.level.backjump_level.Invariants.{Passed}
 use Rattle.levels.proofs.level.backjump_level.Goals as goal
 
-module _ {k : Constraint} {n depth : ℕ} {lowers uppers : List ℤ} {level tested : ℕ} (p : Passed k n depth lowers uppers level tested) where
+module _ {k : Constraint} {n depth : ℕ} {levels : List Level} {level tested : ℕ} (p : Passed k n depth levels level tested) where
   -- the search stops at a level that does not falsify it
-  found : LevelsNested n depth lowers uppers → falsified k (box_in n lowers uppers depth) ≡ true → falsified k (box_in n lowers uppers level) ≡ false →
-      LeastFalsifying k n depth lowers uppers (level + 1) × (tested + 1 ≡ levels_tested depth (level + 1))
+  found : LevelsNested n depth levels → falsified k (box_at n levels depth) ≡ true → falsified k (box_at n levels level) ≡ false →
+      LeastFalsifying k n depth levels (level + 1) × (tested + 1 ≡ levels_tested depth (level + 1))
   unfolding levels_tested
   found l deepest f = (record { reach = inside; falsifies = p.falsifies (level + 1) (omega arith) inside; least = λ t h. clear-outward l k level (omega (arith, p.count)) f t (omega arith) }, number)
     where
       inside : level + 1 ≤ depth
       inside =
           ⊎_elim
-          (λ (e : level ≡ depth). clash deepest (subst (λ (t : ℕ). falsified k (box_in n lowers uppers t) ≡ false) e f))
+          (λ (e : level ≡ depth). clash deepest (subst (λ (t : ℕ). falsified k (box_at n levels t) ≡ false) e f))
           (λ (e : level < depth). omega arith)
           (eq-or-lt_of_le (omega (arith, p.count)))
 
@@ -40,24 +38,21 @@ module _ {k : Constraint} {n depth : ℕ} {lowers uppers : List ℤ} {level test
       number = let e : level + 1 ≡ suc level = omega arith in rw e (omega (arith, p.count, inside))
 
   -- one more is passed
-  module _ (t : falsified k (box_in n lowers uppers level) ≡ true) where
-    from-here : (s : ℕ) → level ≤ s → s ≤ depth → falsified k (box_in n lowers uppers s) ≡ true
+  module _ (t : falsified k (box_at n levels level) ≡ true) where
+    from-here : (s : ℕ) → level ≤ s → s ≤ depth → falsified k (box_at n levels s) ≡ true
     from-here s a b = ⊎_elim (λ (e : level ≡ s). rw (← e) t) (λ (l : level < s). p.falsifies s l b) (eq-or-lt_of_le a)
 
-    passed-more : 0 < level → Passed k n depth lowers uppers (level - 1) (tested + 1)
+    passed-more : 0 < level → Passed k n depth levels (level - 1) (tested + 1)
     passed-more h = record { count = omega (arith, p.count); falsifies = λ s a b. from-here s (omega arith) b }
 
-    passed-all : level ≡ 0 → LeastFalsifying k n depth lowers uppers 0 × (tested + 1 ≡ levels_tested depth 0)
+    passed-all : level ≡ 0 → LeastFalsifying k n depth levels 0 × (tested + 1 ≡ levels_tested depth 0)
     unfolding levels_tested
     passed-all z = (record { reach = omega arith; falsifies = from-here 0 (omega arith) (omega arith); least = λ s h. absurd (omega arith) }, omega (arith, p.count))
 
 -- what the test of the level told
-tested-at : (k : Constraint) (n t : ℕ) (lowers uppers : List ℤ) {b : Bool} →
-    let at = max_variables * t in
-    b ≡ falsified k (box_of n (take (length lowers - at) (drop at lowers)) (take (length uppers - at) (drop at uppers))) →
-    b ≡ falsified k (box_in n lowers uppers t)
-unfolding box_in
-tested-at k n t lowers uppers e = rw (take_rest lowers (max_variables * t), take_rest uppers (max_variables * t)) at e
+tested-at : (k : Constraint) (n t : ℕ) (levels : List Level) {b : Bool} → b ≡ falsified k (box_of n (get_or levels t no_level).lower (get_or levels t no_level).upper) → b ≡ falsified k (box_at n levels t)
+unfolding box_at
+tested-at k n t levels e = e
 
 pub loop-level-init : goal.loop-level-init
 loop-level-init c = record { count = omega arith; falsifies = λ t a b. absurd (omega arith) }
@@ -67,22 +62,20 @@ overflow_add-tested c = record { fits = omega (arith, c.loop-level.invariant.cou
 
 pub is_falsified-requires-clause-box_fits : goal.is_falsified-requires-clause-box_fits
 is_falsified-requires-clause-box_fits c =
-    let a = c.args in
     let p = c.requires in
-    let at = max_variables * c.loop-level.level in
-    rw (take_rest a.lowers.now at, take_rest a.uppers.now at) (level-fits p.1.1.1.0 p.1.0.few p.1.1.0 c.loop-level.level (omega (arith, c.loop-level.invariant.count)))
+    level-fits p.1.1.1.0 p.1.0.few c.loop-level.level (omega (arith, c.loop-level.invariant.count))
 
 pub returns-then-not-is_falsified : goal.returns-then-not-is_falsified
 returns-then-not-is_falsified c =
     let p = c.requires in
     let e = to_z-of_z c.ranges.q in
-    rw (← e) (found c.loop-level.invariant p.1.1.1.0 (rw e p.1.1.1.1) (sym (tested-at _ _ c.loop-level.level c.args.lowers.now c.args.uppers.now c.is_falsified.ensures) ∙ c.if-not-is_falsified.true))
+    rw (← e) (found c.loop-level.invariant p.1.1.1.0 (rw e p.1.1.1.1) (sym (tested-at _ _ c.loop-level.level c.args.levels.now c.is_falsified.ensures) ∙ c.if-not-is_falsified.true))
 
 pub loop-level-preserved : goal.loop-level-preserved
 loop-level-preserved c =
-    passed-more c.loop-level.invariant (sym (tested-at _ _ c.loop-level.level c.args.lowers.now c.args.uppers.now c.is_falsified.ensures) ∙ c.if-not-is_falsified.false) (omega arith)
+    passed-more c.loop-level.invariant (sym (tested-at _ _ c.loop-level.level c.args.levels.now c.is_falsified.ensures) ∙ c.if-not-is_falsified.false) (omega arith)
 
 pub returns-else-not-is_falsified : goal.returns-else-not-is_falsified
 returns-else-not-is_falsified c =
     rw (← to_z-of_z c.ranges.q)
-    (passed-all c.loop-level.invariant (sym (tested-at _ _ c.loop-level.level c.args.lowers.now c.args.uppers.now c.is_falsified.ensures) ∙ c.if-not-is_falsified.false) (omega arith))
+    (passed-all c.loop-level.invariant (sym (tested-at _ _ c.loop-level.level c.args.levels.now c.is_falsified.ensures) ∙ c.if-not-is_falsified.false) (omega arith))
