@@ -7,15 +7,10 @@ use mathlib.Core.List.{List}
 use mathlib.Core.Logic.{⊎_elim}
 use mathlib.Core.Path.{◌≡◌, refl}
 use lib.Dec.{T}
-use lib.ListN.{get_or}
-use Rattle.model_problems.specs.Ranges.{max_variables}
 use Rattle.model_problems.specs.Constraint.{Constraint, falsified}
 use Rattle.lists.proofs.Bools.{true_of, clash}
-use Rattle.linear.specs.Ranges.{BoxFits}
-use Rattle.linear.proofs.Ranges.{box-fits}
 use Rattle.validity.proofs.Tests.{range-ordered, nested-in}
 use Rattle.validity.proofs.Constraints.{falsified-nested}
-use Rattle.state.specs.View.{no_level}
 use Rattle.state.specs.declared.Level.{Level}
 use Rattle.levels.specs.Level.{box_at, LevelsNested}
 
@@ -25,12 +20,6 @@ fails true b f e = clash (true_of b (f tt)) e
 fails false b f e = refl
 
 module _ {n depth : ℕ} {levels : List Level} (l : LevelsNested n depth levels) where
-  pub level-fits : n ≤ max_variables → (t : ℕ) → t ≤ depth → BoxFits n (get_or levels t no_level).lower (get_or levels t no_level).upper
-  unfolding box_at
-  level-fits few t h =
-      let w = l.whole t h in
-      box-fits n _ _ (true_of _ (l.range t h)) (omega (arith, w.lower)) (omega (arith, w.upper))
-
   pub clear-outward : (k : Constraint) (e : ℕ) → e ≤ depth → falsified k (box_at n levels e) ≡ false → (t : ℕ) → t ≤ e → falsified k (box_at n levels t) ≡ false
   clear-outward k zero h f t g = let z : t ≡ 0 = omega arith in rw z f
   clear-outward k (suc e) h f t g =

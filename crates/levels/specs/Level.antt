@@ -6,7 +6,6 @@ use Rattle.model_problems.specs.Problem.{bounds_in_range}
 use Rattle.model_walk.specs.Validity.{box_inside}
 use Rattle.layout.specs.Rows.{box_of}
 use Rattle.state.specs.View.{no_level}
-use Rattle.state.specs.Change.{Whole}
 use Rattle.state.specs.declared.Level.{Level}
 
 -- the box of the level at depth t
@@ -15,7 +14,6 @@ box_at n levels t = box_of n (get_or levels t no_level).lower (get_or levels t n
 
 -- the levels from 0 to depth, as validity asks: bounds in range, no L above its U, each level inside the one above it
 pub record LevelsNested (n depth : ℕ) (levels : List Level) : Type 0 where
-  pub whole : (t : ℕ) → t ≤ depth → Whole (get_or levels t no_level)
   pub range : (t : ℕ) → t ≤ depth → T (all_of bounds_in_range (box_at n levels t))
   pub inside : (t : ℕ) → t < depth → T (box_inside (box_at n levels (suc t)) (box_at n levels t))
 

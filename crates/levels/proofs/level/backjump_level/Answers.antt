@@ -16,7 +16,7 @@ use Rattle.layout.specs.Rows.{box_of}
 use Rattle.state.specs.View.{no_level}
 use Rattle.state.specs.declared.Level.{Level}
 use Rattle.levels.specs.Level.{box_at, LevelsNested, LeastFalsifying}
-use Rattle.levels.proofs.Nesting.{level-fits, clear-outward}
+use Rattle.levels.proofs.Nesting.{clear-outward}
 use Rattle.levels.proofs.level.backjump_level.Invariants.{Passed}
 use Rattle.levels.proofs.level.backjump_level.Goals as goal
 
@@ -60,22 +60,21 @@ loop-level-init c = record { count = omega arith; falsifies = λ t a b. absurd (
 pub overflow_add-tested : goal.overflow_add-tested
 overflow_add-tested c = record { fits = omega (arith, c.loop-level.invariant.count) }
 
-pub is_falsified-requires-clause-box_fits : goal.is_falsified-requires-clause-box_fits
-is_falsified-requires-clause-box_fits c =
-    let p = c.requires in
-    level-fits p.1.1.1.0 p.1.0.few c.loop-level.level (omega (arith, c.loop-level.invariant.count))
+pub falsifies-requires-clause-range : goal.falsifies-requires-clause-range
+unfolding box_at
+falsifies-requires-clause-range c = c.requires.1.1.1.0.range c.loop-level.level (omega (arith, c.loop-level.invariant.count))
 
-pub returns-then-not-is_falsified : goal.returns-then-not-is_falsified
-returns-then-not-is_falsified c =
+pub returns-then-not-falsifies : goal.returns-then-not-falsifies
+returns-then-not-falsifies c =
     let p = c.requires in
     let e = to_z-of_z c.ranges.q in
-    rw (← e) (found c.loop-level.invariant p.1.1.1.0 (rw e p.1.1.1.1) (sym (tested-at _ _ c.loop-level.level c.args.levels.now c.is_falsified.ensures) ∙ c.if-not-is_falsified.true))
+    rw (← e) (found c.loop-level.invariant p.1.1.1.0 (rw e p.1.1.1.1) (sym (tested-at _ _ c.loop-level.level c.args.levels.now c.falsifies.ensures) ∙ c.if-not-falsifies.true))
 
 pub loop-level-preserved : goal.loop-level-preserved
 loop-level-preserved c =
-    passed-more c.loop-level.invariant (sym (tested-at _ _ c.loop-level.level c.args.levels.now c.is_falsified.ensures) ∙ c.if-not-is_falsified.false) (omega arith)
+    passed-more c.loop-level.invariant (sym (tested-at _ _ c.loop-level.level c.args.levels.now c.falsifies.ensures) ∙ c.if-not-falsifies.false) (omega arith)
 
-pub returns-else-not-is_falsified : goal.returns-else-not-is_falsified
-returns-else-not-is_falsified c =
+pub returns-else-not-falsifies : goal.returns-else-not-falsifies
+returns-else-not-falsifies c =
     rw (← to_z-of_z c.ranges.q)
-    (passed-all c.loop-level.invariant (sym (tested-at _ _ c.loop-level.level c.args.levels.now c.is_falsified.ensures) ∙ c.if-not-is_falsified.false) (omega arith))
+    (passed-all c.loop-level.invariant (sym (tested-at _ _ c.loop-level.level c.args.levels.now c.falsifies.ensures) ∙ c.if-not-falsifies.false) (omega arith))
