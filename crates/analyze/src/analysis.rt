@@ -2,7 +2,7 @@
 // which its lowest value uses. The last F is the cut.
 ghost use Rattle.std.specs.Prelude.{true, false, List, ◌≡◌, ℕ, ◌+◌, ◌*◌, ◌<◌, length, unwrap_or};
 ghost use Rattle.model_problems.specs.Constraint.{falsified, in_range};
-ghost use Rattle.model_walk.specs.Search.{Level};
+ghost use Rattle.model_walk.specs.Search as model;
 ghost use Rattle.model_walk.specs.Conflict.{used_reason, resolve_at};
 ghost use Rattle.layout.specs.Rows.{row_length, constraint_at, box_of};
 ghost use Rattle.state.specs.View.{reason_of, kept_cuts};
@@ -14,7 +14,8 @@ use derivation::rounding::round_into_range;
 use layout::range::is_in_range;
 use layout::{ROW, copy_row};
 use linear::activity::is_falsified;
-use state::kept::position_of;
+use state::Level;
+use state::kept::{Kept, position_of};
 
 // The cut, and for each variable the number of the constraint taken in, 0 for none.
 #[derive(Clone, Copy)]
@@ -26,15 +27,9 @@ pub struct Analysis {
 // What analysis reads of a state: the kept constraints, and the bounds of the level in hand, each with its reason.
 #[derive(Clone, Copy)]
 pub struct Core<'a> {
-    pub rows: &'a [i64; 4224],
-    pub lower: &'a [i64; 32],
-    pub upper: &'a [i64; 32],
-    pub below: &'a [usize; 32],
-    pub above: &'a [usize; 32],
-    pub n: usize,
-    pub m: usize,
-    pub made: usize,
-    ghost in_range: { Analyzable n m made rows.now lower.now upper.now },
+    pub kept: Kept<'a>,
+    pub level: &'a Level,
+    ghost in_range: { Analyzable kept.n kept.m kept.made kept.rows.now level.now.lower level.now.upper },
 }
 
 // The reason of the bound that the lowest value uses at coefficient a.
@@ -49,29 +44,20 @@ impl Core<'_> {
     // lowest value fit.
     fn is_holding(&self, c: &[i64; 33]) -> bool
         requires { length c.now ≡ row_length }
-        ensures { result ≡ true → (in_range (constraint_at self.now.n c.now 0) ≡ true) × (falsified (constraint_at self.now.n c.now 0) (box_of self.now.n self.now.lower.now self.now.upper.now) ≡ false) }
+        ensures { result ≡ true → (in_range (constraint_at self.now.kept.n c.now 0) ≡ true) × (falsified (constraint_at self.now.kept.n c.now 0) (box_of self.now.kept.n self.now.level.now.lower self.now.level.now.upper) ≡ false) }
     {
-        let Core {
-            lower,
-            upper,
-            n,
-            ..
-        } = *self;
+        let n = self.kept.n;
+        let Level { lower, upper, .. } = self.level;
         is_in_range(c, 0, n) && !is_falsified(c, 0, lower, upper, n)
     }
 
     // F combined at variable i with the kept constraint in row j, if the signs are opposite and the outcome may be taken.
     fn resolvent(&self, f: &[i64; 33], i: usize, j: usize) -> Option<[i64; 33]>
-        requires { Resolvable self.now.n (self.now.m + kept_cuts self.now.made) f.now i j }
-        ensures { ResolventOf self.now.n self.now.rows.now self.now.lower.now self.now.upper.now f.now i j result }
+        requires { Resolvable self.now.kept.n (self.now.kept.m + kept_cuts self.now.kept.made) f.now i j }
+        ensures { ResolventOf self.now.kept.n self.now.kept.rows.now self.now.level.now.lower self.now.level.now.upper f.now i j result }
     {
-        let Core {
-            rows,
-            lower,
-            upper,
-            n,
-            ..
-        } = *self;
+        let Kept { rows, n, .. } = self.kept;
+        let Level { lower, upper, .. } = self.level;
         let start = ROW * j;
         if !is_opposite(f[i + 1], rows[start + 1 + i]) {
             return None;
@@ -91,21 +77,21 @@ impl Core<'_> {
     // F combined in place at variable i with the reason of the bound that it uses there, if that is a kept constraint and its outcome may be taken. Returns
     // the constraint's number.
     fn resolve_at(&self, f: &mut [i64; 33], i: usize) -> Option<usize>
-        requires { (i < self.now.n) × ((in_range (constraint_at self.now.n f.old 0) ≡ true) × (length f.old ≡ row_length)) }
-        ensures { (numbers : List ℕ) (decided : ℕ) (outer : List Level) → ResolvedAs self.now.n (resolve_at (core_at self.now.n self.now.m self.now.made self.now.rows.now self.now.lower.now self.now.upper.now self.now.below.now self.now.above.now numbers decided outer) i (constraint_at self.now.n f.old 0)) f.new (unwrap_or result 0) }
+        requires { (i < self.now.kept.n) × ((in_range (constraint_at self.now.kept.n f.old 0) ≡ true) × (length f.old ≡ row_length)) }
+        ensures { (numbers : List ℕ) (decided : ℕ) (outer : List model.Level) → ResolvedAs self.now.kept.n (resolve_at (core_at self.now.kept.n self.now.kept.m self.now.kept.made self.now.kept.rows.now self.now.level.now.lower self.now.level.now.upper self.now.level.now.below self.now.level.now.above numbers decided outer) i (constraint_at self.now.kept.n f.old 0)) f.new (unwrap_or result 0) }
     {
-        let reason = used_reason(f[i + 1], self.below[i], self.above[i]);
-        let j = position_of(self.m, self.made, reason)?;
+        let reason = used_reason(f[i + 1], self.level.below[i], self.level.above[i]);
+        let j = position_of(self.kept.m, self.kept.made, reason)?;
         *f = self.resolvent(f, i, j)?;
         Some(reason)
     }
 
     // The 'cut' of the dead end at the kept constraint in row j, and what was taken in.
     pub fn analyze(&self, j: usize) -> Analysis
-        requires { j < self.now.m + kept_cuts self.now.made }
-        ensures { Analyzed self.now.n self.now.m self.now.made self.now.rows.now self.now.lower.now self.now.upper.now self.now.below.now self.now.above.now j result }
+        requires { j < self.now.kept.m + kept_cuts self.now.kept.made }
+        ensures { Analyzed self.now.kept.n self.now.kept.m self.now.kept.made self.now.kept.rows.now self.now.level.now.lower self.now.level.now.upper self.now.level.now.below self.now.level.now.above j result }
     {
-        let Core { rows, n, .. } = *self;
+        let Kept { rows, n, .. } = self.kept;
         let mut f = copy_row(rows, ROW * j, n);
         let mut used = [0; 32];
         for i in (0..n).rev() {

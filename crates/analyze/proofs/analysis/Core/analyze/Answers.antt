@@ -17,14 +17,14 @@ unfolding row_at
 loop-i-init c =
     let s = c.args.self.now in
     let a = c.copy_row-f.ensures in
-    analysis-start s.n s.m s.made s.rows.now s.lower.now s.upper.now s.below.now s.above.now _ c.copy_row-f.result a.same (kept-range _ _ s.made _ _ _ _ s.in_range c.requires) a.size
+    analysis-start s.kept.n s.kept.m s.kept.made s.kept.rows.now s.level.now.lower s.level.now.upper s.level.now.below s.level.now.above _ c.copy_row-f.result a.same (kept-range _ _ s.kept.made _ _ _ _ s.in_range c.requires) a.size
 
 pub loop-i-preserved : goal.loop-i-preserved
 loop-i-preserved c =
     let l = c.loop-i in
     let s = c.args.self.now in
     rw c.unwrap_or.ensures
-    (analysis-step s.n s.m s.made s.rows.now s.lower.now s.upper.now s.below.now s.above.now _ l.i l.f _ l.used _
+    (analysis-step s.kept.n s.kept.m s.kept.made s.kept.rows.now s.level.now.lower s.level.now.upper s.level.now.below s.level.now.above _ l.i l.f _ l.used _
     s.in_range.variables c.loop-i-test.true (λ numbers decided outer. (c.resolve_at.ensures numbers decided outer).same) (c.resolve_at.ensures [] 0 []).range (c.resolve_at.ensures [] 0 []).size l.invariant)
 
 pub returns : goal.returns
@@ -32,4 +32,4 @@ returns c =
     let l = c.loop-i in
     let s = c.args.self.now in
     let e : l.i ≡ 0 = omega arith in
-    analysis-end s.n s.m s.made s.rows.now s.lower.now s.upper.now s.below.now s.above.now _ c.args.j l.f c.copy_row-cut.result l.used refl (rw e at l.invariant) c.copy_row-cut.ensures
+    analysis-end s.kept.n s.kept.m s.kept.made s.kept.rows.now s.level.now.lower s.level.now.upper s.level.now.below s.level.now.above _ c.args.j l.f c.copy_row-cut.result l.used refl (rw e at l.invariant) c.copy_row-cut.ensures

@@ -6,4 +6,4 @@ use Rattle.analyze.proofs.analysis.Core.analyze.Given as goal
 abbrev pub invariant-loop-i : goal.invariant-loop-i
 invariant-loop-i l =
     let s = l.self in
-    Analyzing s.n s.m s.made s.rows.now s.lower.now s.upper.now s.below.now s.above.now (row_at s.n s.rows.now l.j) l.i l.f l.used
+    Analyzing s.kept.n s.kept.m s.kept.made s.kept.rows.now s.level.now.lower s.level.now.upper s.level.now.below s.level.now.above (row_at s.kept.n s.kept.rows.now l.j) l.i l.f l.used

@@ -30,7 +30,7 @@ returns-in_err-j c =
     let s = c.args.self.now in
     let a = c.args in
     let q = c.requires in
-    let e = reason-is s.n a.i a.f.now s.below.now s.above.now _ q.0 (omega arith) c.used_reason-reason.ensures in
+    let e = reason-is s.kept.n a.i a.f.now s.level.now.below s.level.now.above _ q.0 (omega arith) c.used_reason-reason.ensures in
     rw c.from_residual.ensures
     (λ numbers decided outer.
     record {
@@ -50,7 +50,7 @@ returns-in_err-f c =
     let s = c.args.self.now in
     let a = c.args in
     let q = c.requires in
-    let e = reason-is s.n a.i a.f.now s.below.now s.above.now _ q.0 (omega arith) c.used_reason-reason.ensures in
+    let e = reason-is s.kept.n a.i a.f.now s.level.now.below s.level.now.above _ q.0 (omega arith) c.used_reason-reason.ensures in
     rw c.from_residual-in_err-f.ensures
     (λ numbers decided outer.
     record {
@@ -64,7 +64,7 @@ returns c =
     let s = c.args.self.now in
     let a = c.args in
     let q = c.requires in
-    let e = reason-is s.n a.i a.f.now s.below.now s.above.now _ q.0 (omega arith) c.used_reason-reason.ensures in
+    let e = reason-is s.kept.n a.i a.f.now s.level.now.below s.level.now.above _ q.0 (omega arith) c.used_reason-reason.ensures in
     λ numbers decided outer.
     let r = c.in_ok-f.ensures c.used_reason-reason.result in
     record {

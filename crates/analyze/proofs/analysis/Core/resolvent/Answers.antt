@@ -31,7 +31,7 @@ signs n i j f rows r l p q e =
 pub returns-then-not-is_opposite : goal.returns-then-not-is_opposite
 returns-then-not-is_opposite c =
     let a = c.args in
-    let s = signs a.self.now.n a.i a.j a.f.now a.self.now.rows.now _ c.requires.variable (omega arith) (omega arith) c.is_opposite.ensures in
+    let s = signs a.self.now.kept.n a.i a.j a.f.now a.self.now.kept.rows.now _ c.requires.variable (omega arith) (omega arith) c.is_opposite.ensures in
     λ number. with-alike _ _ _ _ _ (said-no s c.if-not-is_opposite.true)
 
 pub combine_at-requires : goal.combine_at-requires
@@ -40,7 +40,7 @@ combine_at-requires c =
     let a = c.args in
     let q = c.requires in
     let p = a.self.now.in_range in
-    let s = signs a.self.now.n a.i a.j a.f.now a.self.now.rows.now _ q.variable (omega arith) (omega arith) c.is_opposite.ensures in (
+    let s = signs a.self.now.kept.n a.i a.j a.f.now a.self.now.kept.rows.now _ q.variable (omega arith) (omega arith) c.is_opposite.ensures in (
       record {
         variable = q.variable;
         combinable = record { variables = p.variables; first-row = omega (arith, q.size); second-row = omega (arith, q.row, p.rows-size); first_range = q.range; second_range = kept-range _ _ _ _ _ _ a.j p q.position };
@@ -53,7 +53,7 @@ pub returns-then-is_holding : goal.returns-then-is_holding
 unfolding row_at
 returns-then-is_holding c =
     let a = c.args in
-    let s = signs a.self.now.n a.i a.j a.f.now a.self.now.rows.now _ c.requires.variable (omega arith) (omega arith) c.is_opposite.ensures in
+    let s = signs a.self.now.kept.n a.i a.j a.f.now a.self.now.kept.rows.now _ c.requires.variable (omega arith) (omega arith) c.is_opposite.ensures in
     let h = c.is_holding.ensures c.if-is_holding.true in
     λ number. with-combined _ _ _ _ _ _ (said-yes s c.if-not-is_opposite.false) c.combine_at.ensures.outcome (row_plain _ _ _) h.0 h.1
 
@@ -61,7 +61,7 @@ pub returns-then-not-is_in_range : goal.returns-then-not-is_in_range
 unfolding row_at
 returns-then-not-is_in_range c =
     let a = c.args in
-    let s = signs a.self.now.n a.i a.j a.f.now a.self.now.rows.now _ c.requires.variable (omega arith) (omega arith) c.is_opposite.ensures in
+    let s = signs a.self.now.kept.n a.i a.j a.f.now a.self.now.kept.rows.now _ c.requires.variable (omega arith) (omega arith) c.is_opposite.ensures in
     λ number. with-large _ _ _ _ _ _ (said-yes s c.if-not-is_opposite.false) c.combine_at.ensures.outcome c.round_into_range.ensures.same (said-no c.is_in_range.ensures c.if-not-is_in_range.true)
 
 pub is_falsified-requires-clause-row_fits : goal.is_falsified-requires-clause-row_fits
@@ -76,7 +76,7 @@ pub returns : goal.returns
 unfolding row_at
 returns c =
     let a = c.args in
-    let s = signs a.self.now.n a.i a.j a.f.now a.self.now.rows.now _ c.requires.variable (omega arith) (omega arith) c.is_opposite.ensures in
+    let s = signs a.self.now.kept.n a.i a.j a.f.now a.self.now.kept.rows.now _ c.requires.variable (omega arith) (omega arith) c.is_opposite.ensures in
     rw c.then_some.ensures
     (taken-where-false _ _ _ _ _ _ _ _ _ _ (said-yes s c.if-not-is_opposite.false) c.combine_at.ensures.outcome c.round_into_range.ensures.same
     (said-yes c.is_in_range.ensures c.if-not-is_in_range.false) c.round_into_range.ensures.size c.is_falsified.ensures)
