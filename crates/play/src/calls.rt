@@ -5,8 +5,8 @@ use shown::Stepped;
 use state::Search;
 
 // The number of a refusal, 0 for none.
-pub(crate) fn number<T>(result: &Result<T, Refusal>) -> usize {
-    match result {
+pub(crate) fn number<T>(outcome: &Result<T, Refusal>) -> usize {
+    match outcome {
         Ok(_) => 0,
         Err(refusal) => refusal.number(),
     }
