@@ -65,7 +65,7 @@ pub(crate) fn show_answer(rt: &impl Print, ran: &Ran) -> io::Result<()> {
 
 // Prints whether a call left the state as it was, what is not read with it.
 fn show_kept(rt: &impl Print, before: &Search, after: &Search) -> io::Result<()> {
-    if state_words::is_same(before, after) {
+    if before == after {
         print!(rt; " same")
     } else {
         print!(rt; " changed")

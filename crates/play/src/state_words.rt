@@ -151,25 +151,3 @@ pub(crate) fn litter(s: &mut Search, word: usize) {
         }
     }
 }
-
-// Stays: equality by hand, since the crate `state` derives none.
-fn is_same_level(a: &Level, b: &Level) -> bool {
-    a.lower == b.lower
-        && a.upper == b.upper
-        && a.below == b.below
-        && a.above == b.above
-        && a.decided == b.decided
-}
-
-// Whether two states hold the same, what is not read with it.
-pub(crate) fn is_same(a: &Search, b: &Search) -> bool {
-    sizes(a) == sizes(b)
-        && a.thresholds == b.thresholds
-        && a.rows == b.rows
-        && a.divisors == b.divisors
-        && a.numbers == b.numbers
-        && a.levels
-            .iter()
-            .zip(b.levels.iter())
-            .all(|(a, b)| is_same_level(a, b))
-}
