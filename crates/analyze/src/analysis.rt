@@ -18,6 +18,7 @@ use state::Level;
 use state::kept::{Kept, position_of};
 
 // The cut, and for each variable the number of the constraint taken in, 0 for none.
+// Stays: 0 for none, as the journal record has it (document 01's journal block).
 #[derive(Clone, Copy)]
 pub struct Analysis {
     pub cut: [i64; 33],

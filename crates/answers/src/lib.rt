@@ -78,7 +78,7 @@ fn at_rest(state: Search, ending: Ending) -> Advanced
 }
 
 // At most `limit` turns from a valid state, to a verdict, with strikes while there is room; a marked one gives its verdict again.
-// Stays: its parameters one by one, as `engine::advance` takes them.
+// Stays: `keep` beside the buffer, here and in `engine`: an Option of a lent buffer would have to be lent anew at each call of the loop, no plainer.
 pub fn proceed(
     s: Search,
     buffer: &mut [u8],

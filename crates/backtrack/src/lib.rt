@@ -97,6 +97,7 @@ impl Saved {
 
 // A decision at variable i: its upper bound falls to its lower one. What is tracked of the constraints at the level that it leaves is saved. Returns the
 // position of the first constraint that the new level falsifies, or how many are kept.
+// Stays: here and in `backjump` the number of kept constraints stands for none: the result is the limit of the scan that comes next, which an Option would have to become first.
 pub fn decide(
     kept: &Kept,
     i: usize,

@@ -71,6 +71,7 @@ impl Divided {
     }
 
     // The position of the first constraint of a mask that the level falsifies, if it stands before `limit`; else `limit`.
+    // Stays: `limit` stands for none: what comes in is the first falsified inequality's position, and goes out where none stands before it.
     pub fn first_falsified(
         &self,
         due: usize,

@@ -7,6 +7,7 @@ ghost use Rattle.block.specs.Placed.{Placed, cleared};
 use crate::{CHECK, check};
 
 // Puts bytes at a place.
+// Stays: a place beside the block, here and below: the format says where each field stands (`fields::offsets`, `block::journal`).
 fn put(s: &mut [u8], at: usize, bytes: &[u8])
     requires { at + length bytes.now ≤ length s.old }
     ensures { Placed s.old at (at + length bytes.now) bytes.now s.new }

@@ -16,7 +16,7 @@ use state::Level;
 use state::kept::{Store, divisor_of, number_of};
 
 // Whether the budget has no conflict left.
-// Stays: a function for one `==`, which `engine::advance` calls and must-fail/spent_early.edit turns.
+// Stays: a function for one `==`: must-fail/spent_early.edit turns it.
 pub fn is_spent(conflicts: usize, budget: usize) -> bool
     ensures { (result ≡ true → conflicts ≡ budget) × (result ≡ false → ¬ (conflicts ≡ budget)) }
 {

@@ -101,7 +101,7 @@ pub fn write_journal(rt: &impl Print, stderr: &impl Print, file: &[u8]) {
         return;
     };
     let mut blocks = [0u8; BLOCKS_LENGTH];
-    // Stays: the same loop as in print_search. Shared, it would take a closure that writes through its captures and says whether to go on: no plainer.
+    // Stays: the loop of print_search once more: shared, it would take a closure that writes through its captures and says whether to go on, no plainer.
     for _ in 0..MAX_TURNS {
         let Ok(traced) = search::trace(s, &mut blocks) else {
             return;

@@ -50,6 +50,7 @@ fn print_listing(rt: &(impl Clock + Print), stderr: &(impl IsTerminal + Print), 
         return;
     };
     let mut struck: usize = 0;
+    // Stays: a while: a round strikes out as many solutions as the buffer holds, and one more
     while struck < MAX_STRUCK {
         // `list` strikes out no more than the buffer holds
         let count = listed.struck.min(NUMBERS);

@@ -36,7 +36,7 @@ fn combine(f: &[i64], j: &[i64], s: u64, t: u64, n: usize, r: &mut [i64; ROW])
 }
 
 // 'Combining' at variable i, before it is rounded, into r. What lies past the first n coefficients stays.
-// Stays: an array with the place of a row in it, as analyze's `analysis` passes the rows, and Resolvable speaks of them.
+// Stays: an array with the place of a row in it: `Resolvable`, which its requires cites, speaks of the array and the place.
 pub fn combine_at(
     f: &[i64],
     at: usize,

@@ -13,6 +13,7 @@ use turns::{Advanced, Ending};
 
 // At most `limit` turns, to a verdict, the first `room` solutions struck out on the way. The block of each counted conflict goes to the buffer, if blocks
 // are kept. The state changes in place.
+// Stays: `keep` beside the buffer, here and in `walk`: an Option of a lent buffer would have to be lent anew at each call of the loop, no plainer.
 pub fn advance(
     mut s: Search,
     buffer: &mut [u8],

@@ -39,6 +39,7 @@ pub(crate) struct Walk {
     pub struck: usize,
     pub store: Store,
     pub track: Track,
+    // Stays: the number of kept constraints stands for none: the result is the limit of the scan that comes next, which an Option would have to become first.
     pub told: usize,
     pub saved: Saved,
     pub masks: Masks,

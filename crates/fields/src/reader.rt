@@ -61,7 +61,7 @@ fn bound_in(file: &[u8], side: Side, i: usize) -> i64
 }
 
 // The lower or the upper bounds of n variables; 0 past the last one.
-// Stays: a file beside its n and m, here and below, as reading's `reader` passes them.
+// Stays: a file beside its n and m, here and below: a struct of the three would say again what the file's own head says, no plainer.
 pub fn bounds_in(file: &[u8], n: usize, side: Side) -> [i64; MAX_VARIABLES]
     requires { (block_length ≤ length file.now) × (n ≤ max_variables) }
     ensures { result ≡ filled (bound_in file.now (side_offset side)) n room }

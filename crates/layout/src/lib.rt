@@ -38,6 +38,7 @@ pub const MAX_DIVISOR: u32 = 1 << 20;
 pub const ROW: usize = 1 + MAX_VARIABLES;
 
 // Whether two constraints of n variables are equal: in the constant and in every coefficient. It asks no range of the numbers.
+// Stays: an array with the place of a row in it: the contract is about `constraint_at` of both.
 pub fn is_equal(a: &[i64], at: usize, b: &[i64], bt: usize, n: usize) -> bool
     requires { (at + n < length a.now) × (bt + n < length b.now) }
     ensures { result ≡ equal (constraint_at n a.now at) (constraint_at n b.now bt) }

@@ -36,6 +36,7 @@ pub fn bounds_in_range(lower: i64, upper: i64) -> bool
 }
 
 // Whether the bounds of n variables are in range.
+// Stays: two slices side by side: they are the bounds of a level and of a problem, which are two structs.
 pub fn are_bounds_in_range(lower: &[i64], upper: &[i64], n: usize) -> bool
     requires { (n ≤ length lower.now) × (n ≤ length upper.now) }
     ensures { result ≡ all_of bounds_in_range (box_of n lower.now upper.now) }

@@ -22,6 +22,7 @@ pub fn term(a: i64, lower: i64, upper: i64) -> i64
 }
 
 // The 'lowest value' of the constraint whose row starts at `start`: its minimum activity.
+// Stays: two slices side by side, here and below: they are the bounds of a level and of a problem, which are two structs.
 pub fn min_activity(rows: &[i64], start: usize, lower: &[i64], upper: &[i64], n: usize) -> i64
     requires row_fits { RowFits n rows.now start }
     requires box_fits { BoxFits n lower.now upper.now }

@@ -23,7 +23,7 @@ fn store(mut problem: Problem, j: usize, row: [i64; ROW], divisor: i64) -> Probl
 }
 
 // One constraint more, at the end.
-// Stays: a row beside its divisor, here and in `replace`, as `play` passes them.
+// Stays: a row beside its divisor, here and in `replace`: a struct of the two would stand in these two signatures alone, no plainer.
 pub fn append(problem: Problem, row: [i64; ROW], divisor: i64) -> Problem
     requires { (problem.n ≤ max_variables) × (problem.m < max_constraints) }
     ensures { problem_of result ≡ appended (problem_of problem) (divided_at problem.n row 0 divisor) }

@@ -11,7 +11,7 @@ use threshold::range::all_fit;
 
 // A problem, document 01's 'plan'. Its constraints lie in 64 rows of 33 numbers: the constant, then a coefficient for each of 32 variables. What stands
 // past the first n variables and m constraints is ignored; a problem that was read has zeros there.
-// Stays: flat arrays with n and m beside them, passed by value (document 01's forms by place, no heap).
+// Stays: flat arrays with n and m beside them, by value (document 01's forms by place, no heap); 0 for no divisor and for no threshold, as in a file.
 #[derive(Clone, Copy)]
 pub struct Problem {
     // 'n', the variables

@@ -28,6 +28,7 @@ pub fn set(
 }
 
 // Sets a bound of variable i, and its reason. Returns the position of the first constraint that is falsified now, or how many are kept.
+// Stays: the number of kept constraints stands for none: the result is the limit of the scan that comes next, which an Option would have to become first.
 pub(crate) fn set_bound(
     kept: &Kept,
     i: usize,

@@ -75,6 +75,7 @@ fn past_gap(t: i64, bound: Bound) -> Bound
 // Move 2, repeated on the level in hand until the next move is a conflict, a decision or the end. `told` is the position of the first constraint that
 // the level falsifies. What is kept of each inequality follows the level; at a conflict it is stale. A divisor constraint is tested where a bound of one
 // of its variables is set. Each bound that is set is counted, on top of the `earlier` ones.
+// Stays: eight parameters: what is read and what changes is lent one by one, for the engine changes the one while it lends the other.
 pub fn propagate(
     kept: &Kept,
     divided: &Divided,

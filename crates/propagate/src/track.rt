@@ -18,6 +18,7 @@ use state::Level;
 use state::kept::Kept;
 
 // More than any variable can move a constraint.
+// Stays: a number for 'not known': it is larger than any slack, so that the scan's one comparison serves it too.
 const UNKNOWN: i64 = 1 << 55;
 
 // What move 2 finds: a better bound of a variable, and the position of the constraint that implies it.

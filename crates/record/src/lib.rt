@@ -92,7 +92,7 @@ impl Record {
     }
 
     // The record as block `done` of the buffer, where it is to be kept.
-    // Stays: `keep` beside the buffer, as `conflict::conflict` is handed them.
+    // Stays: `keep` beside the buffer: an Option of a lent buffer would have to be lent anew at each call of the loop, no plainer.
     pub fn emit(&self, buffer: &mut [u8], keep: bool, done: usize)
         requires { keep ≡ true → block_length * (done + 1) ≤ length buffer.old }
         ensures { Emitted keep done (record_bytes (record_of max_variables self.now.count self.now.falsified self.now.number self.now.depth self.now.back self.now.cut self.now.used)) buffer.old buffer.new }

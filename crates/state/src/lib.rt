@@ -35,6 +35,7 @@ pub enum Status {
 // for an inequality; the kept cuts follow, oldest first, with their numbers in `numbers`. `propagations` counts the bounds that constraints set (N5), and
 // `thresholds` has a variable's least value above 0, 0 for none (N6). What
 // stands past n, m, the kept cuts and the depth is not read.
+// Stays: 0 for no divisor and for no threshold, as in a file and in the model; flat arrays with sizes beside them, by value (document 01's forms by place).
 #[derive(Clone, Copy, Debug, PartialEq, Eq)]
 pub struct Search {
     pub n: usize,

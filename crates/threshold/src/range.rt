@@ -16,6 +16,7 @@ fn fits(t: i64, lower: i64, upper: i64) -> bool
 }
 
 // Whether a problem may have the thresholds of n variables beside their limits.
+// Stays: slices side by side, here and below: they are the bounds of a level and of a problem, which are two structs.
 pub fn all_fit(thresholds: &[i64], lower: &[i64], upper: &[i64], n: usize) -> bool
     requires { (n ≤ length thresholds.now) × ((n ≤ length lower.now) × (n ≤ length upper.now)) }
     ensures { result ≡ all_pairs threshold_fits (thresholds_of n thresholds.now) (box_of n lower.now upper.now) }
