@@ -38,6 +38,7 @@ pub struct Branch<'a, 'b> {
 // the cut, and the level sought is its own. Returns the backjump level.
 // Out of line: inlined, its arrays move those that the scans read, which then take 1.05 times as long on 07-blueprint-hard.
 #[inline(never)]
+// Stays: eight parameters: what is read and what changes is lent one by one, for the engine changes the one while it lends the other.
 pub fn conflict(
     branch: &Branch,
     j: usize,

@@ -18,6 +18,7 @@ fn is_reason_valid(k: usize, last: usize) -> bool
     matches!(k, DOMAIN | DECISION | FLIPPED) || k <= last
 }
 
+// Stays: two slices side by side: `reasons_in`, which its contract cites, reads the two.
 fn are_reasons_valid(below: &[usize], above: &[usize], n: usize, last: usize) -> bool
     requires { (n ≤ length below.now) × (n ≤ length above.now) }
     ensures { result ≡ all_of (reasons_valid last) (tab (reasons_in below.now above.now) 0 n) }

@@ -30,7 +30,9 @@ pub shift-requires : goal.shift-requires
 shift-requires c =
     let p = c.requires.0 in
     rw (rise (search rules) c.flip-rise.ensures.0)
-    (shiftable _ _ _ _ _ _ _ _ _ _ p.fits c.measure.ensures p.variable (flipped-rise _ _ _ _ _ _ _ p.fits p.next p.variable p.lowers) (record { within = omega arith }))
+    (record {
+      shiftable = shiftable _ _ _ _ _ _ _ _ _ _ p.fits c.measure.ensures p.variable (flipped-rise _ _ _ _ _ _ _ p.fits p.next p.variable p.lowers) (record { within = omega arith });
+    })
 
 pub returns-clause-flipped : goal.returns-clause-flipped
 returns-clause-flipped c =

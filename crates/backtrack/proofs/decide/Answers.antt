@@ -44,7 +44,9 @@ pub shift-requires : goal.shift-requires
 shift-requires c =
     let p = c.requires in
     rw (falls (goal.at.shift-requires c).After-set-fall)
-    (shiftable _ _ _ _ _ _ _ _ _ _ p.fits p.tracked p.variable (record { within = omega arith }) (decided-settable _ _ _ _ _ c.args.level.now.above _ p.fits p.variable p.uppers).change)
+    (record {
+      shiftable = shiftable _ _ _ _ _ _ _ _ _ _ p.fits p.tracked p.variable (record { within = omega arith }) (decided-settable _ _ _ _ _ c.args.level.now.above _ p.fits p.variable p.uppers).change;
+    })
 
 pub returns-clause-decided : goal.returns-clause-decided
 unfolding number_in
