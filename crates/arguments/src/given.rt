@@ -1,5 +1,5 @@
 // The arguments that a program was given, 1 the first. One that is wrong is told, and none.
-ghost use Rattle.std.specs.Prelude.{IfSome};
+ghost use Rattle.std.specs.Prelude.{◌≤◌, length, IfSome};
 ghost use Rattle.filling.specs.Counts.{IsPrefixLen};
 
 use crate::files::read_file;
@@ -21,7 +21,9 @@ pub fn count(rt: &impl Env) -> usize {
 }
 
 // An argument, put at the start of a buffer; of one that does not fit, the first bytes.
-fn first_bytes<'a>(rt: &impl Env, i: usize, buffer: &'a mut [u8]) -> &'a [u8] {
+fn first_bytes<'a>(rt: &impl Env, i: usize, buffer: &'a mut [u8]) -> &'a [u8]
+    ensures { length result.now ≤ length buffer.old }
+{
     let length = match rt.arg(i, buffer) {
         Ok(length) => length,
         Err(FillError::TooLong) => buffer.len(),
@@ -31,7 +33,9 @@ fn first_bytes<'a>(rt: &impl Env, i: usize, buffer: &'a mut [u8]) -> &'a [u8] {
 }
 
 // The same of a word that has to be whole: none that does not fit.
-pub(crate) fn whole<'a>(rt: &impl Env, i: usize, buffer: &'a mut [u8]) -> Option<&'a [u8]> {
+pub(crate) fn whole<'a>(rt: &impl Env, i: usize, buffer: &'a mut [u8]) -> Option<&'a [u8]>
+    ensures { IfSome result (λ word. length word.now ≤ length buffer.old) }
+{
     match rt.arg(i, buffer) {
         Ok(length) => Some(&buffer[..length]),
         Err(_) => None,

@@ -11,9 +11,11 @@ use Rattle.model_problems.specs.Problem.{bounds_in_range}
 use Rattle.model_walk.specs.Search as model
 use Rattle.model_walk.specs.Validity.{reasons_valid, level_valid, levels_valid, outermost}
 use Rattle.lists.proofs.Bools.{and-true, lt-or-le}
-use Rattle.state.specs.View.{level_at, levels_from, inputs_of, core_of, core_over}
+use Rattle.linear.proofs.Ranges.{box-fits}
+use Rattle.state.specs.View.{level_of, level_at, levels_from, inputs_of, core_of, core_over}
 use Rattle.state.specs.declared.Level.{Level}
 use Rattle.state.specs.declared.Search.{Search}
+use Rattle.conditions.specs.Passed.{LevelFits}
 
 outermost-is : (n : ℕ) (levels : List Level) (d : ℕ) → outermost (level_at n levels d) (levels_from n levels d) ≡ level_at n levels 0
 unfolding outermost levels_from
@@ -38,3 +40,7 @@ module _ (s : Search) where
       let last = length (inputs_of s) + s.made in
       let here = passed-at (level_valid last) s.n s.levels s.depth d l a in
       (and-true (all_of bounds_in_range (level_at s.n s.levels d).box) (all_of (reasons_valid last) (level_at s.n s.levels d).reasons) here).0
+
+  pub level-fits : (d : ℕ) → d ≤ s.depth → levels_valid (core_of s) ≡ true → LevelFits s d
+  unfolding level_at level_of
+  level-fits d l a = box-fits s.n _ _ (box-passed d l a)

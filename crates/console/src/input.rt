@@ -8,7 +8,7 @@ use filling::read_full;
 use std::io::{Input, Print};
 
 // Reads standard input to its end, or until the buffer is full, and returns how many bytes that gave. A failure is told, and gives none.
-fn read_input(rt: &impl Input, stderr: &impl Print, file: &mut [u8]) -> Option<usize>
+pub fn read_input(rt: &impl Input, stderr: &impl Print, file: &mut [u8]) -> Option<usize>
     ensures { IfSome result (λ n. IsPrefixLen n file.new) }
 {
     let mut reader = rt.reader();

@@ -15,11 +15,11 @@ mod listing;
 mod output;
 mod told;
 
-pub use input::on_input;
+pub use input::{on_input, read_input};
 pub use listing::print_solutions;
 
 // One byte more than the longest input. Of a longer one this many bytes are read, which is no whole number of blocks: so it counts as truncated.
-const INPUT_LENGTH: usize = 65537;
+pub const INPUT_LENGTH: usize = 65537;
 
 // More turns than any budget has conflicts: a turn that does not end the search counts one.
 pub const MAX_TURNS: usize = 2_000_000_000;
@@ -39,6 +39,18 @@ fn print_refused(rt: &impl Print, stderr: &impl Print, refusal: Refusal) {
     let mut output = Output::new(rt);
     output.put(Line::Refused(refusal.number()));
     output.finish(stderr);
+}
+
+// Prints the last three lines alone: a verdict, and the counts of conflicts and of bounds set.
+pub fn print_ending(
+    rt: &impl Print,
+    stderr: &impl Print,
+    verdict: Verdict,
+    n: usize,
+    count: usize,
+    set: usize,
+) {
+    Output::new(rt).end(stderr, verdict, n, count, set);
 }
 
 // Runs an opened search to its verdict and prints it, with a line for each conflict on the way. About once a second it tells, where somebody looks, how
@@ -70,10 +82,7 @@ fn print_search(rt: &(impl Clock + Print), stderr: &(impl IsTerminal + Print), o
             output.put(Line::end(block));
         }
         if !goes_on(ran.verdict) {
-            output.put_verdict(ran.verdict, n);
-            output.put(Line::Ends(ran.count));
-            output.put(Line::Set(ran.propagations));
-            output.finish(stderr);
+            output.end(stderr, ran.verdict, n, ran.count, ran.propagations);
             return;
         }
         if output.has_failed() {

@@ -33,6 +33,7 @@ fn put_solutions(output: &mut Output<impl Print>, solutions: &[i64], count: usiz
 
 // Prints the solutions of an opened search: lists those that the buffer holds, strikes out the one after them and goes on, until there is no further one, no
 // decision led to the last, or the budget is used up. Between the calls it tells, about once a second and where somebody looks, how far it is.
+#[inline(never)]
 fn print_listing(rt: &(impl Clock + Print), stderr: &(impl IsTerminal + Print), opened: Search) {
     let n = opened.n;
     let budget = opened.budget;

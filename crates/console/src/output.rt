@@ -65,6 +65,21 @@ impl<'a, P: Print> Output<'a, P> {
         }
     }
 
+    // Puts the last three lines of a search, and writes out the rest.
+    pub(crate) fn end(
+        mut self,
+        stderr: &impl Print,
+        verdict: Verdict,
+        n: usize,
+        count: usize,
+        set: usize,
+    ) {
+        self.put_verdict(verdict, n);
+        self.put(Line::Ends(count));
+        self.put(Line::Set(set));
+        self.finish(stderr);
+    }
+
     // Writes out the rest, and tells whether anything could not be written.
     pub(crate) fn finish(mut self, stderr: &impl Print) {
         self.write();

@@ -5,9 +5,11 @@ use mathlib.Core.Bool.{Bool, true, false}
 use mathlib.Core.List.{List}
 use mathlib.Core.Path.{◌≡◌, sym, ap, subst, ◌∙◌}
 use lib.IntN.{ℤ}
+use lib.ListN.{length-set}
 use Rattle.model_walk.specs.Search as model
 use Rattle.model_walk.specs.Move.{finish}
 use Rattle.state.specs.View.{status_of, view}
+use Rattle.state.proofs.Cores.{levels-above}
 use Rattle.state.specs.declared.Level.{Level}
 use Rattle.state.specs.declared.Search.{Search}
 use Rattle.state.specs.declared.Status.TheVariants.{Solved}
@@ -22,7 +24,7 @@ use Rattle.turns.proofs.Rounds.{depth_small}
 use Rattle.turns.proofs.Striking.{Struck, started, go_on_lem, last-final, not_last, none_kept}
 use Rattle.turns.specs.declared.Ending.TheVariants.{Solution}
 use Rattle.engine.specs.Given.{GivenOf}
-use Rattle.engine.specs.Walk.{Fresh, Begins, On, RunningAt, Stopped, Spare, CountedOn, Endable, Ran}
+use Rattle.engine.specs.Walk.{Fresh, Begins, On, RunningAt, Stopped, stored, Spare, CountedOn, Endable, Ran}
 use Rattle.engine.specs.declared.given.Given.{Given}
 use Rattle.engine.specs.declared.walk.Walk.{Walk}
 use Rattle.engine.proofs.Going.{at_conflict, at_finish, given_same, moved}
@@ -83,14 +85,24 @@ module _ {g : Given} {base : model.Search} {limit room : ℕ} {list list₁ : Li
         })
 
     -- no conflict is left
-    pub spent : (j : ℕ) → f ≡ Conflict j → s.conflicts ≡ g.budget → Ran g base limit room list old keep s w now list₁ OutOfBudget
+    pub spent : (j : ℕ) → f ≡ Conflict j → s.conflicts ≡ g.budget → Ran g base limit room list old keep (stored s w) w now list₁ OutOfBudget
     unfolding status_of
     spent j z e =
         let q = p.same in
+        let r = p.running in
         record {
-          way = onward k q.left q.struck (rw p.fixed.unmarked (spends p.running w.level j s.propagations (omega (arith, q.done, q.left)) e (moved p _ (ap stop_of z ∙ at_conflict j))));
+          way = onward k q.left q.struck
+              (rw (levels-above g.n s.levels w.turn.start s.depth w.level r.from, p.fixed.unmarked) (spends r w.level j s.propagations (omega (arith, q.done, q.left)) e (moved p _ (ap stop_of z ∙ at_conflict j))));
           final = unsolved OutOfBudget tt;
-          ends = endable p.fixed.of_state p.running;
+          ends = record {
+            of_state = given_same p.fixed.of_state _ _ _ _ _;
+            few = r.counts.few;
+            inputs = r.counts.inputs;
+            apart = r.apart;
+            rows_long = r.rows_long;
+            shallow = omega (arith, r.from, depth_small r);
+            levels_long = length-set s.levels s.depth w.level ∙ r.levels_long;
+          };
         }
 
   -- a conflict with nothing to go back to

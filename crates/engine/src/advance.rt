@@ -64,6 +64,7 @@ fn run(
             }
             Found::Conflict(j) => {
                 if is_spent(s.conflicts, given.budget) {
+                    s.levels[s.depth] = walk.level;
                     return Ending::OutOfBudget;
                 }
                 if !walk.count_conflict(given, s, j, keep, buffer) {

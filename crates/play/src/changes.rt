@@ -31,12 +31,14 @@ impl Command {
 }
 
 // check
+#[inline(never)]
 fn check(rt: &impl Print, p: &Problem) -> io::Result<()> {
     let error = calls::number(&problem::check(*p));
     println!(rt; "check {error}")
 }
 
 // begin
+#[inline(never)]
 fn begin(rt: &impl Print, p: &Problem, state: &mut Search) -> io::Result<()> {
     let opened = search::open_problem(*p);
     let error = calls::number(&opened);
@@ -66,6 +68,7 @@ fn in_arrays(p: &Problem) -> Result<(), Fault>
 }
 
 // append J
+#[inline(never)]
 fn append(rest: &[u8], p: &mut Problem) -> Result<(), Fault> {
     let j = one_number(rest)?;
     let (row, divisor) = row_at(p, j)?;
@@ -77,6 +80,7 @@ fn append(rest: &[u8], p: &mut Problem) -> Result<(), Fault> {
 }
 
 // replace J I
+#[inline(never)]
 fn replace(rest: &[u8], p: &mut Problem) -> Result<(), Fault> {
     let [j, i] = numbers::<2>(rest)?;
     let (row, divisor) = row_at(p, i)?;
@@ -98,6 +102,7 @@ fn bits(number: usize) -> [bool; 64] {
 }
 
 // choose MASK
+#[inline(never)]
 fn choose(rest: &[u8], p: &mut Problem) -> Result<(), Fault> {
     let mask = one_number(rest)?;
     in_arrays(p)?;
@@ -106,6 +111,7 @@ fn choose(rest: &[u8], p: &mut Problem) -> Result<(), Fault> {
 }
 
 // close I
+#[inline(never)]
 fn close(rest: &[u8], p: &mut Problem) -> Result<(), Fault> {
     let i = one_number(rest)?;
     in_arrays(p)?;

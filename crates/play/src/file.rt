@@ -64,6 +64,8 @@ impl Loaded {
     }
 
     // load NAME
+    // A frame of its own, here and where else inlining is forbidden: what all lines share would have it at every line.
+    #[inline(never)]
     fn load(&mut self, rt: &impl Files, rest: &[u8]) -> Result<(), Failure> {
         let (name, rest) = next_word(rest).ok_or(Fault::NoFile)?;
         let Ok(mut opened) = open_named(rt, name) else {
@@ -106,8 +108,21 @@ impl Loaded {
     }
 }
 
+// verdict
+#[inline(never)]
+fn verdict(rt: &(impl Clock + Print), stderr: &(impl IsTerminal + Print), file: &[u8]) {
+    console::print_verdict(rt, stderr, file);
+}
+
+// solutions
+#[inline(never)]
+fn solutions(rt: &(impl Clock + Print), stderr: &(impl IsTerminal + Print), file: &[u8]) {
+    console::print_solutions(rt, stderr, file);
+}
+
 impl Player {
     // read
+    #[inline(never)]
     fn read(&mut self, rt: &impl Print) -> io::Result<()> {
         let read = reading::read(self.file.content());
         let error = calls::number(&read);
@@ -117,6 +132,7 @@ impl Player {
     }
 
     // open
+    #[inline(never)]
     fn open(&mut self, rt: &impl Print) -> io::Result<()> {
         let opened = search::open(self.file.content());
         let error = calls::number(&opened);
@@ -148,11 +164,11 @@ impl Player {
             }
             Command::Verdict => {
                 no_numbers(rest)?;
-                console::print_verdict(rt, stderr, self.file.content());
+                verdict(rt, stderr, self.file.content());
             }
             Command::Solutions => {
                 no_numbers(rest)?;
-                console::print_solutions(rt, stderr, self.file.content());
+                solutions(rt, stderr, self.file.content());
             }
         }
         Ok(())

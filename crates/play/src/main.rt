@@ -86,7 +86,7 @@ impl Player {
         }
     }
 
-    // Plays a line, unless it is empty or a comment, and prints why if it cannot be played.
+    // Plays a line, and prints why if it cannot be played.
     fn play_line(
         &mut self,
         rt: &(impl Clock + Files + Print),
@@ -94,9 +94,6 @@ impl Player {
         number: usize,
         line: &[u8],
     ) -> io::Result<()> {
-        if let [] | [b'#', ..] = line {
-            return Ok(());
-        }
         let (word, rest) = script::split_word(line);
         match self.play_command(rt, stderr, word, rest) {
             Ok(()) => Ok(()),
@@ -106,7 +103,12 @@ impl Player {
     }
 }
 
-// Plays the lines in turn. A last one needs no newline.
+// Whether a line is empty or a comment.
+fn is_passed_over(line: &[u8]) -> bool {
+    matches!(line, [] | [b'#', ..])
+}
+
+// Plays the lines in turn, but for those that are passed over. A last one needs no newline.
 fn play(
     rt: &(impl Clock + Files + Print),
     stderr: &(impl IsTerminal + Print),
@@ -116,9 +118,15 @@ fn play(
     let mut number: usize = 1;
     let mut rest = text;
     while let Some(end) = rest.iter().position(|byte| *byte == b'\n') {
-        player.play_line(rt, stderr, number, &rest[..end])?;
+        let line = &rest[..end];
+        if !is_passed_over(line) {
+            player.play_line(rt, stderr, number, line)?;
+        }
         rest = &rest[end + 1..];
         number = number.saturating_add(1);
+    }
+    if is_passed_over(rest) {
+        return Ok(());
     }
     player.play_line(rt, stderr, number, rest)
 }

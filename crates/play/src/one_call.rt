@@ -72,29 +72,29 @@ fn show_kept(rt: &impl Print, before: &Search, after: &Search) -> io::Result<()>
     }
 }
 
-// Prints the rest of a call's line, with what it counts besides, and returns the state after it. Where the state is refused it stays as it was.
+// Prints the rest of a call's line, with what it counts besides; the state becomes the one after it. Where it is refused it stays as it was.
 fn finish(
     rt: &impl Print,
-    before: &Search,
+    s: &mut Search,
     ran: Option<Ran>,
     counted: Option<(&str, usize)>,
     mut digest: Digest,
-) -> io::Result<Search> {
+) -> io::Result<()> {
     let Some(ran) = ran else {
-        println!(rt; " refused 9 same digest {digest}")?;
-        return Ok(*before);
+        return println!(rt; " refused 9 same digest {digest}");
     };
     show_answer(rt, &ran)?;
     if let Some((what, count)) = counted {
         print!(rt; " {what} {count}")?;
     }
     state_words::add_read(&mut digest, &ran.state)?;
-    println!(rt; " digest {digest}")?;
-    Ok(ran.state)
+    *s = ran.state;
+    println!(rt; " digest {digest}")
 }
 
 // step
-fn step(rt: &impl Print, s: &Search) -> io::Result<Search> {
+#[inline(never)]
+fn step(rt: &impl Print, s: &mut Search) -> io::Result<()> {
     let (ran, block) = calls::step(s);
     let mut digest = digest_of(ran.as_ref(), 34);
     digest.add_word(usize::from(block.is_some()));
@@ -104,7 +104,8 @@ fn step(rt: &impl Print, s: &Search) -> io::Result<Search> {
 }
 
 // run
-fn run(rt: &impl Print, s: &Search) -> io::Result<Search> {
+#[inline(never)]
+fn run(rt: &impl Print, s: &mut Search) -> io::Result<()> {
     let ran = calls::run(s);
     let digest = digest_of(ran.as_ref(), 34);
     print!(rt; "run")?;
@@ -112,7 +113,8 @@ fn run(rt: &impl Print, s: &Search) -> io::Result<Search> {
 }
 
 // trace L
-fn trace(rt: &impl Print, length: usize, s: &Search) -> io::Result<Search> {
+#[inline(never)]
+fn trace(rt: &impl Print, length: usize, s: &mut Search) -> io::Result<()> {
     let mut buffer = [238u8; 65536];
     let bytes = &mut buffer[..length.min(65536)];
     let (ran, blocks) = calls::trace(s, bytes);
@@ -123,7 +125,8 @@ fn trace(rt: &impl Print, length: usize, s: &Search) -> io::Result<Search> {
 }
 
 // list L
-fn list(rt: &impl Print, length: usize, s: &Search) -> io::Result<Search> {
+#[inline(never)]
+fn list(rt: &impl Print, length: usize, s: &mut Search) -> io::Result<()> {
     let mut buffer = [NUMBER; 8192];
     let numbers = &mut buffer[..length.min(8192)];
     let (ran, struck) = calls::list(s, numbers);
@@ -139,11 +142,11 @@ fn show_unstruck(rt: &impl Print, answer: &str, before: &Search, after: &Search)
 }
 
 // exclude
-fn exclude(rt: &impl Print, s: &Search) -> io::Result<Search> {
+#[inline(never)]
+fn exclude(rt: &impl Print, s: &mut Search) -> io::Result<()> {
     print!(rt; "exclude")?;
     let Ok(Excluded { answer, state }) = search::exclude(*s) else {
-        println!(rt; " refused 9 same")?;
-        return Ok(*s);
+        return println!(rt; " refused 9 same");
     };
     match answer {
         Exclusion::Struck => {
@@ -153,20 +156,25 @@ fn exclude(rt: &impl Print, s: &Search) -> io::Result<Search> {
         Exclusion::Ended => show_unstruck(rt, "ended", s, &state)?,
         Exclusion::Unsolved => show_unstruck(rt, "no form", s, &state)?,
     }
-    println!(rt)?;
-    Ok(state)
+    *s = state;
+    println!(rt)
 }
 
 // each L K
 fn each(rt: &impl Print, length: usize, count: usize, s: &Search) -> io::Result<()> {
-    step(rt, s)?;
-    run(rt, s)?;
-    trace(rt, length, s)?;
-    exclude(rt, s)?;
-    list(rt, count, s)?;
-    Ok(())
+    let mut after = *s;
+    step(rt, &mut after)?;
+    after = *s;
+    run(rt, &mut after)?;
+    after = *s;
+    trace(rt, length, &mut after)?;
+    after = *s;
+    exclude(rt, &mut after)?;
+    after = *s;
+    list(rt, count, &mut after)
 }
 
+#[inline(never)]
 pub(crate) fn play(
     rt: &impl Print,
     command: Command,
@@ -176,23 +184,23 @@ pub(crate) fn play(
     match command {
         Command::Step => {
             no_numbers(rest)?;
-            *s = step(rt, s)?;
+            step(rt, s)?;
         }
         Command::Run => {
             no_numbers(rest)?;
-            *s = run(rt, s)?;
+            run(rt, s)?;
         }
         Command::Trace => {
             let length = one_number(rest)?;
-            *s = trace(rt, at_most(length, 65536)?, s)?;
+            trace(rt, at_most(length, 65536)?, s)?;
         }
         Command::List => {
             let length = one_number(rest)?;
-            *s = list(rt, at_most(length, 8192)?, s)?;
+            list(rt, at_most(length, 8192)?, s)?;
         }
         Command::Exclude => {
             no_numbers(rest)?;
-            *s = exclude(rt, s)?;
+            exclude(rt, s)?;
         }
         Command::Each => {
             let [length, count] = numbers::<2>(rest)?;

@@ -88,6 +88,7 @@ fn set(rest: &[u8], p: &mut Problem) -> Result<(), Fault> {
 }
 
 // write L
+#[inline(never)]
 fn write(rt: &impl Print, rest: &[u8], p: &Problem) -> Result<(), Failure> {
     let length = one_number(rest)?;
     let length = at_most(length, 65536)?;

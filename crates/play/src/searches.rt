@@ -182,6 +182,7 @@ fn length(rest: &[u8], least: usize, most: usize) -> Result<usize, Fault> {
     at_most(length, most)
 }
 
+#[inline(never)]
 pub(crate) fn play(
     rt: &impl Print,
     command: Command,

@@ -2,10 +2,12 @@
 // `requires`: each does its own checking.
 #![tactic(auto)]
 
-ghost use Rattle.std.specs.Prelude.{◌≡◌};
+ghost use Rattle.std.specs.Prelude.{◌≡◌, true, Ok};
 ghost use Rattle.model_walk.specs.Search.{open_file};
+ghost use Rattle.model_walk.specs.Validity.{admitted};
 ghost use Rattle.model_acceptance.specs.Acceptable.{open_given};
 ghost use Rattle.problem.specs.View.{problem_of};
+ghost use Rattle.state.specs.View.{view};
 ghost use Rattle.shown.specs.Opening.{seen_opened};
 ghost use Rattle.shown.specs.Excluding.{seen_excluded, exclude_seen};
 ghost use Rattle.shown.specs.Listing.{seen_listed, list_seen};
@@ -36,7 +38,7 @@ pub fn open_problem(problem: Problem) -> Result<Search, Refusal>
 pub fn trace(s: Search, buffer: &mut [u8]) -> Result<Traced, Refusal>
     ensures { seen_traced result buffer.new ≡ trace_seen s buffer.old }
 {
-    if !validate::is_admitted(s) {
+    if !validate::is_admitted(&s) {
         return Err(Refusal::InvalidSearch);
     }
     let limit = buffer.len() / block::LENGTH;
@@ -63,7 +65,7 @@ pub fn step(s: Search) -> Result<Stepped, Refusal>
 pub fn run(s: Search) -> Result<Ran, Refusal>
     ensures { seen_ran result ≡ run_seen s }
 {
-    if !validate::is_admitted(s) {
+    if !validate::is_admitted(&s) {
         return Err(Refusal::InvalidSearch);
     }
     let limit = s.budget - s.conflicts + 1;
@@ -75,27 +77,35 @@ pub fn run(s: Search) -> Result<Ran, Refusal>
 pub fn exclude(s: Search) -> Result<Excluded, Refusal>
     ensures { seen_excluded result ≡ exclude_seen s }
 {
-    if !validate::is_admitted(s) {
+    if !validate::is_admitted(&s) {
         return Err(Refusal::InvalidSearch);
     }
+    Ok(strike_out(s))
+}
+
+// The same of a state that is taken.
+fn strike_out(s: Search) -> Excluded
+    requires { admitted (view s) ≡ true }
+    ensures { seen_excluded (Ok result) ≡ exclude_seen s }
+{
     match s.status {
         Status::Solved => {
             if 0 < s.depth {
-                Ok(Excluded {
+                Excluded {
                     answer: Exclusion::Struck,
                     state: exclusion::strike(s),
-                })
+                }
             } else {
-                Ok(Excluded {
+                Excluded {
                     answer: Exclusion::Ended,
                     state: s,
-                })
+                }
             }
         }
-        _ => Ok(Excluded {
+        _ => Excluded {
             answer: Exclusion::Unsolved,
             state: s,
-        }),
+        },
     }
 }
 
@@ -104,7 +114,7 @@ pub fn exclude(s: Search) -> Result<Excluded, Refusal>
 pub fn list(s: Search, solutions: &mut [i64]) -> Result<Listed, Refusal>
     ensures { seen_listed result solutions.new ≡ list_seen s solutions.old }
 {
-    if !validate::is_admitted(s) {
+    if !validate::is_admitted(&s) {
         return Err(Refusal::InvalidSearch);
     }
     let room = solutions.len() / s.n;

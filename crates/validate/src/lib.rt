@@ -33,15 +33,15 @@ fn are_levels_valid(s: &Search) -> bool
 
 // Whether a call takes a search state, made up or not: none of the conditions of a 'foreign walk' holds. Sizes come first, for indices are computed from
 // them, and ranges before any activity.
-pub fn is_admitted(s: Search) -> bool
-    ensures { result ≡ admitted (view s) }
+pub fn is_admitted(s: &Search) -> bool
+    ensures { result ≡ admitted (view s.now) }
 {
-    are_sizes_valid(&s)
+    are_sizes_valid(s)
         && are_in_range(&s.rows, kept_count(s.m, s.made), s.n)
         && are_divisors_in_range(&s.divisors, s.m)
         && are_thresholds(&s.thresholds, s.n)
-        && are_numbers_valid(&s)
-        && are_levels_valid(&s)
-        && is_status_valid(&s)
+        && are_numbers_valid(s)
+        && are_levels_valid(s)
+        && is_status_valid(s)
         && s.propagations <= MAX_PROPAGATIONS
 }

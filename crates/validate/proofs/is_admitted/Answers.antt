@@ -2,6 +2,7 @@
 use native.Mathlib.Omega.{arith}
 use borrow.Author.Rules.{rules}
 use Rattle.state.specs.View.{inputs_of}
+use Rattle.conditions.proofs.Marks.{level-fits}
 use Rattle.conditions.proofs.Rows.{few_kept}
 use Rattle.conditions.proofs.Views.{constraints-view, divisors-view}
 use Rattle.validate.proofs.Valid.{parts, passed}
@@ -11,35 +12,44 @@ pub kept_count-requires : goal.kept_count-requires
 kept_count-requires c = let z = passed _ _ c.are_sizes_valid.ensures c.if-are_sizes_valid.true in omega arith
 
 pub are_in_range-requires : goal.are_in_range-requires
-are_in_range-requires c = let z = passed _ _ c.are_sizes_valid.ensures c.if-are_sizes_valid.true in let k = few_kept c.args.s.made in search rules
+are_in_range-requires c = let z = passed _ _ c.are_sizes_valid.ensures c.if-are_sizes_valid.true in let k = few_kept c.args.s.now.made in search rules
 
 pub are_divisors_in_range-requires : goal.are_divisors_in_range-requires
-are_divisors_in_range-requires c = let z = passed c.args.s _ c.are_sizes_valid.ensures in search (rules, z)
+are_divisors_in_range-requires c = let z = passed c.args.s.now _ c.are_sizes_valid.ensures in search (rules, z)
 
 pub are_thresholds-requires : goal.are_thresholds-requires
-are_thresholds-requires c = let z = passed c.args.s _ c.are_sizes_valid.ensures in search (rules, z)
+are_thresholds-requires c = let z = passed c.args.s.now _ c.are_sizes_valid.ensures in search (rules, z)
 
 pub are_numbers_valid-requires : goal.are_numbers_valid-requires
-are_numbers_valid-requires c = let z = passed c.args.s _ c.are_sizes_valid.ensures in search (rules, z)
+are_numbers_valid-requires c = let z = passed c.args.s.now _ c.are_sizes_valid.ensures in search (rules, z)
 
 pub are_levels_valid-requires : goal.are_levels_valid-requires
-are_levels_valid-requires c = let z = passed c.args.s _ c.are_sizes_valid.ensures in search (rules, z)
+are_levels_valid-requires c = let z = passed c.args.s.now _ c.are_sizes_valid.ensures in search (rules, z)
 
 pub is_status_valid-requires-clause-passed : goal.is_status_valid-requires-clause-passed
 unfolding inputs_of
 is_status_valid-requires-clause-passed c =
-    let z = passed c.args.s _ c.are_sizes_valid.ensures in
-    let k = constraints-view c.args.s in
-    let d = divisors-view c.args.s in
+    let z = passed c.args.s.now _ c.are_sizes_valid.ensures in
+    let k = constraints-view c.args.s.now in
+    let d = divisors-view c.args.s.now in
     search (rules, z)
 
 pub is_status_valid-requires-clause-depth : goal.is_status_valid-requires-clause-depth
-is_status_valid-requires-clause-depth c = let z = passed c.args.s _ c.are_sizes_valid.ensures in search (rules, z)
+is_status_valid-requires-clause-depth c = let z = passed c.args.s.now _ c.are_sizes_valid.ensures in search (rules, z)
+
+pub is_status_valid-requires-clause-outermost : goal.is_status_valid-requires-clause-outermost
+is_status_valid-requires-clause-outermost c = let l = level-fits c.args.s.now 0 in search rules
+
+pub is_status_valid-requires-clause-deepest : goal.is_status_valid-requires-clause-deepest
+is_status_valid-requires-clause-deepest c =
+    let z = passed c.args.s.now _ c.are_sizes_valid.ensures in
+    let l = level-fits c.args.s.now c.args.s.now.depth in
+    search (rules, z)
 
 pub returns-then-is_status_valid : goal.returns-then-is_status_valid
 unfolding inputs_of
-returns-then-is_status_valid c = let p = parts c.args.s in search rules
+returns-then-is_status_valid c = let p = parts c.args.s.now in search rules
 
 pub returns-else-is_status_valid : goal.returns-else-is_status_valid
 unfolding inputs_of
-returns-else-is_status_valid c = let p = parts c.args.s in search rules
+returns-else-is_status_valid c = let p = parts c.args.s.now in search rules

@@ -1,18 +1,9 @@
 -- `conditions::status::is_status_valid` meets its contract. Assumes nothing.
-use native.Mathlib.Omega.{arith}
 use borrow.Author.Rules.{rules}
 use Rattle.model_walk.specs.Validity.{status_valid}
 use Rattle.state.specs.View.{level_of, level_at, status_of, core_of, core_over}
-use Rattle.conditions.proofs.Marks.{outer-is, box-passed}
+use Rattle.conditions.proofs.Marks.{outer-is}
 use Rattle.conditions.proofs.status.is_status_valid.Goals as goal
-
-pub is_any_falsified-requires-clause-bounds : goal.is_any_falsified-requires-clause-bounds
-unfolding level_at level_of
-is_any_falsified-requires-clause-bounds c = box-passed _ _ (omega arith) c.requires.levels
-
-pub is_any_falsified-requires-then-not-is_any_open-clause-bounds : goal.is_any_falsified-requires-then-not-is_any_open-clause-bounds
-unfolding level_at level_of
-is_any_falsified-requires-then-not-is_any_open-clause-bounds c = box-passed _ _ (omega arith) c.requires.levels
 
 pub returns-in-Undecided : goal.returns-in-Undecided
 unfolding status_valid status_of

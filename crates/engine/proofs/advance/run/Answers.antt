@@ -1,6 +1,7 @@
 -- `engine::advance::run` meets its contract. Assumes nothing.
 use native.Mathlib.Omega.{arith}
 use mathlib.Core.Path.{refl}
+use Rattle.turns.proofs.Rounds.{depth_small}
 use Rattle.turns.proofs.Striking.{row_fits}
 use Rattle.engine.proofs.Ending.{onward, spare, goes-on, solves, spent, none-left}
 use Rattle.engine.proofs.advance.run.Goals as goal
@@ -69,6 +70,18 @@ loop-walk-preserved-in-Finish c = λ base limit list old k₀.
     (c.strike_out.ensures _ _ _ _ _ _ _ _ _ (onward k p.same.left p.same.struck p) (spare k c.loop-walk-test.true p c.requires.unkept _ c.is_last.ensures c.if-is_last.false)).way
 
 -- ---- a conflict
+pub offset_bounds-s-s : goal.offset_bounds-s-s
+offset_bounds-s-s c =
+    let k = c.loop-walk.invariant _ _ _ _ c.requires.way in
+    let p = c.in-Conflict.ensures _ _ _ _ k.here in
+    omega (arith, depth_small p.running)
+
+pub bounds-s-s : goal.bounds-s-s
+bounds-s-s c =
+    let k = c.loop-walk.invariant _ _ _ _ c.requires.way in
+    let p = c.in-Conflict.ensures _ _ _ _ k.here in
+    omega (arith, depth_small p.running)
+
 pub returns-then-is_spent : goal.returns-then-is_spent
 returns-then-is_spent c = λ base limit list old k₀.
     let k = c.loop-walk.invariant _ _ _ _ k₀ in
