@@ -17,6 +17,7 @@ use Rattle.layout.specs.Sizes.{sizes_fit}
 use Rattle.state.specs.View.{kept_cuts, dropped_cuts, kept_at, stored_number, core_over, inputs_of, core_of, view}
 use Rattle.state.specs.declared.Search.{Search}
 use Rattle.state.proofs.Cores.{kept-over, length-levels}
+use Rattle.conditions.specs.Sizes.{number_from}
 
 regrouped : (a b c d e : Bool) → (a && (b && (c && (d && e)))) ≡ ((a && (b && (c && (d && true)))) && e)
 regrouped false b c d e = refl
@@ -64,8 +65,8 @@ module _ (s : Search) where
   number-here p = rw inputs-length (omega arith)
 
   pub numbers-view : numbers_valid (core_of s) ≡
-      all_pairs eqb (tab (stored_number s.numbers) 0 (kept_cuts s.made)) (tab (λ p. s.m + dropped_cuts s.made + 1 + p) 0 (kept_cuts s.made))
-  unfolding numbers_valid
+      all_pairs eqb (tab (stored_number s.numbers) 0 (kept_cuts s.made)) (tab (number_from (s.m + dropped_cuts s.made + 1)) 0 (kept_cuts s.made))
+  unfolding numbers_valid number_from
   numbers-view =
       ap₂ (all_pairs eqb) stored
       (ap (tab (cut_number (core_of s)) 0) cuts-length ∙ tab-ext-0 (cut_number (core_of s)) _ (kept_cuts s.made) (λ p h. number-here p))

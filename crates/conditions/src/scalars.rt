@@ -1,12 +1,13 @@
 // The sizes and counters of a search state, and the numbers of its kept cuts.
-ghost use Rattle.std.specs.Prelude.{◌≡◌, ◌≤◌, ◌+◌};
-ghost use Rattle.model_problems.specs.Ranges.{max_constraints, max_budget};
-ghost use Rattle.model_walk.specs.Validity.{scalars_valid, numbers_valid};
-ghost use Rattle.state.specs.View.{core_of, dropped_cuts, view};
+ghost use Rattle.std.specs.Prelude.{◌≡◌, ◌≤◌, eqb, length};
+ghost use Rattle.model_problems.specs.Lists.{tab, all_pairs};
+ghost use Rattle.model_problems.specs.Ranges.{max_cuts};
+ghost use Rattle.model_walk.specs.Validity.{scalars_valid};
+ghost use Rattle.state.specs.View.{stored_number, view};
+ghost use Rattle.conditions.specs.Sizes.{max_first, number_from};
 
 use layout::range::sizes_in_range;
 use state::Search;
-use state::kept::{dropped, kept_cuts};
 
 // Whether n, m, B, the dead ends, the cuts made and the depth are in range.
 pub fn are_sizes_valid(s: &Search) -> bool
@@ -18,11 +19,10 @@ pub fn are_sizes_valid(s: &Search) -> bool
         && s.made <= s.conflicts
 }
 
-// Whether the stored numbers of the kept cuts follow one another, up to the number of cuts made.
-pub fn are_numbers_valid(s: &Search) -> bool
-    requires { s.now.m + dropped_cuts s.now.made + 1 ≤ max_constraints + max_budget }
-    ensures { result ≡ numbers_valid (core_of s.now) }
+// Whether the first `count` stored numbers follow one another from `first` on.
+pub fn are_numbers_valid(numbers: &[usize], first: usize, count: usize) -> bool
+    requires { (first ≤ max_first) × (count ≤ max_cuts) × (count ≤ length numbers.now) }
+    ensures { result ≡ all_pairs eqb (tab (stored_number numbers.now) 0 count) (tab (number_from first) 0 count) }
 {
-    let first = s.m + dropped(s.made) + 1;
-    (0..kept_cuts(s.made)).all(|p| s.numbers[p] == first + p)
+    (0..count).all(|p| numbers[p] == first + p)
 }

@@ -10,6 +10,7 @@ use problem::{Problem, Refusal};
 use state::Search;
 
 // Opens what reading or checking found: a refusal stays what it is.
+#[tactic(auto, using(shown::proofs::Openings::not_opened, shown::proofs::Openings::opened))]
 pub fn begin(found: Result<Problem, Refusal>) -> Result<Search, Refusal>
     requires { IfOk found Accepted }
     ensures { seen_opened result ≡ opened_by (found_problem found) }

@@ -117,3 +117,6 @@ module _ (f : List ℕ) (t₄ : sizes_match f ≡ true) where
         pub accepted : (r : Bool) → r ≡ padding_zero f → r ≡ true → seen_read (Ok p) ≡ reading_of (read_file f)
         unfolding read_file result_of reading_of shown_by seen_read seen_by
         accepted r e h = rw (ep, error-is, none, said-yes e h)
+
+-- what the tests of `read` tell
+pub ruleset told = (truncated, has-head, bad-checksum, bad-magic, size-range, blocks, problem-refused, nonzero-padding, accepted, said-yes)

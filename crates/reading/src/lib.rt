@@ -11,6 +11,7 @@ use file_tests::{checks_match, is_whole, magic_matches, padding_zero, sizes_matc
 use problem::{Problem, Refusal, check};
 
 // Reads a problem file: the problem in it, or the first refusal that applies, in the order 1 to 5, 13, 6, 10, 7.
+#[tactic(auto, using(crate::proofs::ReadCascade::told))]
 pub fn read(file: &[u8]) -> Result<Problem, Refusal>
     ensures { seen_read result ≡ reading_of (read_file file.now) }
 {

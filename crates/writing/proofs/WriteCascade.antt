@@ -64,3 +64,6 @@ writable p fine space l =
       divisor_range = w.divisor_range;
       long = omega arith;
     }
+
+-- what the tests of `write` tell
+pub ruleset told = (refused, short-buffer, done)

@@ -10,6 +10,7 @@ use file_blocks::writer;
 use problem::{Problem, Refusal, check};
 
 // Writes a problem's blocks at the buffer's start, and leaves the bytes after them; where it is refused the buffer keeps all its bytes.
+#[tactic(auto, using(crate::proofs::WriteCascade::told))]
 pub fn write(problem: Problem, buffer: &mut [u8]) -> Result<(), Refusal>
     ensures { written result buffer.new ≡ write_file (problem_of problem) buffer.old }
 {

@@ -2,6 +2,7 @@
 use native.Mathlib.Omega.{arith}
 use mathlib.Core.Path.{refl}
 use Rattle.lists.proofs.Bools.{clash, said-no}
+use Rattle.answers.specs.Answered.{answered}
 use Rattle.answers.proofs.Proceeding.{after-sizes}
 use Rattle.shown.proofs.Showing.{takes, run-shown, run-refused}
 use Rattle.search.proofs.run.Goals as goal
@@ -26,4 +27,5 @@ answer-requires c =
     (z.few, z.shallow)
 
 pub returns : goal.returns
+unfolding answered
 returns c = rw c.answer.ensures (run-shown _ _ _ _ _ _ (takes c.is_admitted.ensures c.if-not-is_admitted.false).admits c.proceed-a.ensures)

@@ -2,7 +2,6 @@
 use native.Mathlib.Omega.{arith}
 use borrow.Author.Rules.{rules}
 use Rattle.state.specs.View.{inputs_of}
-use Rattle.conditions.proofs.Marks.{level-fits}
 use Rattle.conditions.proofs.Rows.{few_kept}
 use Rattle.conditions.proofs.Views.{constraints-view, divisors-view}
 use Rattle.validate.proofs.Valid.{parts, passed}
@@ -20,36 +19,27 @@ are_divisors_in_range-requires c = let z = passed c.args.s.now _ c.are_sizes_val
 pub are_thresholds-requires : goal.are_thresholds-requires
 are_thresholds-requires c = let z = passed c.args.s.now _ c.are_sizes_valid.ensures in search (rules, z)
 
-pub are_numbers_valid-requires : goal.are_numbers_valid-requires
-are_numbers_valid-requires c = let z = passed c.args.s.now _ c.are_sizes_valid.ensures in search (rules, z)
+pub are_cuts_numbered-requires : goal.are_cuts_numbered-requires
+are_cuts_numbered-requires c = let z = passed c.args.s.now _ c.are_sizes_valid.ensures in search (rules, z)
 
 pub are_levels_valid-requires : goal.are_levels_valid-requires
 are_levels_valid-requires c = let z = passed c.args.s.now _ c.are_sizes_valid.ensures in search (rules, z)
 
-pub is_status_valid-requires-clause-passed : goal.is_status_valid-requires-clause-passed
+pub is_mark_valid-requires-clause-passed : goal.is_mark_valid-requires-clause-passed
 unfolding inputs_of
-is_status_valid-requires-clause-passed c =
+is_mark_valid-requires-clause-passed c =
     let z = passed c.args.s.now _ c.are_sizes_valid.ensures in
     let k = constraints-view c.args.s.now in
     let d = divisors-view c.args.s.now in
     search (rules, z)
 
-pub is_status_valid-requires-clause-depth : goal.is_status_valid-requires-clause-depth
-is_status_valid-requires-clause-depth c = let z = passed c.args.s.now _ c.are_sizes_valid.ensures in search (rules, z)
+pub is_mark_valid-requires-clause-depth : goal.is_mark_valid-requires-clause-depth
+is_mark_valid-requires-clause-depth c = let z = passed c.args.s.now _ c.are_sizes_valid.ensures in search (rules, z)
 
-pub is_status_valid-requires-clause-outermost : goal.is_status_valid-requires-clause-outermost
-is_status_valid-requires-clause-outermost c = let l = level-fits c.args.s.now 0 in search rules
-
-pub is_status_valid-requires-clause-deepest : goal.is_status_valid-requires-clause-deepest
-is_status_valid-requires-clause-deepest c =
-    let z = passed c.args.s.now _ c.are_sizes_valid.ensures in
-    let l = level-fits c.args.s.now c.args.s.now.depth in
-    search (rules, z)
-
-pub returns-then-is_status_valid : goal.returns-then-is_status_valid
+pub returns-then-is_mark_valid : goal.returns-then-is_mark_valid
 unfolding inputs_of
-returns-then-is_status_valid c = let p = parts c.args.s.now in search rules
+returns-then-is_mark_valid c = let p = parts c.args.s.now in search rules
 
-pub returns-else-is_status_valid : goal.returns-else-is_status_valid
+pub returns-else-is_mark_valid : goal.returns-else-is_mark_valid
 unfolding inputs_of
-returns-else-is_status_valid c = let p = parts c.args.s.now in search rules
+returns-else-is_mark_valid c = let p = parts c.args.s.now in search rules

@@ -24,8 +24,9 @@ write_constraint-requires c =
 pub loop-j-preserved : goal.loop-j-preserved
 loop-j-preserved c =
     let i = c.loop-j.invariant in
+    let r = c.range-in-loop-j.ensures in
     let x =
-    blocks_more c.args.problem.now c.loop-j.j c.loop-j-test.true c.range-in-loop-j.ensures _ refl c.requires.few-variables (search rules) i.0 c.write_constraint.auto.block c.write_constraint.ensures i.2 in
+    blocks_more c.args.problem.now c.loop-j.j c.loop-j-test.true (omega (arith, r.0), omega (arith, r.1, r.0)) _ refl c.requires.few-variables (search rules) i.0 c.write_constraint.auto.block c.write_constraint.ensures i.2 in
     (omega (arith, x.0, i.0), x.0 ∙ i.1, x.1)
 
 pub returns : goal.returns

@@ -28,10 +28,6 @@ module _ {a l u w : ℤ} (r : ImprovementFits a l u w) where
   rest : {x : ℤ} → Within widest_term x → to_z w64 (of_z w64 (to_z w64 (of_z w64 w) -ℤ to_z w64 (of_z w64 x))) ≡ w -ℤ x
   rest h = eq! (search exps depth 8) (search exps depth 8) tt (omega arith)
 
--- the term's size, by that of the bounds as the call gets them
-sized : {a l u w x : ℤ} → ImprovementFits a l u w → ((k : ℕ) → Within k (to_z w64 (of_z w64 l)) → Within k (to_z w64 (of_z w64 u)) → Within (max_coefficient * k) x) → Within widest_term x
-sized r h = h widest_bound (within! (search exps depth 8) tt) (within! (search exps depth 8) tt)
-
 -- the span, as the model's
 spanned : {a l u r : ℤ} → SFits w64 a → SFits w64 l → SFits w64 u → Within widest_span r →
     r ≡ span_of (to_z w64 (of_z w64 a)) (record { lower = to_z w64 (of_z w64 l); upper = to_z w64 (of_z w64 u) }) → to_z w64 (of_z w64 r) ≡ span_of a (record { lower = l; upper = u })
@@ -52,11 +48,13 @@ below c =
     le_z-false (rw (spanned r.a r.lower r.upper c.span.ensures.within c.span.ensures.value, slack c.requires) at c.if-span-activity.false)
 
 pub overflow_sub-activity-2 : goal.overflow_sub-activity-2
-overflow_sub-activity-2 c = let t = sized c.requires c.term.ensures.by_index in fits! (search exps depth 10) tt
+overflow_sub-activity-2 c =
+    let t = c.term.ensures.by_index widest_bound (within! (search exps depth 10) tt) (within! (search exps depth 10) tt) in
+    fits! (search exps depth 10) tt
 
 pub implied_bound-requires : goal.implied_bound-requires
 implied_bound-requires c =
-    let t = sized c.requires c.term.ensures.by_index in (
+    let t = c.term.ensures.by_index widest_bound (within! (search exps depth 10) tt) (within! (search exps depth 10) tt) in (
       record { rest = within! (search exps depth 10) tt; coefficient = within! (search exps depth 10) tt },
       λ z. improved-nonzero c.args.activity c.args.lower c.args.upper c.args.a c.requires.holds (below (goal.at.implied_bound-requires c).Else-span-activity) (sym (to_z-of_z c.ranges.a) ∙ z),
     )
@@ -67,5 +65,6 @@ returns c =
     let r = c.ranges in
     let d : c.term.result ≡ term a.a (record { lower = a.lower; upper = a.upper }) = simp (to_z-of_z, r.a, r.lower, r.upper) at c.term.ensures.value in
     let m = improved a.activity a.lower a.upper a.a c.requires.holds (below (goal.at.returns c).Else-span-activity) in
-    let e = rw (rest c.requires (sized c.requires c.term.ensures.by_index), to_z-of_z r.a, d) at c.implied_bound.ensures in
+    let t = c.term.ensures.by_index widest_bound (within! (search exps depth 10) tt) (within! (search exps depth 10) tt) in
+    let e = rw (rest c.requires t, to_z-of_z r.a, d) at c.implied_bound.ensures in
     rw e (record { by_index = m.0; improves = m.1 })
