@@ -68,8 +68,8 @@ equal-bits {a} {b} f g =
     same_test (eqb (of_z w64 a) (of_z w64 b)) (equalℤ a b) (λ e. rw (same f g (eqb-true _ _ e)) (equal-refl b))
     (λ e. rw (equal-true a b e) (true_of (eqb (of_z w64 b) (of_z w64 b)) (eqb_refl (of_z w64 b))))
 
-pub parts-equal : (n : ℕ) (a : List ℤ) (at : ℕ) (b : List ℤ) (bt c d : ℕ) → at + n < length a → bt + n < length b → c ≡ n + 1 → d ≡ n + 1 →
-    pointwise int_eq (take c (drop at a)) (take d (drop bt b)) ≡ equal (constraint_at n a at) (constraint_at n b bt)
+pub parts-equal : (n : ℕ) (a : List ℤ) (at s : ℕ) (b : List ℤ) (bt t c d : ℕ) → at + n < length a → bt + n < length b → s ≡ at → t ≡ bt → c ≡ n + 1 → d ≡ n + 1 →
+    pointwise int_eq (take c (drop s a)) (take d (drop t b)) ≡ equal (constraint_at n a at) (constraint_at n b bt)
 unfolding equal constraint_at all_pairs
-parts-equal n a at b bt c d h k e f =
-    pairs-pointwise int_eq equalℤ int_eq-equal _ _ ∙ ap₂ (all_pairs equalℤ) (row_part n a at c h e) (row_part n b bt d k f) ∙ rw (equal-refl (pos 0))
+parts-equal n a at s b bt t c d h k p q e f =
+    rw (p, q) (pairs-pointwise int_eq equalℤ int_eq-equal _ _ ∙ ap₂ (all_pairs equalℤ) (row_part n a at c h e) (row_part n b bt d k f) ∙ rw (equal-refl (pos 0)))

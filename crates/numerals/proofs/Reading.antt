@@ -10,7 +10,7 @@ use lib.ListN.{length, get_or, drop}
 use Rattle.std.proofs.Math.Seq.{drop-cons}
 use Rattle.std.proofs.Math.ListN.{drop_of_length-le}
 use Rattle.std.proofs.lemmas.Bool.{cases_lt}
-use Rattle.std.proofs.lemmas.List.{drop-take}
+use Rattle.std.proofs.lemmas.List.{drop-take, take_all}
 use Rattle.std.proofs.lemmas.Option.{cond_some}
 use Rattle.std.specs.Char.{IsAsciiDigit, IsNotAsciiDigit}
 use Rattle.std.specs.Prelude.{Option, Some, None}
@@ -204,12 +204,16 @@ module _ (w s : List ℕ) (h : pointwise eqb (take 1 w) (45 ∷ []) ≡ true) (d
   pub minus-number : (v : ℕ) (r : Option ℤ) → Some v ≡ size_in (2 ^ 64 - 1) s → SomeIff r (SFits w64 (pos 0 -ℤ pos v)) (pos 0 -ℤ pos v) → r ≡ number_in w
   minus-number v r e f = rw (signed w h, ← d) (minus-some s v (sym e) r f)
 
-module _ (w : List ℕ) (h : pointwise eqb (take 1 w) (45 ∷ []) ≡ false) where
-  pub plus-none : None ≡ size_in (2 ^ 64 - 1) w → None ≡ number_in w
-  plus-none e = rw (unsigned w h, narrow-none (2 ^ 64 - 1) w (2 ^ 63 - 1) (sym e) (omega arith))
+-- the bytes of a word from its first one on
+pub from-the-first : (k : ℕ) (w : List ℕ) → k ≡ 0 → take (length w - k) (drop k w) ≡ w
+from-the-first k w e = rw e (take_all (length w - 0) w (omega arith))
 
-  pub plus-number : {E : Type 0} (v : ℕ) (r : Result ℤ E) → Some v ≡ size_in (2 ^ 64 - 1) w → OkIff r (SFits w64 (pos v)) (pos v) → result_ok r ≡ number_in w
-  plus-number v r e f = rw (unsigned w h) (plus-some w v (sym e) r f)
+module _ (w s : List ℕ) (h : pointwise eqb (take 1 w) (45 ∷ []) ≡ false) (d : s ≡ w) where
+  pub plus-none : None ≡ size_in (2 ^ 64 - 1) s → None ≡ number_in w
+  plus-none e = rw (unsigned w h, ← d, narrow-none (2 ^ 64 - 1) s (2 ^ 63 - 1) (sym e) (omega arith))
+
+  pub plus-number : {E : Type 0} (v : ℕ) (r : Result ℤ E) → Some v ≡ size_in (2 ^ 64 - 1) s → OkIff r (SFits w64 (pos v)) (pos v) → result_ok r ≡ number_in w
+  plus-number v r e f = rw (unsigned w h, ← d) (plus-some s v (sym e) r f)
 
 -- ---- a date
 module _ (w : List ℕ) where

@@ -1,5 +1,6 @@
+use native.Mathlib.Omega.{arith}
 use Rattle.std.proofs.Common.{◌∙◌}
-use Rattle.numerals.proofs.Reading.{minus-none, minus-number, plus-none, plus-number}
+use Rattle.numerals.proofs.Reading.{from-the-first, minus-none, minus-number, plus-none, plus-number}
 use Rattle.numerals.proofs.number_in.Goals as goal
 
 pub returns-in_err-size_in-in-Some : goal.returns-in_err-size_in-in-Some
@@ -9,7 +10,7 @@ returns-in_err-size_in-in-Some c =
 
 pub returns-in_err-size_in-in-None : goal.returns-in_err-size_in-in-None
 returns-in_err-size_in-in-None c =
-    c.from_residual-in_err-size_in-in-None.ensures ∙ plus-none _ c.in-None.ensures.cases c.in_err-size_in-in-None.ensures
+    c.from_residual-in_err-size_in-in-None.ensures ∙ plus-none _ _ c.in-None.ensures.cases (grind (arith, from-the-first)) c.in_err-size_in-in-None.ensures
 
 pub returns-in_ok-size_in-in-Some : goal.returns-in_ok-size_in-in-Some
 returns-in_ok-size_in-in-Some c =
@@ -18,4 +19,4 @@ returns-in_ok-size_in-in-Some c =
 
 pub returns-in_ok-size_in-in-None : goal.returns-in_ok-size_in-in-None
 returns-in_ok-size_in-in-None c =
-    c.ok.ensures.value ∙ plus-number _ c.in-None.ensures.cases _ _ c.in_ok-size_in-in-None.ensures c.try_from.ensures
+    c.ok.ensures.value ∙ plus-number _ _ c.in-None.ensures.cases (grind (arith, from-the-first)) _ _ c.in_ok-size_in-in-None.ensures c.try_from.ensures
